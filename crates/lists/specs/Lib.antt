@@ -1,1 +1,3 @@
-pub mod Bools
+pub mod Tests
+pub mod Tables
+pub mod Folds

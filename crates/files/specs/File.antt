@@ -1,0 +1,124 @@
+-- A survey file (document 01): kind 01 the unit count, a kind 02 for each link with its two ends, kind 0F the number of links.
+use mathlib.Core.Bool.{Bool, true, false, cond, not, _&&_, _||_}
+use mathlib.Core.List.{List, [], _∷_, _++_}
+use Prim.Native.Nat.{ℕ, _+_, _*_, _-_, _/_, _%_}
+use lib.Dec.{leb, ltb, eqb}
+use lib.ListN.{length, getD, drop}
+use Rattle.table.specs.Refusals.{firstOf}
+use Rattle.table.specs.Table.{linkCount, maxLinks, tableRefusal}
+use Rattle.frames.specs.Frame.{LF, wordBytes, wordOf, lineOf, allDigits, bytesOf, sumOf}
+
+-- ---- kinds
+
+abbrev pub UNITS : ℕ
+UNITS = 0x01
+
+abbrev pub LINK : ℕ
+LINK = 0x02
+
+abbrev pub END : ℕ
+END = 0x0F
+
+-- the bytes of a frame of a file kind, its kind and check byte included; 0: no kind of a file
+abbrev pub frameBytes : ℕ → ℕ
+frameBytes kind = cond (eqb kind UNITS) 4 (cond (eqb kind LINK) 6 (cond (eqb kind END) 4 0))
+
+-- ---- written
+
+unfoldable pub linkLines : List ℕ → List ℕ
+linkLines [] = []
+linkLines (a ∷ []) = []
+linkLines (a ∷ b ∷ t) = lineOf (LINK ∷ wordBytes a ++ wordBytes b) ++ linkLines t
+
+-- the file of a unit count and a table of links
+unfoldable pub fileOf : ℕ → List ℕ → List ℕ
+fileOf n t = lineOf (UNITS ∷ wordBytes n) ++ linkLines t ++ lineOf (END ∷ wordBytes (linkCount t))
+
+-- its number of characters
+abbrev pub fileLength : ℕ → ℕ
+fileLength m = 18 + 13 * m
+
+-- writing into a slice with this many places: 4 to 9, then 14
+unfoldable pub writeRefusal : ℕ → List ℕ → ℕ → ℕ
+writeRefusal n t places =
+    firstOf ((tableRefusal n t, not (eqb (tableRefusal n t) 0)) ∷ (14, ltb places (fileLength (linkCount t))) ∷ [])
+
+-- ---- read
+
+-- a line without its line feed, and whether it had one
+abbrev pub Line : Type 0
+Line = List ℕ × Bool
+
+-- one character more at the front of the first line; a last line that no line feed ends
+unfoldable pub prepend : ℕ → List Line → List Line
+prepend c [] = (c ∷ [], false) ∷ []
+prepend c (l ∷ ls) = (c ∷ (l .0), l .1) ∷ ls
+
+unfoldable pub linesOf : List ℕ → List Line
+linesOf [] = []
+linesOf (c ∷ s) = let later = linesOf s in cond (eqb c LF) (([], true) ∷ later) (prepend c later)
+
+-- a line's kind: its first byte
+abbrev pub kindOf : Line → ℕ
+kindOf l = getD (bytesOf (l .0)) 0 0
+
+-- the number in the bytes i and i + 1 of a line
+abbrev pub numberAt : Line → ℕ → ℕ
+numberAt l i = wordOf (getD (bytesOf (l .0)) i 0) (getD (bytesOf (l .0)) (i + 1) 0)
+
+-- a line is whole: it has its line feed, only digits, a kind of a file with that kind's length, and a sum of 0 (an empty line has no kind)
+unfoldable pub whole : Line → Bool
+whole l =
+    l .1
+    && allDigits (l .0)
+    && not (eqb (frameBytes (kindOf l)) 0)
+    && eqb (length (l .0)) (2 * frameBytes (kindOf l))
+    && eqb (sumOf (bytesOf (l .0)) % 256) 0
+
+-- 1: some line is not whole
+unfoldable pub faultyLine : List Line → Bool
+faultyLine [] = false
+faultyLine (l ∷ ls) = not (whole l) || faultyLine ls
+
+-- what follows the first frame: any number of 02, then one 0F, and nothing more
+unfoldable pub inOrderAfter : List Line → Bool
+inOrderAfter [] = false
+inOrderAfter (l ∷ []) = eqb (kindOf l) END
+inOrderAfter (l ∷ k ∷ ls) = eqb (kindOf l) LINK && inOrderAfter (k ∷ ls)
+
+-- one 01, any number of 02, one 0F
+unfoldable pub inOrder : List Line → Bool
+inOrder [] = false
+inOrder (l ∷ ls) = eqb (kindOf l) UNITS && inOrderAfter ls
+
+-- the number of 02 frames
+unfoldable pub linkFrames : List Line → ℕ
+linkFrames [] = 0
+linkFrames (l ∷ ls) = cond (eqb (kindOf l) LINK) 1 0 + linkFrames ls
+
+-- the count in the last frame
+unfoldable pub statedCount : List Line → ℕ
+statedCount [] = 0
+statedCount (l ∷ []) = numberAt l 1
+statedCount (l ∷ k ∷ ls) = statedCount (k ∷ ls)
+
+-- the unit count in the first frame
+unfoldable pub unitsIn : List Line → ℕ
+unitsIn [] = 0
+unitsIn (l ∷ ls) = numberAt l 1
+
+-- the ends in the 02 frames, in order
+unfoldable pub endsIn : List Line → List ℕ
+endsIn [] = []
+endsIn (l ∷ ls) = let later = endsIn ls in cond (eqb (kindOf l) LINK) (numberAt l 1 ∷ numberAt l 3 ∷ later) later
+
+-- reading lines into a slice with this many places: 1, 2, 3, 6, 14, each judged over the whole input
+unfoldable pub readRefusal : List Line → ℕ → ℕ
+readRefusal ls places =
+    firstOf
+    ((1, faultyLine ls)
+    ∷ (2, not (inOrder ls))
+    ∷ (3, not (eqb (statedCount ls) (linkFrames ls)))
+    ∷ (6, ltb maxLinks (linkFrames ls))
+    ∷ (14, ltb places (2 * linkFrames ls))
+    ∷ [])

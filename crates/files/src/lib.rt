@@ -1,0 +1,1 @@
+// Survey files: bytes to words and back.

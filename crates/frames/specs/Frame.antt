@@ -1,0 +1,61 @@
+-- A frame, one a line (document 01): upper-case hexadecimal digits, two a byte, then a line feed. The first byte is the kind; the last makes
+-- the sum of all bytes wrap to 0 in eight bits. Here a frame's body is its bytes without that check byte.
+use mathlib.Core.Bool.{Bool, true, false, cond, _&&_}
+use mathlib.Core.List.{List, [], _∷_, _++_}
+use Prim.Native.Nat.{ℕ, _+_, _*_, _-_, _/_, _%_}
+use lib.Dec.{leb, ltb, eqb}
+use lib.ListN.{length, getD}
+
+abbrev pub LF : ℕ
+LF = 10
+
+-- the two bytes of a number, high byte first
+abbrev pub wordBytes : ℕ → List ℕ
+wordBytes w = w / 256 % 256 ∷ w % 256 ∷ []
+
+-- the number of two bytes
+abbrev pub wordOf : ℕ → ℕ → ℕ
+wordOf high low = 256 * high + low
+
+-- ---- written
+
+-- the character of a digit below 16: '0' to '9', 'A' to 'F'
+abbrev pub digitOf : ℕ → ℕ
+digitOf d = cond (ltb d 10) (48 + d) (55 + d)
+
+-- the two characters of a byte
+abbrev pub hexOf : ℕ → List ℕ
+hexOf b = digitOf (b / 16) ∷ digitOf (b % 16) ∷ []
+
+unfoldable pub hexesOf : List ℕ → List ℕ
+hexesOf [] = []
+hexesOf (b ∷ f) = hexOf b ++ hexesOf f
+
+unfoldable pub sumOf : List ℕ → ℕ
+sumOf [] = 0
+sumOf (b ∷ f) = b + sumOf f
+
+-- the byte that makes the sum of all bytes wrap to 0
+unfoldable pub checkByte : List ℕ → ℕ
+checkByte f = (256 - sumOf f % 256) % 256
+
+-- the line of a frame with this body
+unfoldable pub lineOf : List ℕ → List ℕ
+lineOf f = hexesOf f ++ hexOf (checkByte f) ++ LF ∷ []
+
+-- ---- read
+
+-- what a character stands for as an upper-case hexadecimal digit; 16: it is none
+abbrev pub digitValue : ℕ → ℕ
+digitValue c = cond (leb 48 c && leb c 57) (c - 48) (cond (leb 65 c && leb c 70) (c - 55) 16)
+
+-- every character is an upper-case hexadecimal digit
+unfoldable pub allDigits : List ℕ → Bool
+allDigits [] = true
+allDigits (c ∷ s) = ltb (digitValue c) 16 && allDigits s
+
+-- the bytes that pairs of digits stand for
+unfoldable pub bytesOf : List ℕ → List ℕ
+bytesOf [] = []
+bytesOf (c ∷ []) = []
+bytesOf (c ∷ d ∷ s) = (16 * digitValue c + digitValue d) ∷ bytesOf s

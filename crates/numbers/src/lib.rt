@@ -1,0 +1,1 @@
+// lg, the number of doublings that reach a number.
