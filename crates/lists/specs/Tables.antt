@@ -32,3 +32,9 @@ module _ {ℓ} {A : Type ℓ} where
 module _ {ℓ} {A : Type ℓ} where
   abbrev pub over : ℕ → (ℕ → A) → List A → List A
   over n f old = tab n f ++ drop n old
+
+-- f 0 ++ f 1 ++ .. ++ f (n − 1)
+module _ {ℓ} {A : Type ℓ} where
+  abbrev pub gathered : ℕ → (ℕ → List A) → List A
+  gathered zero f = []
+  gathered (suc n) f = gathered n f ++ f n
