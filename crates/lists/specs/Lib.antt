@@ -1,3 +1,5 @@
 pub mod Tests
 pub mod Tables
 pub mod Folds
+pub mod Rests
+pub mod Bools
