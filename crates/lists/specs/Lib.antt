@@ -1,4 +1,6 @@
 pub mod Tests
+pub mod Bools
 pub mod Tables
 pub mod Folds
+pub mod Rests
 pub mod Text

@@ -1,1 +1,2 @@
 pub mod Lg
+pub mod LgLaws

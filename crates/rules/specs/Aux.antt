@@ -3,7 +3,7 @@ use mathlib.Core.Bool.{Bool, not, _&&_, _||_, cond}
 use mathlib.Core.List.{List}
 use Prim.Native.Nat.{ℕ, _+_}
 use lib.Dec.{eqb, ltb, leb}
-use Rattle.lists.specs.Tables.{tab, over}
+use Rattle.lists.specs.Tables.{over}
 use Rattle.lists.specs.Folds.{least, agree}
 use Rattle.table.specs.Table.{endA, endB}
 use Rattle.rules.specs.Basics.{ABSENT, at, isRoot, offTree, heard}
@@ -43,7 +43,7 @@ leastJoined n m ends parent linkJoins parentJoins value v =
 
 -- what the tree links say: in the first round each its own name, later its present class
 abbrev pub auxSaid : ℕ → ℕ → List ℕ → List ℕ
-auxSaid n made color = cond (eqb made 0) (tab n (λ (v : ℕ). v)) color
+auxSaid n made color = cond (eqb made 0) (over n (λ (v : ℕ). v) color) color
 
 unfoldable pub auxRound : ℕ → ℕ → ℕ → List ℕ → List ℕ → List ℕ → List ℕ → List ℕ → List ℕ
 auxRound n m made ends parent linkJoins parentJoins color =

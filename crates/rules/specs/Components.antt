@@ -3,7 +3,7 @@ use mathlib.Core.Bool.{Bool, not, _&&_, cond}
 use mathlib.Core.List.{List}
 use Prim.Native.Nat.{ℕ}
 use lib.Dec.{eqb}
-use Rattle.lists.specs.Tables.{tab, over}
+use Rattle.lists.specs.Tables.{over}
 use Rattle.lists.specs.Folds.{least, agree}
 use Rattle.table.specs.Table.{endA, endB}
 use Rattle.rules.specs.Basics.{at, heard}
@@ -14,7 +14,7 @@ leastHeard m ends value v = least m (λ (j : ℕ). heard value (endA ends j) (en
 
 -- what the units say: in the first round each its own number, later its present value
 abbrev pub colorSaid : ℕ → ℕ → List ℕ → List ℕ
-colorSaid n made color = cond (eqb made 0) (tab n (λ (v : ℕ). v)) color
+colorSaid n made color = cond (eqb made 0) (over n (λ (v : ℕ). v) color) color
 
 unfoldable pub colorRound : ℕ → ℕ → ℕ → List ℕ → List ℕ → List ℕ
 colorRound n m made ends color = over n (leastHeard m ends (colorSaid n made color)) color

@@ -1,3 +1,7 @@
 pub mod Refusals
 pub mod RefusalLaws
 pub mod Table
+pub mod TableLaws
+pub mod TableCauses
+pub mod Marks
+pub mod MarkLaws

@@ -1,0 +1,101 @@
+-- The search from `i` on, with the marks of the links passed, is the search of the whole table.
+use mathlib.Core.Path.{_≡_, refl, sym, _∙_}
+use Prim.Native.Nat.{_≤_, _-_}
+use lib.ListN.{length, drop}
+use borrow.Author.Needs.{needs}
+use Rattle.table.specs.Marks.{foundFrom}
+use Rattle.table.specs.MarkLaws.{found-here, found-later, found-end}
+use Rattle.table.proofs.marks.found.Statement.{statement}
+use Rattle.table.proofs.marks.found.Tie as tie
+
+abbrev Inv-loop : tie.InvT-loop
+Inv-loop table marks₀ i₀ marks i =
+    (i ≤ length table) × (length marks ≡ length marks₀) × (foundFrom marks₀ table ≡ foundFrom marks (drop i table))
+
+abbrev μ-loop : tie.MeasureT-loop
+μ-loop table marks₀ i₀ marks i = length table - i
+
+loop-holds : tie.Need-loop-holds Inv-loop μ-loop
+loop-holds c = (search needs, refl, refl)
+
+add-loop : tie.Need-add-loop Inv-loop μ-loop
+add-loop c = search needs
+
+mul-a : tie.Need-mul-a Inv-loop μ-loop
+mul-a c = search needs
+
+shared-slice-read-a : tie.Need-shared-slice-read-a Inv-loop μ-loop
+shared-slice-read-a c = search needs
+
+add-b : tie.Need-add-b Inv-loop μ-loop
+add-b c = search needs
+
+mul-b : tie.Need-mul-b Inv-loop μ-loop
+mul-b c = search needs
+
+shared-slice-read-b : tie.Need-shared-slice-read-b Inv-loop μ-loop
+shared-slice-read-b c = search needs
+
+is-marked-requires : tie.Need-is-marked-requires Inv-loop μ-loop
+is-marked-requires c κs = search needs
+
+same-length : tie.Need-same-length Inv-loop μ-loop
+same-length c = search needs
+
+returns : tie.Need-returns Inv-loop μ-loop
+returns c =
+    let s = c .before .before .before .before .before .before in
+    sym
+    (s .loop .inv .2
+    ∙ found-here (s .loop .marks) (s .before .before .before .args .table .now) (s .loop .i) (search needs) (sym (c .before .is-marked .ensures) ∙ c .if1 .taken))
+
+set-mark-requires : tie.Need-set-mark-requires Inv-loop μ-loop
+set-mark-requires c κs = search needs
+
+add-i : tie.Need-add-i Inv-loop μ-loop
+add-i c = search needs
+
+loop-less : tie.Need-loop-less Inv-loop μ-loop
+loop-less c = search needs
+
+loop-again : tie.Need-loop-again Inv-loop μ-loop
+loop-again c =
+    let s = c .before .before .before .before .before .before .before .before .before .before in
+    let i = c .before .before .before .before in (
+      search needs,
+      search needs,
+      rw (c .before .before .set-mark .ensures)
+          (s .loop .inv .2
+          ∙ found-later (s .loop .marks) (s .before .before .before .args .table .now) (s .loop .i) (search needs) (sym (i .before .is-marked .ensures) ∙ i .if1 .left)),
+    )
+
+same-length-2 : tie.Need-same-length-2 Inv-loop μ-loop
+same-length-2 c = search needs
+
+returns-2 : tie.Need-returns-2 Inv-loop μ-loop
+returns-2 c =
+    let s = c .before in
+    sym (s .loop .inv .2 ∙ found-end (s .loop .marks) (s .before .before .before .args .table .now) (s .loop .i) (c .loop-test .left))
+
+pub found-spec : {M : Type 1} → statement M
+found-spec =
+    tie.close
+    (tie.spec
+    Inv-loop
+    μ-loop
+    loop-holds
+    add-loop
+    mul-a
+    shared-slice-read-a
+    add-b
+    mul-b
+    shared-slice-read-b
+    is-marked-requires
+    same-length
+    returns
+    set-mark-requires
+    add-i
+    loop-less
+    loop-again
+    same-length-2
+    returns-2)

@@ -1,0 +1,18 @@
+-- The marks start blank.
+use mathlib.Core.Path.{refl, _∙_}
+use borrow.Author.Needs.{needs}
+use Rattle.table.specs.MarkLaws.{found-blank}
+use Rattle.table.proofs.repeated.Statement.{statement}
+use Rattle.table.proofs.repeated.Tie as tie
+
+slice-aggregate-found : tie.Need-slice-aggregate-found
+slice-aggregate-found c = search needs
+
+found-requires : tie.Need-found-requires
+found-requires c κs = search needs
+
+returns : tie.Need-returns
+returns c h = c .before .found .ensures ∙ found-blank 65536 refl (c .before .before .before .before .args .table .now) h
+
+pub repeated-spec : {M : Type 1} → statement M
+repeated-spec = tie.close (tie.spec slice-aggregate-found found-requires returns)
