@@ -1,5 +1,8 @@
 pub mod Basics
+pub mod Bounds
+pub mod BoundLaws
 pub mod Ceilings
+pub mod CeilingLaws
 pub mod Components
 pub mod Tree
 pub mod Tour
@@ -8,3 +11,4 @@ pub mod Order
 pub mod Range
 pub mod Aux
 pub mod Labels
+pub mod RoundBounds
