@@ -1,3 +1,4 @@
 pub mod Rings
 pub mod Walks
 pub mod Routes
+pub mod Propagation

@@ -2,8 +2,10 @@
 use mathlib.Core.Path.{_≡_, refl, sym, ap, subst, _∙_}
 use mathlib.Core.Logic.{_⊎_, inl, inr, _≢_}
 use mathlib.Core.List.{List, [], _∷_, _++_}
-use Prim.Native.Nat.{ℕ}
-use Rattle.lists.specs.Members.{Mem, Distinct, mem-split, mem-swap, mem-cases, mem-right, mem-left, distinct-swap}
+use Prim.Native.Nat.{ℕ, suc, _≤_, _<_}
+use native.Mathlib.Omega.{arith}
+use lib.ListN.{length, length-append}
+use Rattle.lists.specs.Members.{Mem, mem?, Distinct, mem-split, mem-swap, mem-cases, mem-right, mem-left, distinct-swap, distinct-right}
 use Rattle.graph.specs.Rings.{last, Walk, Step, lastOf, Ring, Route, Avoids, Connected}
 use Rattle.graph.specs.Walks.{last-append, walk-join, walk-left, walk-right, walk-map, walk-step, ring-closed, lastOf-split}
 
@@ -33,6 +35,37 @@ module _ (E : ℕ → ℕ → Type 0) where
       go : (x : ℕ) (l : List ℕ) → Walk E x l → last x l ≡ b → Connected E b x
       go x [] w e = ([], (tt, sym e))
       go x (y ∷ l) w e = connected-trans b y x (go y l (w .1) e) (connected-link y x (flip x y (w .0)))
+
+  -- a walk made simple: one with the same ends, not longer, that meets no vertex twice
+  pub simple : (a : ℕ) (l : List ℕ) → Walk E a l
+      → (k : List ℕ) × Walk E a k × (last a k ≡ last a l) × (length k ≤ length l) × Distinct (a ∷ k)
+  simple a [] w = ([], tt, refl, omega arith, (λ m. m, tt))
+  simple a (b ∷ l) w = go (simple b l (w .1))
+    where
+      Simple : ℕ → List ℕ → Type 0
+      Simple x l = (k : List ℕ) × Walk E x k × (last x k ≡ last x l) × (length k ≤ length l) × Distinct (x ∷ k)
+
+      cut : (r : Simple b l) → Dec (Mem a (b ∷ r .0)) → Simple a (b ∷ l)
+      cut r (no m) = let h : length (r .0) ≤ length l = r .3 in (b ∷ r .0, (w .0, r .1), r .2, omega arith, (m, r .4))
+      cut r (yes m) =
+          let c = mem-split a (b ∷ r .0) m in
+          let s = c .0 in
+          let t = c .1 in
+          let e : b ∷ r .0 ≡ s ++ a ∷ t = c .2 in
+          let v : Walk E a (b ∷ r .0) = (w .0, r .1) in
+          let d : Distinct (s ++ a ∷ t) = subst (λ (q : List ℕ). Distinct q) e (r .4) in
+          let f : last b (r .0) ≡ last (last a s) (a ∷ t) = ap (λ (q : List ℕ). last a q) e ∙ last-append a s (a ∷ t) in
+          let n : suc (length (r .0)) ≡ length (s ++ a ∷ t) = ap (λ (q : List ℕ). length q) e in
+          let h : length (r .0) ≤ length l = r .3 in (
+            t,
+            walk-right E a s (a ∷ t) (subst (λ (q : List ℕ). Walk E a q) e v) .1,
+            sym f ∙ r .2,
+            omega (arith, length-append s (a ∷ t)),
+            distinct-right s (a ∷ t) d,
+          )
+
+      go : Simple b l → Simple a (b ∷ l)
+      go r = cut r (mem? a (b ∷ r .0))
 
 module _ (E : ℕ → ℕ → Type 0) where
   -- a route that avoids u is a route of the graph without the links at u, and back

@@ -99,17 +99,3 @@ distinct-reverse (x ∷ l) d = rw reverse-cons (distinct-join (reverse l) (x ∷
     apart : Disjoint (reverse l) (x ∷ [])
     apart y m (inl e) = d .0 (subst (λ (z : ℕ). Mem z l) e (mem-reverse y l m))
     apart y m (inr h) = h
-
--- a list without repeats, or one that shows a repeat
-pub repeat? : (l : List ℕ)
-    → Distinct l ⊎ ((s : List ℕ) × (x : ℕ) × (t : List ℕ) × (w : List ℕ) × (l ≡ s ++ x ∷ (t ++ x ∷ w)))
-repeat? [] = inl tt
-repeat? (y ∷ l) = go (mem? y l) (repeat? l)
-  where
-    Repeat : List ℕ → Type 0
-    Repeat k = (s : List ℕ) × (x : ℕ) × (t : List ℕ) × (w : List ℕ) × (k ≡ s ++ x ∷ (t ++ x ∷ w))
-
-    go : Dec (Mem y l) → Distinct l ⊎ Repeat l → Distinct (y ∷ l) ⊎ Repeat (y ∷ l)
-    go (yes m) r = let k = mem-split y l m in inr ([], y, k .0, k .1, ap (λ (z : List ℕ). y ∷ z) (k .2))
-    go (no m) (inl d) = inl (m, d)
-    go (no m) (inr r) = inr (y ∷ r .0, r .1, r .2, r .3, ap (λ (z : List ℕ). y ∷ z) (r .4))
