@@ -1,3 +1,4 @@
 pub mod Bools
 pub mod Members
 pub mod Pigeonhole
+pub mod Parts
