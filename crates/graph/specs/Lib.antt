@@ -4,3 +4,7 @@ pub mod Routes
 pub mod Propagation
 pub mod Turn
 pub mod Splice
+pub mod Together
+pub mod Forest
+pub mod Ancestors
+pub mod TreePath
