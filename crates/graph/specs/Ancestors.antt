@@ -65,6 +65,10 @@ module _ (E : ℕ → ℕ → Type 0) (p d root : ℕ → ℕ) (F : Forest E p d
   pub root-up : (v : ℕ) → 0 < d v → root (p v) ≡ root v
   root-up v h = sym (F .spans v (p v) (F .link v h))
 
+  pub root-along : {w x : ℕ} → Anc p d w x → root w ≡ root x
+  root-along (self e) = ap root e
+  root-along {w} {x} (up h a) = root-along a ∙ root-up x h
+
   pub root-anc : (x : ℕ) → Anc p d (root x) x × (d (root x) ≡ 0)
   root-anc x = go (d x) x refl
     where

@@ -8,3 +8,6 @@ pub mod Together
 pub mod Forest
 pub mod Ancestors
 pub mod TreePath
+pub mod Sides
+pub mod Blocks
+pub mod Cuts
