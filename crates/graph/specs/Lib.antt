@@ -11,3 +11,4 @@ pub mod TreePath
 pub mod Sides
 pub mod Blocks
 pub mod Cuts
+pub mod Triangle
