@@ -34,7 +34,7 @@ other-link E (a ∷ (b ∷ (e ∷ l))) R = (a, b, inl (inr (refl, refl)), inl (i
 
 module _ (E : ℕ → ℕ → Type 0) (p d root : ℕ → ℕ) (G : Graph E) (F : Forest E p d root) where
   -- an end of a link that is no ancestor of the other end is no root
-  not-top : (u v : ℕ) → E u v → (Anc p d u v → ⊥) → 0 < d u
+  pub not-top : (u v : ℕ) → E u v → (Anc p d u v → ⊥) → 0 < d u
   not-top u v l n = go (d u) refl
     where
       go : (i : ℕ) → d u ≡ i → 0 < d u
@@ -110,7 +110,7 @@ module _ (E : ℕ → ℕ → Type 0) (p d root cl : ℕ → ℕ) (G : Graph E) 
       )
 
   -- links of one class are one link, or lie on one ring
-  class-together : (u v x y : ℕ) {c c′ : ℕ} → ClassOf E p d cl u v c → ClassOf E p d cl x y c′ → c ≡ c′ → Together E u v x y
+  pub class-together : (u v x y : ℕ) {c c′ : ℕ} → ClassOf E p d cl u v c → ClassOf E p d cl x y c′ → c ≡ c′ → Together E u v x y
   class-together u v x y h k e =
       let (s, hs, es, ts) = class-tree u v h in
       let (t, ht, et, tq) = class-tree x y k in

@@ -11,4 +11,5 @@ pub mod TreePath
 pub mod Sides
 pub mod Blocks
 pub mod Cuts
+pub mod Touches
 pub mod Triangle

@@ -14,7 +14,7 @@ use Rattle.graph.specs.Forest.{Graph, Forest, Anc, self, up, TreeLink, O
 use Rattle.graph.specs.Ancestors.{anc-to, anc-of, anc-trans, anc-depth, anc-level, anc-proper, anc-order, anc?, anc-child, root-along, top-anc, tree?, tree-anc, leaves-off}
 
 -- c is the class of x seen from b
-data Side (p d cl : ℕ → ℕ) (b x : ℕ) : ℕ → Type 0 where
+pub data Side (p d cl : ℕ → ℕ) (b x : ℕ) : ℕ → Type 0 where
   below : (t : ℕ) → 0 < d t → p t ≡ b → Anc p d t x → Side p d cl b x (cl t)
   beside : (Anc p d b x → ⊥) → Side p d cl b x (cl b)
 
@@ -40,7 +40,7 @@ module _ (E : ℕ → ℕ → Type 0) (p d root cl : ℕ → ℕ) (G : Graph E) 
       aux u (p u) (along k refl (omega (arith, anc-depth E p d root F a)) x y o b (λ c. n (anc-trans p d a c)))
       ∙ climb t x y h o n a (anc-trans p d (up k (self refl)) b)
 
-  side : (b x : ℕ) → b ≢ x → (c : ℕ) × Side p d cl b x c
+  pub side : (b x : ℕ) → b ≢ x → (c : ℕ) × Side p d cl b x c
   side b x n = go (anc? E p d root F b x)
     where
       go : Dec (Anc p d b x) → (c : ℕ) × Side p d cl b x c
@@ -100,7 +100,7 @@ module _ (E : ℕ → ℕ → Type 0) (p d root cl : ℕ → ℕ) (G : Graph E) 
       go (no g) = absurd (siblings b t s h k e f g a c)
 
   -- the class does not change along a route that avoids b ..
-  side-route : (b x y : ℕ) → Connected (Without b E) x y → {c c′ : ℕ} → Side p d cl b x c → Side p d cl b y c′ → c ≡ c′
+  pub side-route : (b x y : ℕ) → Connected (Without b E) x y → {c c′ : ℕ} → Side p d cl b x c → Side p d cl b y c′ → c ≡ c′
   side-route b x y (l, w) = go x l (w .0) (w .1)
     where
       go : (v : ℕ) (k : List ℕ) → Walk (Without b E) v k → last v k ≡ y → {c c′ : ℕ} → Side p d cl b v c → Side p d cl b y c′ → c ≡ c′
@@ -110,7 +110,7 @@ module _ (E : ℕ → ℕ → Type 0) (p d root cl : ℕ → ℕ) (G : Graph E) 
           side-link b v z (w .0 .0) s (r .1) ∙ go z k (w .1) e (r .1) t
 
   -- .. and of a vertex next to b it is the class of the link between the two
-  side-own : (b x : ℕ) {c c′ : ℕ} → ClassOf E p d cl b x c → Side p d cl b x c′ → c ≡ c′
+  pub side-own : (b x : ℕ) {c c′ : ℕ} → ClassOf E p d cl b x c → Side p d cl b x c′ → c ≡ c′
   side-own b x (lower h e f) (beside n) = f
   side-own b x (lower h e f) (below t k g a) =
       absurd (omega (arith, anc-depth E p d root F a, F .deeper t k, ap d g, F .deeper b h, ap d e))

@@ -75,6 +75,35 @@ picks-le p (suc n) = go (p n) (picks-le p n)
     go true h = omega arith
     go false h = omega arith
 
+-- tests that agree below n pick as many; tests that agree but at one number, one more
+pub picks-same : (p q : ℕ → Bool) (n : ℕ) → ((i : ℕ) → i < n → p i ≡ q i) → picks p n ≡ picks q n
+picks-same p q zero h = refl
+picks-same p q (suc n) h =
+    let e = picks-same p q n (λ i k. h i (omega arith)) in
+    let b : p n ≡ q n = h n (omega arith) in
+    rw (b, e) refl
+
+pub picks-more : (p q : ℕ → Bool) (n m : ℕ) → m < n → p m ≡ true → q m ≡ false → ((i : ℕ) → i < n → i ≢ m → p i ≡ q i)
+    → picks p n ≡ suc (picks q n)
+picks-more p q zero m l a b h = absurd (omega arith)
+picks-more p q (suc n) m l a b h = go (ℕ-discrete n m) (picks-more p q n m)
+  where
+    go : Dec (n ≡ m) → (m < n → p m ≡ true → q m ≡ false → ((i : ℕ) → i < n → i ≢ m → p i ≡ q i) → picks p n ≡ suc (picks q n))
+        → picks p (suc n) ≡ suc (picks q (suc n))
+    go (yes e) f =
+        let s : picks p n ≡ picks q n = picks-same p q n (λ i k. h i (omega arith) (omega arith)) in
+        let a′ : p n ≡ true = rw e a in
+        let b′ : q n ≡ false = rw e b in
+        rw (a′, b′, s) refl
+    go (no e) f =
+        let s : picks p n ≡ suc (picks q n) = f (omega arith) a b (λ i k. h i (omega arith)) in
+        let c : p n ≡ q n = h n (omega arith) e in
+        both (q n) c s
+      where
+        both : (t : Bool) → p n ≡ t → picks p n ≡ suc (picks q n) → cond (p n) (suc (picks p n)) (picks p n) ≡ suc (cond t (suc (picks q n)) (picks q n))
+        both true c s = rw (c, s) refl
+        both false c s = rw (c, s) refl
+
 -- f (n − 1), .., f 0
 images : (ℕ → ℕ) → ℕ → List ℕ
 images f zero = []
