@@ -31,6 +31,12 @@ module _ (E : ℕ → ℕ → Type 0) (p d root : ℕ → ℕ) (F : Forest E p d
   anc-proper (self e) n = absurd (n e)
   anc-proper (up h a) n = (h, a)
 
+  -- an ancestor at most one level up is the vertex itself or its parent
+  pub anc-near : {w x : ℕ} → Anc p d w x → w ≢ x → d x ≤ suc (d w) → (0 < d x) × (p x ≡ w)
+  anc-near {w} {x} a n k =
+      let (h, b) = anc-proper a n in
+      (h, sym (anc-level b (omega (arith, F .deeper x h))))
+
   -- of two ancestors of one vertex the less deep is an ancestor of the other
   pub anc-order : {u w x : ℕ} → Anc p d u x → Anc p d w x → d u ≤ d w → Anc p d u w
   anc-order {u} {w} {x} (self e) b k = self (sym (anc-level (anc-to p d w (sym e) b) k))

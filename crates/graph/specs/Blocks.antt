@@ -1,17 +1,16 @@
 -- The pure theorem: links have one class exactly where they are one link or lie on a common ring, and a link is alone in its
 -- class exactly where no ring holds it.
-use mathlib.Core.Path.{_≡_, refl, sym, ap, subst, _∙_}
-use mathlib.Core.Logic.{_⊎_, inl, inr, _≢_, _↔_}
+use mathlib.Core.Path.{_≡_, refl, sym, subst, _∙_}
+use mathlib.Core.Logic.{_⊎_, inl, inr, _↔_}
 use mathlib.Core.List.{List, [], _∷_}
-use Prim.Native.Nat.{ℕ, zero, suc, _≤_, _<_}
+use Prim.Native.Nat.{ℕ, zero, suc, _<_}
 use native.Mathlib.Omega.{arith}
-use lib.ListN.{length}
 use Rattle.lists.specs.Members.{Mem}
 use Rattle.graph.specs.Rings.{last, lastOf, firstOf, Ring, Holds, OnRing, SameLink}
 use Rattle.graph.specs.Walks.{last-mem}
 use Rattle.graph.specs.Turn.{turn, turn-ring, turn-link}
-use Rattle.graph.specs.Forest.{Graph, Forest, Anc, self, up, OffTree, Aux, across, along, Joined, stay, on, back, Classes, ClassOf, lower, upper, first, second}
-use Rattle.graph.specs.Ancestors.{anc-to, anc-trans, top-anc}
+use Rattle.graph.specs.Forest.{Graph, Forest, Anc, self, up, Aux, across, along, Joined, stay, on, back, Classes, ClassOf, lower, upper, first, second}
+use Rattle.graph.specs.Ancestors.{anc-trans, top-anc}
 use Rattle.graph.specs.TreePath.{fundamental, fundamental-ring, fundamental-link, fundamental-tree}
 use Rattle.graph.specs.Together.{Together, together-trans, together-flip, same-flip, same-trans, holds-same, ring-link}
 use Rattle.graph.specs.Sides.{class-link, class-same, class-exists, ring-class}

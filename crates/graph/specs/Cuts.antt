@@ -1,13 +1,14 @@
 -- Links of two classes meet at a vertex exactly where it is an articulation point (document 01's single point).
-use mathlib.Core.Path.{_≡_, refl, sym, ap, subst, _∙_}
+use mathlib.Core.Path.{_≡_, refl, sym, subst, _∙_}
 use mathlib.Core.Logic.{_⊎_, inl, inr, _≢_, _↔_}
 use mathlib.Core.List.{List, [], _∷_}
 use Prim.Native.Nat.{ℕ}
 use native.Mathlib.Decide.{ℕ-discrete}
-use Rattle.graph.specs.Rings.{last, Walk, Ring, Holds, OnRing, SameLink, Route, Avoids, Connected, Articulation}
+use Rattle.graph.specs.Rings.{last, Walk, OnRing, SameLink, Connected, Articulation}
 use Rattle.graph.specs.Walks.{holds-first, holds-second}
 use Rattle.graph.specs.Routes.{Without, connected-refl, connected-link, connected-trans, avoiding, avoided, ring-around}
 use Rattle.graph.specs.Forest.{Graph, Forest, Classes, ClassOf}
+use Rattle.graph.specs.Together.{ends-apart}
 use Rattle.graph.specs.Sides.{class-link, class-same, class-exists, class-at}
 use Rattle.graph.specs.Blocks.{blocks}
 
@@ -58,9 +59,6 @@ module _ (E : ℕ → ℕ → Type 0) (u : ℕ) (flip : (v w : ℕ) → E v w �
       go (no t) f = step t (f t ny)
 
 module _ (E : ℕ → ℕ → Type 0) (p d root cl : ℕ → ℕ) (G : Graph E) (F : Forest E p d root) (C : Classes E p d cl) (u : ℕ) where
-  apart : (v : ℕ) → E u v → u ≢ v
-  apart v l e = G .loopless v (subst (λ (z : ℕ). E z v) e l)
-
   meet-cut : Meet E p d cl u → Articulation E u
   meet-cut M =
       let la = class-link E p d root cl G F u (M .a) (M .first) in
@@ -69,8 +67,8 @@ module _ (E : ℕ → ℕ → Type 0) (p d root cl : ℕ → ℕ) (G : Graph E) 
         x = M .a;
         y = M .b;
         apart = λ e. M .differ (class-same E p d root cl G F (C .along-aux) u (M .a) u (M .b) la (inl (refl, e)) (M .first) (M .second));
-        other-x = λ e. apart (M .a) la (sym e);
-        other-y = λ e. apart (M .b) lb (sym e);
+        other-x = λ e. ends-apart E G u (M .a) la (sym e);
+        other-y = λ e. ends-apart E G u (M .b) lb (sym e);
         connected = (u ∷ (M .b ∷ []), ((G .flip u (M .a) la, (lb, tt)), refl));
         cut = λ l r h. M .differ (class-at E p d root cl G F (C .along-aux) u (M .a) (M .b) la lb (l, avoiding E u (M .a) l (M .b) r h) (M .first) (M .second));
       }
@@ -94,8 +92,8 @@ module _ (E : ℕ → ℕ → Type 0) (p d root cl : ℕ → ℕ) (G : Graph E) 
 
           round : SameLink u a u b ⊎ OnRing E u a u b → ⊥
           round (inl (inl e)) = join ([], (tt, e .1))
-          round (inl (inr e)) = apart b lb (e .0)
-          round (inr (r, R, h, k)) = join (ring-around E (G .flip) r R u a b (holds-first r u a h) (holds-second r u a h) (holds-second r u b k) (apart a la) (apart b lb))
+          round (inl (inr e)) = ends-apart E G u b lb (e .0)
+          round (inr (r, R, h, k)) = join (ring-around E (G .flip) r R u a b (holds-first r u a h) (holds-second r u a h) (holds-second r u b k) (ends-apart E G u a la) (ends-apart E G u b lb))
 
   pub articulation : Meet E p d cl u ↔ Articulation E u
   articulation = (meet-cut, cut-meet)

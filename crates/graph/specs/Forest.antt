@@ -1,7 +1,7 @@
 -- A spanning forest, any one; its auxiliary graph; and the classes of links that the auxiliary graph makes.
 use mathlib.Core.Path.{_≡_}
 use mathlib.Core.Logic.{_⊎_}
-use Prim.Native.Nat.{ℕ, zero, suc, _<_}
+use Prim.Native.Nat.{ℕ, suc, _<_}
 
 -- Links join different vertices, both ways.
 pub record Graph (E : ℕ → ℕ → Type 0) : Type 0 where

@@ -11,5 +11,6 @@ pub mod TreePath
 pub mod Sides
 pub mod Blocks
 pub mod Cuts
+pub mod Joins
 pub mod Touches
 pub mod Triangle

@@ -1,14 +1,14 @@
 -- Least values spread by rounds over any relation on picked nodes (stages 1 and 9 of document 01, and the bound of stage 2).
 -- R v w: v reads w. Nothing here asks that w reads v too, up to the last section.
-use mathlib.Core.Path.{_≡_, refl, sym, ap, subst, _∙_}
+use mathlib.Core.Path.{_≡_, refl, sym, _∙_}
 use mathlib.Core.Logic.{_⊎_, inl, inr, _≢_, _↔_}
 use mathlib.Core.Bool.{Bool}
 use mathlib.Core.List.{List, [], _∷_}
-use Prim.Native.Nat.{ℕ, zero, suc, _+_, _≤_, _<_, max}
+use Prim.Native.Nat.{ℕ, zero, suc, _≤_, _<_, max}
 use native.Mathlib.Decide.{ℕ-discrete, decLe}
 use native.Mathlib.Omega.{arith}
 use lib.ListN.{length}
-use Rattle.lists.specs.Members.{Mem, Distinct}
+use Rattle.lists.specs.Members.{Mem}
 use Rattle.lists.specs.Pigeonhole.{picks, Picked, pigeonhole}
 use Rattle.graph.specs.Rings.{last, Walk, Route, Connected}
 use Rattle.graph.specs.Walks.{last-mem, walk-map}

@@ -4,7 +4,7 @@ use mathlib.Core.Logic.{_⊎_, _≢_}
 use mathlib.Core.List.{List, [], _∷_}
 use Prim.Native.Nat.{ℕ, zero, _≤_}
 use lib.ListN.{length}
-use Rattle.lists.specs.Members.{Mem, Distinct}
+use Rattle.lists.specs.Members.{Distinct}
 
 -- the last vertex of the chain that starts at a and goes through the list
 abbrev pub last : ℕ → List ℕ → ℕ

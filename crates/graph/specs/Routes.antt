@@ -1,12 +1,12 @@
 -- Connected vertices: an equivalence; and the routes that avoid a vertex as routes of a smaller graph.
 use mathlib.Core.Path.{_≡_, refl, sym, ap, subst, _∙_}
-use mathlib.Core.Logic.{_⊎_, inl, inr, _≢_}
+use mathlib.Core.Logic.{_⊎_, inl, inr, _≢_, _↔_}
 use mathlib.Core.List.{List, [], _∷_, _++_}
-use Prim.Native.Nat.{ℕ, suc, _≤_, _<_}
+use Prim.Native.Nat.{ℕ, suc, _≤_}
 use native.Mathlib.Omega.{arith}
 use lib.ListN.{length, length-append}
-use Rattle.lists.specs.Members.{Mem, mem?, Distinct, mem-split, mem-swap, mem-cases, mem-right, mem-left, distinct-swap, distinct-right}
-use Rattle.graph.specs.Rings.{last, Walk, Step, lastOf, Ring, Route, Avoids, Connected}
+use Rattle.lists.specs.Members.{Mem, mem?, Distinct, mem-split, mem-cases, mem-right, mem-left, distinct-swap, distinct-right}
+use Rattle.graph.specs.Rings.{last, Walk, lastOf, Ring, Route, Avoids, Connected}
 use Rattle.graph.specs.Walks.{last-append, walk-join, walk-left, walk-right, walk-map, walk-step, ring-closed, lastOf-split}
 
 -- the links that do not end at u
@@ -77,6 +77,9 @@ module _ (E : ℕ → ℕ → Type 0) where
     (walk-map (Without u E) E a l (λ x y s e. e .0) (r .0), r .1),
     λ x y s. let h = walk-step (Without u E) a l (r .0) x y s in (h .1, h .2),
   )
+
+  pub avoids-as-without : (u a : ℕ) (l : List ℕ) (b : ℕ) → (Route E a l b × Avoids u a l) ↔ Route (Without u E) a l b
+  avoids-as-without u a l b = (λ h. avoiding u a l b (h .0) (h .1), avoided u a l b)
 
   -- a walk that meets no u connects its start with each of its vertices, without the links at u
   pub connected-along : (u a : ℕ) (l : List ℕ) → Walk E a l → (Mem u (a ∷ l) → ⊥) → (z : ℕ) → Mem z (a ∷ l) → Connected (Without u E) a z

@@ -2,16 +2,16 @@
 -- that it is below, or of b itself where it is not below b. Along a route that avoids b this class does not change.
 use mathlib.Core.Path.{_≡_, refl, sym, ap, subst, subst₂, _∙_}
 use mathlib.Core.Logic.{_⊎_, inl, inr, _≢_}
-use mathlib.Core.List.{List, [], _∷_, _++_}
-use Prim.Native.Nat.{ℕ, zero, suc, _+_, _≤_, _<_}
-use native.Mathlib.Decide.{ℕ-discrete, decLt}
+use mathlib.Core.List.{List, [], _∷_}
+use Prim.Native.Nat.{ℕ, zero, suc, _≤_, _<_}
+use native.Mathlib.Decide.{ℕ-discrete}
 use native.Mathlib.Omega.{arith}
-use Rattle.lists.specs.Members.{Mem}
 use Rattle.graph.specs.Rings.{last, Walk, Step, lastOf, Ring, Follows, Holds, Connected, SameLink}
-use Rattle.graph.specs.Walks.{walk-step, ring-closed, follows-step, step-follows, follows-from, follows-to}
+use Rattle.graph.specs.Walks.{follows-step, step-follows, follows-from, follows-to}
 use Rattle.graph.specs.Routes.{Without, ring-around}
-use Rattle.graph.specs.Forest.{Graph, Forest, Anc, self, up, TreeLink, OffTree, Aux, across, along, Classes, ClassOf, lower, upper, first, second}
-use Rattle.graph.specs.Ancestors.{anc-to, anc-of, anc-trans, anc-depth, anc-level, anc-proper, anc-order, anc?, anc-child, root-along, top-anc, tree?, tree-anc, leaves-off}
+use Rattle.graph.specs.Forest.{Graph, Forest, Anc, self, up, TreeLink, OffTree, Aux, across, along, ClassOf, lower, upper, first, second}
+use Rattle.graph.specs.Together.{ends-apart, ring-link}
+use Rattle.graph.specs.Ancestors.{anc-of, anc-trans, anc-depth, anc-level, anc-order, anc?, anc-child, root-along, top-anc, tree?, tree-anc, leaves-off}
 
 -- c is the class of x seen from b
 pub data Side (p d cl : ℕ → ℕ) (b x : ℕ) : ℕ → Type 0 where
@@ -132,12 +132,9 @@ module _ (E : ℕ → ℕ → Type 0) (p d root cl : ℕ → ℕ) (G : Graph E) 
   class-flip u v (first o n f) = second (off-flip u v o) n f
   class-flip u v (second o n f) = first (off-flip u v o) n f
 
-  ends-apart : (u v : ℕ) → E u v → u ≢ v
-  ends-apart u v l e = G .loopless v (subst (λ (z : ℕ). E z v) e l)
-
   -- each link has one class
   pub class-unique : (u v : ℕ) {c c′ : ℕ} → E u v → ClassOf E p d cl u v c → ClassOf E p d cl u v c′ → c ≡ c′
-  class-unique u v l a b = let s = side u v (ends-apart u v l) in side-own u v a (s .1) ∙ sym (side-own u v b (s .1))
+  class-unique u v l a b = let s = side u v (ends-apart E G u v l) in side-own u v a (s .1) ∙ sym (side-own u v b (s .1))
 
   pub class-same : (u v x y : ℕ) {c c′ : ℕ} → E u v → SameLink u v x y → ClassOf E p d cl u v c → ClassOf E p d cl x y c′ → c ≡ c′
   class-same u v x y {c} {c′} l (inl e) a b = class-unique u v l a (subst₂ (λ (i j : ℕ). ClassOf E p d cl i j c′) (sym (e .0)) (sym (e .1)) b)
@@ -151,34 +148,31 @@ module _ (E : ℕ → ℕ → Type 0) (p d root cl : ℕ → ℕ) (G : Graph E) 
       go (yes (inr t)) a = (cl v, upper (t .0) (t .1) refl)
       go (no t) (no a) = (cl u, first (record { link = l; off = t }) a refl)
       go (no t) (yes a) =
-          (cl v, second (record { link = l; off = t }) (λ q. ends-apart u v l (anc-level E p d root F a (anc-depth E p d root F q))) refl)
+          (cl v, second (record { link = l; off = t }) (λ q. ends-apart E G u v l (anc-level E p d root F a (anc-depth E p d root F q))) refl)
 
   -- two links at b with a way round between their other ends
   pub class-at : (b x y : ℕ) → E b x → E b y → Connected (Without b E) x y → {c c′ : ℕ} → ClassOf E p d cl b x c → ClassOf E p d cl b y c′ → c ≡ c′
   class-at b x y l m w h k =
-      let s = side b x (ends-apart b x l) in
-      let t = side b y (ends-apart b y m) in
+      let s = side b x (ends-apart E G b x l) in
+      let t = side b y (ends-apart E G b y m) in
       side-own b x h (s .1) ∙ (side-route b x y w (s .1) (t .1) ∙ sym (side-own b y k (t .1)))
 
   module _ (r : List ℕ) (R : Ring E r) where
-    held : (u v : ℕ) → Follows r u v → E u v
-    held u v h = walk-step E (lastOf r) r (ring-closed E r R) u v (follows-step r u v h)
-
     -- two links that follow one another on the ring
     turn-class : (a b w : ℕ) → Follows r a b → Follows r b w → {c c′ : ℕ} → ClassOf E p d cl a b c → ClassOf E p d cl b w c′ → c ≡ c′
     turn-class a b w h k x y =
-        let ba = G .flip a b (held a b h) in
-        let bw = held b w k in
-        let way = ring-around E (G .flip) r R b a w (follows-to r a b h) (follows-from r a b h) (follows-to r b w k) (ends-apart b a ba) (ends-apart b w bw) in
+        let ba = G .flip a b (ring-link E (G .flip) r R a b (inl h)) in
+        let bw = ring-link E (G .flip) r R b w (inl k) in
+        let way = ring-around E (G .flip) r R b a w (follows-to r a b h) (follows-from r a b h) (follows-to r b w k) (ends-apart E G b a ba) (ends-apart E G b w bw) in
         class-at b a w ba bw way (class-flip a b x) y
 
     class-along : (a b : ℕ) (l : List ℕ) → ((u v : ℕ) → Step a (b ∷ l) u v → Follows r u v) → {c : ℕ} → ClassOf E p d cl a b c
         → (u v : ℕ) → Step a (b ∷ l) u v → {c′ : ℕ} → ClassOf E p d cl u v c′ → c ≡ c′
-    class-along a b [] on h u v (inl s) k = class-same a b u v (held a b (on a b (inl (refl, refl)))) (inl (sym (s .0), sym (s .1))) h k
+    class-along a b [] on h u v (inl s) k = class-same a b u v (ring-link E (G .flip) r R a b (inl (on a b (inl (refl, refl))))) (inl (sym (s .0), sym (s .1))) h k
     class-along a b [] on h u v (inr s) k = absurd s
-    class-along a b (w ∷ l) on h u v (inl s) k = class-same a b u v (held a b (on a b (inl (refl, refl)))) (inl (sym (s .0), sym (s .1))) h k
+    class-along a b (w ∷ l) on h u v (inl s) k = class-same a b u v (ring-link E (G .flip) r R a b (inl (on a b (inl (refl, refl))))) (inl (sym (s .0), sym (s .1))) h k
     class-along a b (w ∷ l) on h u v (inr s) k =
-        let m = class-exists b w (held b w (on b w (inr (inl (refl, refl))))) in
+        let m = class-exists b w (ring-link E (G .flip) r R b w (inl (on b w (inr (inl (refl, refl)))))) in
         turn-class a b w (on a b (inl (refl, refl))) (on b w (inr (inl (refl, refl)))) h (m .1)
         ∙ class-along b w l (λ x y q. on x y (inr q)) (m .1) u v s k
 

@@ -1,13 +1,13 @@
 -- Two rings that share two vertices, and a link of each: one ring through both links.
 use mathlib.Core.Path.{_≡_, refl, sym, ap, subst, _∙_}
 use mathlib.Core.Logic.{_⊎_, inl, inr, _≢_}
-use mathlib.Core.Bool.{Bool, true, false, cond, _||_, true≢false}
+use mathlib.Core.Bool.{Bool, true, false, cond, _||_}
 use mathlib.Core.List.{List, [], _∷_, _++_, append-assoc, reverse}
-use Prim.Native.Nat.{ℕ, zero, suc, _+_, _≤_}
+use Prim.Native.Nat.{ℕ, _+_, _≤_}
 use native.Mathlib.Decide.{ℕ-discrete}
 use native.Mathlib.Omega.{arith}
 use lib.Dec.{eqb}
-use lib.ListN.{length, length-append, length-reverse}
+use lib.ListN.{length, length-append}
 use borrow.Author.Tests.{eqb-true, eqb-false, eq-eqb}
 use Rattle.lists.specs.Members.{Mem, Distinct, Disjoint, mem-left, mem-right, mem-cases, mem-reverse, distinct-left, distinct-right, distinct-apart, distinct-join, distinct-reverse}
 use Rattle.lists.specs.Parts.{some, before, after, firstOn, lastOn, past, memb, some-of, first-split, first-on, before-off, last-split, last-on, past-off, memb-mem, mem-memb}

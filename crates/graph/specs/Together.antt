@@ -1,16 +1,19 @@
 -- Links on one ring: 'the same link, or on a common ring' is an equivalence, and grows with the links.
-use mathlib.Core.Path.{_≡_, refl, sym, ap, subst, subst₂, _∙_}
+use mathlib.Core.Path.{_≡_, sym, subst, subst₂, _∙_}
 use mathlib.Core.Logic.{_⊎_, inl, inr, _≢_}
-use mathlib.Core.List.{List, [], _∷_, _++_}
+use mathlib.Core.List.{List, [], _∷_}
 use Prim.Native.Nat.{ℕ}
 use native.Mathlib.Decide.{ℕ-discrete}
-use Rattle.lists.specs.Members.{Mem}
-use Rattle.graph.specs.Rings.{Walk, Step, lastOf, firstOf, Linked, Ring, Follows, Holds, OnRing, SameLink}
+use Rattle.graph.specs.Rings.{lastOf, firstOf, Ring, Holds, OnRing, SameLink}
 use Rattle.graph.specs.Walks.{walk-step, walk-map, ring-closed, follows-step, holds-first, holds-second, holds-flip}
 use Rattle.graph.specs.Forest.{Graph}
 use Rattle.graph.specs.Turn.{turn, turn-ring, turn-mem, turn-link}
 use Rattle.graph.specs.Splice.{splice, splice-ring}
 
+pub ends-apart : (E : ℕ → ℕ → Type 0) → Graph E → (u v : ℕ) → E u v → u ≢ v
+ends-apart E G u v l e = G .loopless v (subst (λ (z : ℕ). E z v) e l)
+
+-- one link, or two on a common ring
 abbrev pub Together : (ℕ → ℕ → Type 0) → ℕ → ℕ → ℕ → ℕ → Type 0
 Together E u v x y = SameLink u v x y ⊎ OnRing E u v x y
 
@@ -69,7 +72,7 @@ module _ (E : ℕ → ℕ → Type 0) (G : Graph E) where
       let er = turn-link E r R a b ha in
       let eq = turn-link E q Q u v ku in
       let s = splice-ring E (G .flip) r′ q′ (turn-ring E r R a b ha) (turn-ring E q Q u v ku) c d
-      (λ e. G .loopless d (subst (λ (z : ℕ). E z d) e (ring-link E (G .flip) r R c d hc)))
+      (ends-apart E G c d (ring-link E (G .flip) r R c d hc))
       (turn-mem E r R a b ha c (holds-first r c d hc)) (turn-mem E q Q u v ku c (holds-first q c d kc))
       (turn-mem E r R a b ha d (holds-second r c d hc)) (turn-mem E q Q u v ku d (holds-second q c d kc))
       (λ e. other (same-trans a b (lastOf r′) (firstOf r′) u v er (same-trans (lastOf r′) (firstOf r′) (lastOf q′) (firstOf q′) u v e (same-flip u v (lastOf q′) (firstOf q′) eq)))) in (

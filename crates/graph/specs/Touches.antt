@@ -1,19 +1,19 @@
 -- A class touches one unit more than it has tree links: the lower ends of these, and the one top of the class.
 use mathlib.Core.Path.{_≡_, refl, sym, ap, subst, _∙_}
-use mathlib.Core.Logic.{_⊎_, inl, inr, _≢_, _↔_}
+use mathlib.Core.Logic.{inl, inr, _≢_, _↔_}
 use mathlib.Core.Bool.{Bool, true, false, true≢false}
 use mathlib.Core.List.{List, [], _∷_}
-use Prim.Native.Nat.{ℕ, zero, suc, _+_, _≤_, _<_}
+use Prim.Native.Nat.{ℕ, zero, suc, _<_}
 use native.Mathlib.Decide.{ℕ-discrete, decLt}
 use native.Mathlib.Omega.{arith}
 use Rattle.lists.specs.Members.{Mem}
 use Rattle.lists.specs.Pigeonhole.{picks, picks-more}
-use Rattle.graph.specs.Rings.{last, Walk, Ring, OnRing, SameLink, Connected}
+use Rattle.graph.specs.Rings.{last, Walk, Ring, Connected}
 use Rattle.graph.specs.Walks.{holds-first, holds-second}
 use Rattle.graph.specs.Routes.{Without, ring-around}
-use Rattle.graph.specs.Forest.{Graph, Forest, Anc, self, up, Classes, ClassOf, lower, upper}
+use Rattle.graph.specs.Forest.{Graph, Forest, self, Classes, ClassOf, lower, upper}
 use Rattle.graph.specs.Ancestors.{anc-depth, top-anc}
-use Rattle.graph.specs.Together.{Together}
+use Rattle.graph.specs.Together.{Together, ends-apart}
 use Rattle.graph.specs.Sides.{Side, below, beside, side, side-route, side-own, class-link}
 use Rattle.graph.specs.Blocks.{not-top, class-together}
 
@@ -42,16 +42,13 @@ module _ (E : ℕ → ℕ → Type 0) (p d root cl : ℕ → ℕ) (G : Graph E) 
   pub names-touches : (c x : ℕ) → Names d cl c x → Touches E p d cl c x
   names-touches c x (h, e) = (p x, lower h refl (sym e))
 
-  apart : (u v : ℕ) → E u v → u ≢ v
-  apart u v l e = G .loopless v (subst (λ (z : ℕ). E z v) e l)
-
   -- a top is the parent of a unit that names a tree link of the class
   top-child : (c m : ℕ) → Top E p d cl c m → (t : ℕ) × (0 < d t) × (p t ≡ m) × (cl t ≡ c)
   top-child c m T =
       let y = T .touched .0 in
       let k = T .touched .1 in
       let l = class-link E p d root cl G F m y k in
-      let s = side E p d root cl G F (C .along-aux) m y (apart m y l) in
+      let s = side E p d root cl G F (C .along-aux) m y (ends-apart E G m y l) in
       go y l (s .1) (side-own E p d root cl G F (C .along-aux) m y k (s .1))
     where
       go : (y : ℕ) → E m y → {c′ : ℕ} → Side p d cl m y c′ → c ≡ c′ → (t : ℕ) × (0 < d t) × (p t ≡ m) × (cl t ≡ c)
@@ -70,7 +67,7 @@ module _ (E : ℕ → ℕ → Type 0) (p d root cl : ℕ → ℕ) (G : Graph E) 
       → (x : ℕ) → Mem x r → m ≢ x → d m < d x
   top-least c m t T h e f r R mm mt x mx n =
       let lt : E m t = subst (λ (z : ℕ). E z t) e (G .flip t (p t) (F .link t h)) in
-      let way = ring-around E (G .flip) r R m t x mm mt mx (apart m t lt) n in
+      let way = ring-around E (G .flip) r R m t x mm mt mx (ends-apart E G m t lt) n in
       let s = side E p d root cl G F (C .along-aux) m x n in
       go way (s .1) (side-route E p d root cl G F (C .along-aux) m t x way (below t h e (self refl)) (s .1))
     where

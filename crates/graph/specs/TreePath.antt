@@ -1,5 +1,5 @@
 -- The path in the tree between two vertices, and the ring that a link off the tree makes with it.
-use mathlib.Core.Path.{_≡_, refl, sym, ap, subst, _∙_}
+use mathlib.Core.Path.{_≡_, refl, sym, ap, _∙_}
 use mathlib.Core.Logic.{_⊎_, inl, inr, _≢_}
 use mathlib.Core.Bool.{Bool, true, false, cond}
 use mathlib.Core.List.{List, [], _∷_, _++_}
@@ -10,7 +10,7 @@ use lib.Dec.{eqb, leb}
 use lib.ListN.{length}
 use borrow.Author.Tests.{eqb-true, eqb-false, leb-true, leb-false}
 use Rattle.lists.specs.Members.{Mem, Distinct, mem-cases, distinct-join}
-use Rattle.graph.specs.Rings.{last, Walk, Step, lastOf, firstOf, Ring, Holds}
+use Rattle.graph.specs.Rings.{last, Walk, Step, Ring, Holds}
 use Rattle.graph.specs.Walks.{last-append, walk-join, step-left, step-right, step-cases}
 use Rattle.graph.specs.Forest.{Graph, Forest, Anc, self, up, TreeLink, OffTree}
 use Rattle.graph.specs.Ancestors.{anc-to, anc-depth, anc-level, anc-proper, root-up}

@@ -1,20 +1,24 @@
 -- An instance that meets every hypothesis of the theorems: a triangle 0, 1, 2 with a tail from 2 to 3 (document 01's case B).
-use mathlib.Core.Path.{_≡_, refl, sym, ap, subst, subst₂, _∙_}
+use mathlib.Core.Path.{_≡_, refl, sym, ap, subst₂}
 use mathlib.Core.Logic.{_⊎_, inl, inr, _≢_, _↔_}
-use mathlib.Core.Bool.{Bool, true}
+use mathlib.Core.Bool.{Bool, true, _&&_, true≢false}
 use mathlib.Core.List.{List, [], _∷_}
-use Prim.Native.Nat.{ℕ, zero, suc, _+_, _≤_, _<_}
+use Prim.Native.Nat.{ℕ, zero, suc, _≤_, _<_}
 use native.Mathlib.Omega.{arith}
-use Rattle.lists.specs.Pigeonhole.{Picked}
+use lib.Dec.{ltb, eqb}
+use borrow.Author.Tests.{lt-ltb, ltb-true}
+use Rattle.lists.specs.Pigeonhole.{picks, Picked}
 use Rattle.graph.specs.Rings.{Ring, Holds, OnRing, SameLink, Articulation}
-use Rattle.graph.specs.Forest.{Graph, Forest, Anc, self, up, TreeLink, OffTree, Aux, across, along, Joined, stay, on, back, Classes, ClassOf, lower, upper, first, second}
+use Rattle.graph.specs.Forest.{Graph, Forest, Anc, TreeLink, OffTree, Aux, across, along, Joined, stay, on, back, Classes, ClassOf, lower, upper, first, second}
 use Rattle.graph.specs.Ancestors.{anc-depth, anc-level}
 use Rattle.graph.specs.TreePath.{fundamental}
 use Rattle.graph.specs.Together.{through}
 use Rattle.graph.specs.Sides.{class-link, class-flip, class-unique}
-use Rattle.graph.specs.Blocks.{Alone, blocks, blocks-other, bridge}
-use Rattle.graph.specs.Cuts.{Meet, articulation}
+use Rattle.graph.specs.Blocks.{Alone, blocks-other, bridge}
+use Rattle.graph.specs.Cuts.{articulation}
 use Rattle.graph.specs.Propagation.{Rounds}
+use Rattle.graph.specs.Joins.{classes-by-rounds}
+use Rattle.graph.specs.Touches.{Touches, Names, touched-count}
 
 abbrev Tail : ℕ → ℕ → Type 0
 Tail u v = SameLink 0 1 u v ⊎ (SameLink 1 2 u v ⊎ (SameLink 0 2 u v ⊎ SameLink 2 3 u v))
@@ -135,16 +139,17 @@ apart-21 a = let e : _≡_ {A = ℕ} 2 1 = anc-level Tail parent depth top fores
 aux-12 : Aux Tail parent depth 1 2
 aux-12 = across off-12 apart-12 apart-21
 
+-- and no auxiliary edge along the tree: the link off the tree lies too high
+no-climb : (u v x y : ℕ) → 0 < depth u → parent u ≡ v → 0 < depth v → OffTree Tail parent depth x y → Anc parent depth u y → ⊥
+no-climb u v x y h e k o a =
+    omega (arith, anc-depth Tail parent depth top forest a, off-tree (λ i j. depth j ≡ 1) refl refl x y o, forest .deeper u h, ap depth e)
+
 classes : Classes Tail parent depth class
 classes = record { along-aux = along-aux; only-joined = only-joined }
   where
-    shallow : (x y : ℕ) → OffTree Tail parent depth x y → depth y ≡ 1
-    shallow = off-tree (λ x y. depth y ≡ 1) refl refl
-
     along-aux : (u v : ℕ) → Aux Tail parent depth u v → class u ≡ class v
     along-aux u v (across o n m) = off-tree (λ x y. class x ≡ class y) refl refl u v o
-    along-aux u v (along h e k x y o a n) =
-        absurd (omega (arith, anc-depth Tail parent depth top forest a, shallow x y o, forest .deeper u h, ap depth e))
+    along-aux u v (along h e k x y o a n) = absurd (no-climb u v x y h e k o a)
 
     only-joined : (u v : ℕ) → 0 < depth u → 0 < depth v → class u ≡ class v → Joined Tail parent depth u v
     only-joined zero v h k e = absurd (omega arith)
@@ -252,3 +257,92 @@ rounds = record { start = λ v h. refl; own = own; near = near; attained = attai
     attained (suc zero) (suc (suc (suc zero))) h = inr (2, at 2 (omega arith), l32, refl)
     attained (suc zero) (suc (suc (suc (suc n)))) h = absurd (omega arith)
     attained (suc (suc k)) v h = inl refl
+
+-- classes spread over its auxiliary graph, among 1, 2, 3: the class of 2 is 1 from the first round on
+abbrev non-root : ℕ → Bool
+non-root v = ltb 0 (depth v)
+
+abbrev Joins : ℕ → ℕ → Type 0
+Joins v w = Aux Tail parent depth v w ⊎ Aux Tail parent depth w v
+
+abbrev spread : ℕ → ℕ → ℕ
+spread zero v = v
+spread (suc k) v = class v
+
+in-range : (v : ℕ) → (0 < depth v) ↔ Picked non-root 4 v
+in-range v = (λ h. record { below = low v h; passes = lt-ltb 0 (depth v) h }, λ h. ltb-true 0 (depth v) (h .passes))
+  where
+    low : (v : ℕ) → 0 < depth v → v < 4
+    low zero h = omega arith
+    low (suc zero) h = omega arith
+    low (suc (suc zero)) h = omega arith
+    low (suc (suc (suc zero))) h = omega arith
+    low (suc (suc (suc (suc n)))) h = absurd (omega arith)
+
+class-rounds : Rounds non-root 4 Joins spread
+class-rounds = record { start = λ v h. refl; own = own; near = near; attained = attained }
+  where
+    own : (k v : ℕ) → Picked non-root 4 v → spread (suc k) v ≤ spread k v
+    own zero zero h = omega arith
+    own zero (suc zero) h = omega arith
+    own zero (suc (suc zero)) h = omega arith
+    own zero (suc (suc (suc n))) h = omega arith
+    own (suc k) v h = omega arith
+
+    crossed : (v w : ℕ) → Aux Tail parent depth v w → (class v ≤ w) × (class w ≤ v)
+    crossed v w (across o a b) = off-tree (λ x y. (class x ≤ y) × (class y ≤ x)) (omega arith) (omega arith) v w o
+    crossed v w (along h e k x y o a b) = absurd (no-climb v w x y h e k o a)
+
+    near : (k v w : ℕ) → Picked non-root 4 v → Picked non-root 4 w → Joins v w → spread (suc k) v ≤ spread k w
+    near zero v w hv hw (inl a) = crossed v w a .0
+    near zero v w hv hw (inr a) = crossed w v a .1
+    near (suc k) v w hv hw (inl a) = omega (arith, classes .along-aux v w a)
+    near (suc k) v w hv hw (inr a) = omega (arith, classes .along-aux w v a)
+
+    attained : (k v : ℕ) → Picked non-root 4 v
+        → (spread (suc k) v ≡ spread k v) ⊎ ((w : ℕ) × Picked non-root 4 w × Joins v w × (spread (suc k) v ≡ spread k w))
+    attained zero zero h = inl refl
+    attained zero (suc zero) h = inl refl
+    attained zero (suc (suc zero)) h = inr (1, in-range 1 .0 (omega arith), inr aux-12, refl)
+    attained zero (suc (suc (suc zero))) h = inl refl
+    attained zero (suc (suc (suc (suc n)))) h = let b = h .below in absurd (omega arith)
+    attained (suc k) v h = inl refl
+
+spread-classes : Classes Tail parent depth class
+spread-classes =
+    classes-by-rounds Tail parent depth top graph forest non-root 4 in-range Joins (λ v w a. (inl a, inr a)) (λ v w hv hw j. j) spread class-rounds 1
+    (λ v h. refl)
+
+-- class 1 touches 0, 1, 2 and has the tree links of 1 and 2
+touched : picks (λ x. ltb x 3) 4 ≡ suc (picks (λ x. non-root x && eqb (class x) 1) 4)
+touched = touched-count Tail parent depth top class graph forest classes 4 1 1 (λ x. ltb x 3) (λ x. non-root x && eqb (class x) 1)
+    (omega arith, refl) low touches names
+  where
+    low : (u v : ℕ) → Tail u v → u < 4
+    low = links (λ u v. u < 4) (omega arith) (omega arith) (omega arith) (omega arith) (omega arith) (omega arith) (omega arith) (omega arith)
+
+    touches : (x : ℕ) → x < 4 → (ltb x 3 ≡ true) ↔ Touches Tail parent depth class 1 x
+    touches zero h = (λ e. (1, class-01), λ t. refl)
+    touches (suc zero) h = (λ e. (2, class-12), λ t. refl)
+    touches (suc (suc zero)) h = (λ e. (0, class-20), λ t. refl)
+    touches (suc (suc (suc zero))) h = (λ e. absurd (true≢false (sym e)), λ t. absurd (apart (t .0) (t .1)))
+      where
+        parents : (y : ℕ) → parent y ≢ 3
+        parents zero = omega arith
+        parents (suc zero) = omega arith
+        parents (suc (suc zero)) = omega arith
+        parents (suc (suc (suc n))) = omega arith
+
+        apart : (y : ℕ) → ClassOf Tail parent depth class 3 y 1 → ⊥
+        apart y (lower i e f) = omega arith
+        apart y (upper i e f) = parents y e
+        apart y (first o n f) = omega arith
+        apart y (second o n f) = off-tree (λ i j. i ≢ 3) (omega arith) (omega arith) 3 y o refl
+    touches (suc (suc (suc (suc n)))) h = absurd (omega arith)
+
+    names : (x : ℕ) → x < 4 → (non-root x && eqb (class x) 1 ≡ true) ↔ Names depth class 1 x
+    names zero h = (λ e. absurd (true≢false (sym e)), λ k. absurd (omega arith))
+    names (suc zero) h = (λ e. (omega arith, refl), λ k. refl)
+    names (suc (suc zero)) h = (λ e. (omega arith, refl), λ k. refl)
+    names (suc (suc (suc zero))) h = (λ e. absurd (true≢false (sym e)), λ k. absurd (omega arith))
+    names (suc (suc (suc (suc n)))) h = absurd (omega arith)

@@ -1,9 +1,9 @@
 -- A ring turned so that a given link of it is the one from the last vertex to the first.
 use mathlib.Core.Path.{_≡_, refl, sym, ap, subst, _∙_}
-use mathlib.Core.Logic.{_⊎_, inl, inr, _≢_}
-use mathlib.Core.Bool.{Bool, true, false, cond, true≢false}
-use mathlib.Core.List.{List, [], _∷_, _++_}
-use Prim.Native.Nat.{ℕ, zero, suc, _+_, _≤_}
+use mathlib.Core.Logic.{inl, inr}
+use mathlib.Core.Bool.{Bool, true, false, cond}
+use mathlib.Core.List.{List, _∷_, _++_}
+use Prim.Native.Nat.{ℕ, _≤_}
 use native.Mathlib.Omega.{arith}
 use lib.Dec.{eqb}
 use lib.ListN.{length, length-append}
@@ -11,7 +11,7 @@ use borrow.Author.Tests.{eqb-true, eqb-false, eq-eqb}
 use Rattle.lists.specs.Members.{Mem, Distinct, mem-left, mem-swap, distinct-swap, distinct-apart}
 use Rattle.lists.specs.Parts.{before, after, firstOn, some-of, first-split, first-on}
 use Rattle.graph.specs.Rings.{last, Walk, Step, lastOf, firstOf, Ring, Follows, Holds, SameLink}
-use Rattle.graph.specs.Walks.{last-append, lastOf-split, walk-join, walk-left, walk-right, ring-closed, closed-ring, follows-step, step-into, holds-first, holds-second}
+use Rattle.graph.specs.Walks.{last-append, lastOf-split, walk-join, walk-left, walk-right, ring-closed, follows-step, step-into, holds-first, holds-second}
 
 -- the ring read from b on
 abbrev pub rotate : ℕ → List ℕ → List ℕ

@@ -1,12 +1,12 @@
 -- Laws on walks: joined, parted, turned back; and the closed form of a ring.
-use mathlib.Core.Path.{_≡_, refl, sym, ap, subst, _∙_}
-use mathlib.Core.Logic.{_⊎_, inl, inr, _≢_}
-use mathlib.Core.List.{List, [], _∷_, _++_, append-assoc, reverse, reverse-cons}
-use Prim.Native.Nat.{ℕ, zero, suc, _+_, _≤_, _<_}
+use mathlib.Core.Path.{_≡_, refl}
+use mathlib.Core.Logic.{_⊎_, inl, inr, _↔_}
+use mathlib.Core.List.{List, [], _∷_, _++_, reverse, reverse-cons}
+use Prim.Native.Nat.{ℕ, _≤_}
 use native.Mathlib.Omega.{arith}
 use lib.ListN.{length}
-use Rattle.lists.specs.Members.{Mem, Distinct, mem-left, mem-right, mem-cases}
-use Rattle.graph.specs.Rings.{last, Walk, Step, lastOf, firstOf, Linked, Ring, Follows, Holds}
+use Rattle.lists.specs.Members.{Mem, Distinct}
+use Rattle.graph.specs.Rings.{last, Walk, Step, lastOf, Ring, Follows, Holds}
 
 pub last-append : (a : ℕ) (s t : List ℕ) → last a (s ++ t) ≡ last (last a s) t
 last-append a [] t = refl
@@ -111,13 +111,15 @@ step-follows [] u v h = h
 step-follows (a ∷ l) u v (inl h) = inr h
 step-follows (a ∷ l) u v (inr h) = inl h
 
+pub ring-as-closed : (E : ℕ → ℕ → Type 0) (r : List ℕ) → Ring E r ↔ ((3 ≤ length r) × Distinct r × Walk E (lastOf r) r)
+ring-as-closed E r = (λ R. (R .three, R .different, ring-closed E r R), λ h. closed-ring E r (h .0) (h .1) (h .2))
+
+pub follows-as-step : (r : List ℕ) (u v : ℕ) → Follows r u v ↔ Step (lastOf r) r u v
+follows-as-step r u v = (follows-step r u v, step-follows r u v)
+
 pub lastOf-split : (s : List ℕ) (u : ℕ) (t : List ℕ) → lastOf (s ++ u ∷ t) ≡ last u t
 lastOf-split [] u t = refl
 lastOf-split (a ∷ s) u t = last-append a s (u ∷ t)
-
-pub lastOf-mem : (a : ℕ) (l : List ℕ) → Mem a l → Mem (lastOf l) l
-lastOf-mem a [] m = m
-lastOf-mem a (b ∷ l) m = last-mem b l
 
 pub follows-from : (r : List ℕ) (u v : ℕ) → Follows r u v → Mem u r
 follows-from [] u v h = h
