@@ -6,18 +6,18 @@ use native.Mathlib.Decide.{ℕ-discrete, decLt}
 use native.Mathlib.Omega.{arith}
 use Rattle.graph.specs.Forest.{Forest, Anc, self, up, TreeLink, OffTree}
 
--- Anc takes its ends as they are: an equation carries it over
-pub anc-to : (p d : ℕ → ℕ) (w : ℕ) {x y : ℕ} → x ≡ y → Anc p d w x → Anc p d w y
-anc-to p d w e a = subst (λ (z : ℕ). Anc p d w z) e a
+-- an ancestor's ends under other names
+pub anc-to : {p d : ℕ → ℕ} {w x y : ℕ} → x ≡ y → Anc p d w x → Anc p d w y
+anc-to {p} {d} {w} e a = subst (λ (z : ℕ). Anc p d w z) e a
 
-pub anc-of : (p d : ℕ → ℕ) {v w : ℕ} (x : ℕ) → v ≡ w → Anc p d v x → Anc p d w x
-anc-of p d x e a = subst (λ (z : ℕ). Anc p d z x) e a
+pub anc-of : {p d : ℕ → ℕ} {v w x : ℕ} → v ≡ w → Anc p d v x → Anc p d w x
+anc-of {p} {d} {x = x} e a = subst (λ (z : ℕ). Anc p d z x) e a
 
-pub anc-trans : (p d : ℕ → ℕ) {u w x : ℕ} → Anc p d u w → Anc p d w x → Anc p d u x
-anc-trans p d {u} a (self e) = anc-to p d u e a
-anc-trans p d a (up h b) = up h (anc-trans p d a b)
+pub anc-trans : {p d : ℕ → ℕ} {u w x : ℕ} → Anc p d u w → Anc p d w x → Anc p d u x
+anc-trans a (self e) = anc-to e a
+anc-trans a (up h b) = up h (anc-trans a b)
 
-module _ (E : ℕ → ℕ → Type 0) (p d root : ℕ → ℕ) (F : Forest E p d root) where
+module _ {E : ℕ → ℕ → Type 0} {p d root : ℕ → ℕ} (F : Forest E p d root) where
   pub anc-depth : {w x : ℕ} → Anc p d w x → d w ≤ d x
   anc-depth {w} {x} (self e) = rw e (omega arith)
   anc-depth {w} {x} (up h a) = omega (arith, F .deeper x h, anc-depth a)
@@ -39,8 +39,8 @@ module _ (E : ℕ → ℕ → Type 0) (p d root : ℕ → ℕ) (F : Forest E p d
 
   -- of two ancestors of one vertex the less deep is an ancestor of the other
   pub anc-order : {u w x : ℕ} → Anc p d u x → Anc p d w x → d u ≤ d w → Anc p d u w
-  anc-order {u} {w} {x} (self e) b k = self (sym (anc-level (anc-to p d w (sym e) b) k))
-  anc-order {u} {w} {x} (up h a) (self e) k = anc-to p d u (sym e) (up h a)
+  anc-order {u} {w} {x} (self e) b k = self (sym (anc-level (anc-to (sym e) b) k))
+  anc-order {u} {w} {x} (up h a) (self e) k = anc-to (sym e) (up h a)
   anc-order {u} {w} {x} (up h a) (up g b) k = anc-order a b k
 
   pub anc? : (w x : ℕ) → Dec (Anc p d w x)
@@ -83,11 +83,11 @@ module _ (E : ℕ → ℕ → Type 0) (p d root : ℕ → ℕ) (F : Forest E p d
       go (suc k) y e =
           let h : 0 < d y = omega arith in
           let r = go k (p y) (omega (arith, F .deeper y h)) in
-          (up h (anc-of p d (p y) (root-up y h) (r .0)), rw (root-up y h) at (r .1))
+          (up h (anc-of (root-up y h) (r .0)), rw (root-up y h) at (r .1))
 
   -- a vertex of depth 0 is an ancestor of all that it is linked to
   pub top-anc : {u v : ℕ} → root u ≡ root v → d u ≡ 0 → Anc p d u v
-  top-anc {u} {v} e z = anc-of p d v (sym e ∙ F .top u z) (root-anc v .0)
+  top-anc {u} {v} e z = anc-of (sym e ∙ F .top u z) (root-anc v .0)
 
   pub tree? : (u v : ℕ) → Dec (TreeLink p d u v)
   tree? u v = go (decLt 0 (d u)) (ℕ-discrete (p u) v) (decLt 0 (d v)) (ℕ-discrete (p v) u)
@@ -115,9 +115,9 @@ module _ (E : ℕ → ℕ → Type 0) (p d root : ℕ → ℕ) (F : Forest E p d
       above = up h (self refl)
 
       go : TreeLink p d x y → ⊥
-      go (inl k) = n (anc-trans p d above (up (k .0) (anc-to p d u (sym (k .1)) a)))
+      go (inl k) = n (anc-trans above (up (k .0) (anc-to (sym (k .1)) a)))
       go (inr k) = by (ℕ-discrete u y)
         where
           by : Dec (u ≡ y) → ⊥
           by (yes f) = n (self (ap p f ∙ k .1))
-          by (no f) = n (anc-trans p d above (anc-to p d u (k .1) (anc-proper a f .1)))
+          by (no f) = n (anc-trans above (anc-to (k .1) (anc-proper a f .1)))

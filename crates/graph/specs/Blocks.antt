@@ -31,13 +31,13 @@ other-link E (a ∷ (b ∷ (e ∷ l))) R = (a, b, inl (inr (refl, refl)), inl (i
     go (inl h) = R .different .0 (inl (h .1))
     go (inr h) = R .different .1 .0 (subst (λ (z : ℕ). Mem z (e ∷ l)) (h .0) (last-mem e l))
 
-module _ (E : ℕ → ℕ → Type 0) (p d root : ℕ → ℕ) (G : Graph E) (F : Forest E p d root) where
+module _ {E : ℕ → ℕ → Type 0} {p d root : ℕ → ℕ} (G : Graph E) (F : Forest E p d root) where
   -- an end of a link that is no ancestor of the other end is no root
   pub not-top : (u v : ℕ) → E u v → (Anc p d u v → ⊥) → 0 < d u
   not-top u v l n = go (d u) refl
     where
       go : (i : ℕ) → d u ≡ i → 0 < d u
-      go zero z = absurd (n (top-anc E p d root F (F .spans u v l) z))
+      go zero z = absurd (n (top-anc F (F .spans u v l) z))
       go (suc i) z = omega arith
 
   -- an auxiliary edge is witnessed by a ring that holds both tree links
@@ -49,9 +49,9 @@ module _ (E : ℕ → ℕ → Type 0) (p d root : ℕ → ℕ) (G : Graph E) (F 
         hv,
         (
           fundamental p d u v,
-          fundamental-ring E p d root G F u v o,
-          fundamental-tree E p d root G F u v o u hu (inl (self refl, n)),
-          fundamental-tree E p d root G F u v o v hv (inr (m, self refl)),
+          fundamental-ring G F o,
+          fundamental-tree G F o u hu (inl (self refl, n)),
+          fundamental-tree G F o v hv (inr (m, self refl)),
         ),
       )
   aux-ring u v (along h e k x y o a n) =
@@ -60,9 +60,9 @@ module _ (E : ℕ → ℕ → Type 0) (p d root : ℕ → ℕ) (G : Graph E) (F 
         k,
         (
           fundamental p d x y,
-          fundamental-ring E p d root G F x y o,
-          fundamental-tree E p d root G F x y o u h (inr (λ q. n (anc-trans p d above q), a)),
-          fundamental-tree E p d root G F x y o v k (inr (n, anc-trans p d above a)),
+          fundamental-ring G F o,
+          fundamental-tree G F o u h (inr (λ q. n (anc-trans above q), a)),
+          fundamental-tree G F o v k (inr (n, anc-trans above a)),
         ),
       )
 
@@ -72,70 +72,71 @@ module _ (E : ℕ → ℕ → Type 0) (p d root : ℕ → ℕ) (G : Graph E) (F 
   joined-together {u} h (on {v = v} {w = w} j a) =
       let t = joined-together h j in
       let r = aux-ring v w a in
-      (r .1, together-trans E G u (p u) v (p v) w (p w) (t .1) (inr (r .2)))
+      (r .1, together-trans G u (p u) v (p v) w (p w) (t .1) (inr (r .2)))
   joined-together {u} h (back {v = v} {w = w} j a) =
       let t = joined-together h j in
       let r = aux-ring w v a in
-      (r .0, together-trans E G u (p u) v (p v) w (p w) (t .1) (together-flip E w (p w) v (p v) (inr (r .2))))
+      (r .0, together-trans G u (p u) v (p v) w (p w) (t .1) (together-flip E w (p w) v (p v) (inr (r .2))))
 
-module _ (E : ℕ → ℕ → Type 0) (p d root cl : ℕ → ℕ) (G : Graph E) (F : Forest E p d root) (C : Classes E p d cl) where
+module _ {E : ℕ → ℕ → Type 0} {p d root cl : ℕ → ℕ} (G : Graph E) (F : Forest E p d root) (C : Classes E p d cl) where
   -- a tree link of the same class, with its ring
-  class-tree : (u v : ℕ) {c : ℕ} → ClassOf E p d cl u v c → (w : ℕ) × (0 < d w) × (c ≡ cl w) × Together E u v w (p w)
-  class-tree u v (lower h e f) = (u, h, f, inl (inl (refl, sym e)))
-  class-tree u v (upper h e f) = (v, h, f, inl (inr (sym e, refl)))
-  class-tree u v (first o n f) =
-      let h = not-top E p d root G F u v (o .link) n in (
+  class-tree : {u v c : ℕ} → ClassOf E p d cl u v c → (w : ℕ) × (0 < d w) × (c ≡ cl w) × Together E u v w (p w)
+  class-tree {u} (lower h e f) = (u, h, f, inl (inl (refl, sym e)))
+  class-tree {v = v} (upper h e f) = (v, h, f, inl (inr (sym e, refl)))
+  class-tree {u} {v} (first o n f) =
+      let h = not-top G F u v (o .link) n in (
         u,
         h,
         f,
         inr (
           fundamental p d u v,
-          fundamental-ring E p d root G F u v o,
-          fundamental-link E p d root G F u v o,
-          fundamental-tree E p d root G F u v o u h (inl (self refl, n)),
+          fundamental-ring G F o,
+          fundamental-link G F o,
+          fundamental-tree G F o u h (inl (self refl, n)),
         ),
       )
-  class-tree u v (second o n f) =
-      let h = not-top E p d root G F v u (G .flip u v (o .link)) n in (
+  class-tree {u} {v} (second o n f) =
+      let h = not-top G F v u (G .flip u v (o .link)) n in (
         v,
         h,
         f,
         inr (
           fundamental p d u v,
-          fundamental-ring E p d root G F u v o,
-          fundamental-link E p d root G F u v o,
-          fundamental-tree E p d root G F u v o v h (inr (n, self refl)),
+          fundamental-ring G F o,
+          fundamental-link G F o,
+          fundamental-tree G F o v h (inr (n, self refl)),
         ),
       )
 
   -- links of one class are one link, or lie on one ring
-  pub class-together : (u v x y : ℕ) {c c′ : ℕ} → ClassOf E p d cl u v c → ClassOf E p d cl x y c′ → c ≡ c′ → Together E u v x y
-  class-together u v x y h k e =
-      let (s, hs, es, ts) = class-tree u v h in
-      let (t, ht, et, tq) = class-tree x y k in
-      let j = joined-together E p d root G F hs (C .only-joined s t hs ht (sym es ∙ (e ∙ et))) in
-      together-trans E G u v s (p s) x y ts (together-trans E G s (p s) t (p t) x y (j .1) (together-flip E x y t (p t) tq))
+  pub class-together : {u v x y c c′ : ℕ} → ClassOf E p d cl u v c → ClassOf E p d cl x y c′ → c ≡ c′ → Together E u v x y
+  class-together {u} {v} {x} {y} h k e =
+      let (s, hs, es, ts) = class-tree h in
+      let (t, ht, et, tq) = class-tree k in
+      let j = joined-together G F hs (C .only-joined s t hs ht (sym es ∙ (e ∙ et))) in
+      together-trans G u v s (p s) x y ts (together-trans G s (p s) t (p t) x y (j .1) (together-flip E x y t (p t) tq))
 
-  pub blocks : (u v x y : ℕ) {c c′ : ℕ} → ClassOf E p d cl u v c → ClassOf E p d cl x y c′
+  pub blocks : {u v x y c c′ : ℕ} → ClassOf E p d cl u v c → ClassOf E p d cl x y c′
       → (c ≡ c′) ↔ (SameLink u v x y ⊎ OnRing E u v x y)
-  blocks u v x y {c} {c′} h k = (class-together u v x y h k, go)
+  blocks {u} {v} {x} {y} {c} {c′} h k = (class-together h k, go)
     where
       go : SameLink u v x y ⊎ OnRing E u v x y → c ≡ c′
-      go (inl e) = class-same E p d root cl G F (C .along-aux) u v x y (class-link E p d root cl G F u v h) e h k
-      go (inr (r, R, a, b)) = ring-class E p d root cl G F (C .along-aux) r R u v x y a b h k
+      go (inl e) = class-same G F (C .along-aux) (class-link G F h) e h k
+      go (inr (r, R, a, b)) = ring-class G F (C .along-aux) R a b h k
 
   -- of two different links: one class exactly where some ring holds both
-  pub blocks-other : (u v x y : ℕ) {c c′ : ℕ} → (SameLink u v x y → ⊥) → ClassOf E p d cl u v c → ClassOf E p d cl x y c′
+  pub blocks-other : {u v x y c c′ : ℕ} → (SameLink u v x y → ⊥) → ClassOf E p d cl u v c → ClassOf E p d cl x y c′
       → (c ≡ c′) ↔ OnRing E u v x y
-  blocks-other u v x y n h k = (λ e. other (class-together u v x y h k e), λ o. ring-class E p d root cl G F (C .along-aux) (o .0) (o .1) u v x y (o .2) (o .3) h k)
+  blocks-other {u} {v} {x} {y} n h k =
+      (λ e. other (class-together h k e), λ o. ring-class G F (C .along-aux) (o .1) (o .2) (o .3) h k)
     where
       other : Together E u v x y → OnRing E u v x y
       other (inl s) = absurd (n s)
       other (inr o) = o
 
   -- lone (a bridge): alone in its class exactly where no ring holds it
-  pub bridge : (u v : ℕ) {c : ℕ} → ClassOf E p d cl u v c → Alone E p d cl u v c ↔ ((r : List ℕ) → Ring E r → Holds r u v → ⊥)
-  bridge u v {c} h = (there, λ f x y c′ l k e. back-to f x y (class-together u v x y h k e))
+  pub bridge : {u v c : ℕ} → ClassOf E p d cl u v c → Alone E p d cl u v c ↔ ((r : List ℕ) → Ring E r → Holds r u v → ⊥)
+  bridge {u} {v} {c} h = (there, λ f x y c′ l k e. back-to f x y (class-together h k e))
     where
       there : Alone E p d cl u v c → (r : List ℕ) → Ring E r → Holds r u v → ⊥
       there alone r R q =
@@ -144,9 +145,9 @@ module _ (E : ℕ → ℕ → Type 0) (p d root cl : ℕ → ℕ) (G : Graph E) 
           let s = turn-link E r R u v q in
           let (x, y, h0, hx, n) = other-link E t T in
           let lxy = ring-link E (G .flip) t T x y hx in
-          let m = class-exists E p d root cl G F (C .along-aux) x y lxy in
+          let m = class-exists G F (C .along-aux) x y lxy in
           let hu = holds-same t (lastOf t) (firstOf t) u v (same-flip u v (lastOf t) (firstOf t) s) h0 in
-          let e = ring-class E p d root cl G F (C .along-aux) t T u v x y hu hx h (m .1) in
+          let e = ring-class G F (C .along-aux) T hu hx h (m .1) in
           n (same-trans (lastOf t) (firstOf t) u v x y (same-flip u v (lastOf t) (firstOf t) s) (alone x y (m .0) lxy (m .1) e))
 
       back-to : ((r : List ℕ) → Ring E r → Holds r u v → ⊥) → (x y : ℕ) → Together E u v x y → SameLink u v x y

@@ -58,19 +58,19 @@ module _ (E : ℕ → ℕ → Type 0) (u : ℕ) (flip : (v w : ℕ) → E v w �
       go (yes t) f = meets t (leaves z l y (w .1) e ny)
       go (no t) f = step t (f t ny)
 
-module _ (E : ℕ → ℕ → Type 0) (p d root cl : ℕ → ℕ) (G : Graph E) (F : Forest E p d root) (C : Classes E p d cl) (u : ℕ) where
+module _ {E : ℕ → ℕ → Type 0} {p d root cl : ℕ → ℕ} (G : Graph E) (F : Forest E p d root) (C : Classes E p d cl) {u : ℕ} where
   meet-cut : Meet E p d cl u → Articulation E u
   meet-cut M =
-      let la = class-link E p d root cl G F u (M .a) (M .first) in
-      let lb = class-link E p d root cl G F u (M .b) (M .second) in
+      let la = class-link G F (M .first) in
+      let lb = class-link G F (M .second) in
       record {
         x = M .a;
         y = M .b;
-        apart = λ e. M .differ (class-same E p d root cl G F (C .along-aux) u (M .a) u (M .b) la (inl (refl, e)) (M .first) (M .second));
-        other-x = λ e. ends-apart E G u (M .a) la (sym e);
-        other-y = λ e. ends-apart E G u (M .b) lb (sym e);
+        apart = λ e. M .differ (class-same G F (C .along-aux) la (inl (refl, e)) (M .first) (M .second));
+        other-x = λ e. ends-apart G u (M .a) la (sym e);
+        other-y = λ e. ends-apart G u (M .b) lb (sym e);
         connected = (u ∷ (M .b ∷ []), ((G .flip u (M .a) la, (lb, tt)), refl));
-        cut = λ l r h. M .differ (class-at E p d root cl G F (C .along-aux) u (M .a) (M .b) la lb (l, avoiding E u (M .a) l (M .b) r h) (M .first) (M .second));
+        cut = λ l r h. M .differ (class-at G F (C .along-aux) la lb (l, avoiding E u (M .a) l (M .b) r h) (M .first) (M .second));
       }
 
   cut-meet : Articulation E u → Meet E p d cl u
@@ -83,17 +83,17 @@ module _ (E : ℕ → ℕ → Type 0) (p d root cl : ℕ → ℕ) (G : Graph E) 
           ⊎ ((a b : ℕ) × E u a × E u b × Connected (Without u E) (A .x) a × Connected (Without u E) b (A .y)) → Meet E p d cl u
       go (inl c) = absurd (never c)
       go (inr (a, b, la, lb, ka, kb)) =
-          let ca = class-exists E p d root cl G F (C .along-aux) u a la in
-          let cb = class-exists E p d root cl G F (C .along-aux) u b lb in
-          record { a = a; b = b; class-a = ca .0; class-b = cb .0; first = ca .1; second = cb .1; differ = λ e. round (blocks E p d root cl G F C u a u b (ca .1) (cb .1) .0 e) }
+          let ca = class-exists G F (C .along-aux) u a la in
+          let cb = class-exists G F (C .along-aux) u b lb in
+          record { a = a; b = b; class-a = ca .0; class-b = cb .0; first = ca .1; second = cb .1; differ = λ e. round (blocks G F C (ca .1) (cb .1) .0 e) }
         where
           join : Connected (Without u E) a b → ⊥
           join m = never (connected-trans (Without u E) (A .x) a (A .y) ka (connected-trans (Without u E) a b (A .y) m kb))
 
           round : SameLink u a u b ⊎ OnRing E u a u b → ⊥
           round (inl (inl e)) = join ([], (tt, e .1))
-          round (inl (inr e)) = ends-apart E G u b lb (e .0)
-          round (inr (r, R, h, k)) = join (ring-around E (G .flip) r R u a b (holds-first r u a h) (holds-second r u a h) (holds-second r u b k) (ends-apart E G u a la) (ends-apart E G u b lb))
+          round (inl (inr e)) = ends-apart G u b lb (e .0)
+          round (inr (r, R, h, k)) = join (ring-around E (G .flip) r R u a b (holds-first r u a h) (holds-second r u a h) (holds-second r u b k) (ends-apart G u a la) (ends-apart G u b lb))
 
   pub articulation : Meet E p d cl u ↔ Articulation E u
   articulation = (meet-cut, cut-meet)

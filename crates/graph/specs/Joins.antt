@@ -11,11 +11,11 @@ use Rattle.graph.specs.Blocks.{aux-ring}
 use Rattle.graph.specs.Propagation.{Near, Rounds, Still, still-same, still-classes}
 
 module _
-    (E : ℕ → ℕ → Type 0) (p d root : ℕ → ℕ) (G : Graph E) (F : Forest E p d root)
-    (picked : ℕ → Bool) (n : ℕ) (non-root : (v : ℕ) → (0 < d v) ↔ Picked picked n v)
-    (R : ℕ → ℕ → Type 0) (joins : (v w : ℕ) → Aux E p d v w → R v w × R w v)
+    {E : ℕ → ℕ → Type 0} {p d root : ℕ → ℕ} (G : Graph E) (F : Forest E p d root)
+    {picked : ℕ → Bool} {n : ℕ} (non-root : (v : ℕ) → (0 < d v) ↔ Picked picked n v)
+    {R : ℕ → ℕ → Type 0} (joins : (v w : ℕ) → Aux E p d v w → R v w × R w v)
     (joined : (v w : ℕ) → Picked picked n v → Picked picked n w → R v w → Aux E p d v w ⊎ Aux E p d w v)
-    (val : ℕ → ℕ → ℕ) (rounds : Rounds picked n R val) (k : ℕ) (still : Still picked n val k)
+    {val : ℕ → ℕ → ℕ} (rounds : Rounds picked n R val) (k : ℕ) (still : Still picked n val k)
   where
     both : (v w : ℕ) → Picked picked n v → Picked picked n w → R v w → R w v
     both v w hv hw r = go (joined v w hv hw r)
@@ -37,10 +37,10 @@ module _
       where
         along-aux : (u v : ℕ) → Aux E p d u v → val k u ≡ val k v
         along-aux u v a =
-            let r = aux-ring E p d root G F u v a in
-            still-same picked n R val rounds k still both u v (non-root u .0 (r .0)) (non-root v .0 (r .1)) (joins u v a .0)
+            let r = aux-ring G F u v a in
+            still-same rounds k still both u v (non-root u .0 (r .0)) (non-root v .0 (r .1)) (joins u v a .0)
 
         only-joined : (u v : ℕ) → 0 < d u → 0 < d v → val k u ≡ val k v → Joined E p d u v
         only-joined u v hu hv e =
-            let c = still-classes picked n R val rounds k still both u v (non-root u .0 hu) (non-root v .0 hv) .0 e in
+            let c = still-classes rounds k still both u v (non-root u .0 hu) (non-root v .0 hv) .0 e in
             chain u u v stay (non-root u .0 hu) (c .0) (c .1 .0) (c .1 .1)

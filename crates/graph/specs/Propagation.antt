@@ -33,7 +33,7 @@ pub record Rounds (p : ℕ → Bool) (n : ℕ) (R : ℕ → ℕ → Type 0) (val
 abbrev pub Still : (ℕ → Bool) → ℕ → (ℕ → ℕ → ℕ) → ℕ → Type 0
 Still p n val k = (v : ℕ) → Picked p n v → val (suc k) v ≡ val k v
 
-module _ (p : ℕ → Bool) (n : ℕ) (R : ℕ → ℕ → Type 0) (val : ℕ → ℕ → ℕ) (rounds : Rounds p n R val) where
+module _ {p : ℕ → Bool} {n : ℕ} {R : ℕ → ℕ → Type 0} {val : ℕ → ℕ → ℕ} (rounds : Rounds p n R val) where
   falls : (k v : ℕ) → Picked p n v → val k v ≤ v
   falls zero v h = omega (arith, rounds .start v h)
   falls (suc k) v h = omega (arith, rounds .own k v h, falls k v h)

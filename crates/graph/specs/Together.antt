@@ -10,8 +10,8 @@ use Rattle.graph.specs.Forest.{Graph}
 use Rattle.graph.specs.Turn.{turn, turn-ring, turn-mem, turn-link}
 use Rattle.graph.specs.Splice.{splice, splice-ring}
 
-pub ends-apart : (E : ℕ → ℕ → Type 0) → Graph E → (u v : ℕ) → E u v → u ≢ v
-ends-apart E G u v l e = G .loopless v (subst (λ (z : ℕ). E z v) e l)
+pub ends-apart : {E : ℕ → ℕ → Type 0} → Graph E → (u v : ℕ) → E u v → u ≢ v
+ends-apart {E} G u v l e = G .loopless v (subst (λ (z : ℕ). E z v) e l)
 
 -- one link, or two on a common ring
 abbrev pub Together : (ℕ → ℕ → Type 0) → ℕ → ℕ → ℕ → ℕ → Type 0
@@ -62,7 +62,7 @@ module _ (E F : ℕ → ℕ → Type 0) (more : (u v : ℕ) → E u v → F u v)
 abbrev pub through : ℕ → ℕ → List ℕ → ℕ → ℕ → List ℕ → List ℕ
 through a b r u v q = splice (turn a b r) (turn u v q)
 
-module _ (E : ℕ → ℕ → Type 0) (G : Graph E) where
+module _ {E : ℕ → ℕ → Type 0} (G : Graph E) where
   -- two rings with a common link
   pub through-ring : (r q : List ℕ) → Ring E r → Ring E q → (a b c d u v : ℕ) → Holds r a b → Holds r c d → Holds q c d → Holds q u v
       → (SameLink a b u v → ⊥) → Ring E (through a b r u v q) × Holds (through a b r u v q) a b × Holds (through a b r u v q) u v
@@ -72,7 +72,7 @@ module _ (E : ℕ → ℕ → Type 0) (G : Graph E) where
       let er = turn-link E r R a b ha in
       let eq = turn-link E q Q u v ku in
       let s = splice-ring E (G .flip) r′ q′ (turn-ring E r R a b ha) (turn-ring E q Q u v ku) c d
-      (ends-apart E G c d (ring-link E (G .flip) r R c d hc))
+      (ends-apart G c d (ring-link E (G .flip) r R c d hc))
       (turn-mem E r R a b ha c (holds-first r c d hc)) (turn-mem E q Q u v ku c (holds-first q c d kc))
       (turn-mem E r R a b ha d (holds-second r c d hc)) (turn-mem E q Q u v ku d (holds-second q c d kc))
       (λ e. other (same-trans a b (lastOf r′) (firstOf r′) u v er (same-trans (lastOf r′) (firstOf r′) (lastOf q′) (firstOf q′) u v e (same-flip u v (lastOf q′) (firstOf q′) eq)))) in (

@@ -30,7 +30,7 @@ pub record Top (E : ℕ → ℕ → Type 0) (p d cl : ℕ → ℕ) (c m : ℕ) :
   pub touched : Touches E p d cl c m
   pub nameless : Names d cl c m → ⊥
 
-module _ (E : ℕ → ℕ → Type 0) (p d root cl : ℕ → ℕ) (G : Graph E) (F : Forest E p d root) (C : Classes E p d cl) where
+module _ {E : ℕ → ℕ → Type 0} {p d root cl : ℕ → ℕ} (G : Graph E) (F : Forest E p d root) (C : Classes E p d cl) where
   names? : (c x : ℕ) → Dec (Names d cl c x)
   names? c x = go (decLt 0 (d x)) (ℕ-discrete (cl x) c)
     where
@@ -47,13 +47,13 @@ module _ (E : ℕ → ℕ → Type 0) (p d root cl : ℕ → ℕ) (G : Graph E) 
   top-child c m T =
       let y = T .touched .0 in
       let k = T .touched .1 in
-      let l = class-link E p d root cl G F m y k in
-      let s = side E p d root cl G F (C .along-aux) m y (ends-apart E G m y l) in
-      go y l (s .1) (side-own E p d root cl G F (C .along-aux) m y k (s .1))
+      let l = class-link G F k in
+      let s = side G F (C .along-aux) m y (ends-apart G m y l) in
+      go y l (s .1) (side-own G F (C .along-aux) k (s .1))
     where
       go : (y : ℕ) → E m y → {c′ : ℕ} → Side p d cl m y c′ → c ≡ c′ → (t : ℕ) × (0 < d t) × (p t ≡ m) × (cl t ≡ c)
       go y l (below t h e a) f = (t, h, e, sym f)
-      go y l (beside n) f = absurd (T .nameless (not-top E p d root G F m y l n, sym f))
+      go y l (beside n) f = absurd (T .nameless (not-top G F m y l n, sym f))
 
   root-route : (b x y : ℕ) → Connected (Without b E) x y → root x ≡ root y
   root-route b x y (l, w) = go x l (w .0) (w .1)
@@ -67,13 +67,13 @@ module _ (E : ℕ → ℕ → Type 0) (p d root cl : ℕ → ℕ) (G : Graph E) 
       → (x : ℕ) → Mem x r → m ≢ x → d m < d x
   top-least c m t T h e f r R mm mt x mx n =
       let lt : E m t = subst (λ (z : ℕ). E z t) e (G .flip t (p t) (F .link t h)) in
-      let way = ring-around E (G .flip) r R m t x mm mt mx (ends-apart E G m t lt) n in
-      let s = side E p d root cl G F (C .along-aux) m x n in
-      go way (s .1) (side-route E p d root cl G F (C .along-aux) m t x way (below t h e (self refl)) (s .1))
+      let way = ring-around E (G .flip) r R m t x mm mt mx (ends-apart G m t lt) n in
+      let s = side G F (C .along-aux) m x n in
+      go way (s .1) (side-route G F (C .along-aux) way (below t h e (self refl)) (s .1))
     where
       go : Connected (Without m E) t x → {c′ : ℕ} → Side p d cl m x c′ → cl t ≡ c′ → d m < d x
-      go way (below k hk ek a) g = omega (arith, anc-depth E p d root F a, F .deeper k hk, ap d ek)
-      go way (beside q) g = absurd (q (top-anc E p d root F same zero-depth))
+      go way (below k hk ek a) g = omega (arith, anc-depth F a, F .deeper k hk, ap d ek)
+      go way (beside q) g = absurd (q (top-anc F same zero-depth))
         where
           same : root m ≡ root x
           same = ap root (sym e) ∙ (sym (F .spans t (p t) (F .link t h)) ∙ root-route m t x way)
@@ -94,7 +94,7 @@ module _ (E : ℕ → ℕ → Type 0) (p d root cl : ℕ → ℕ) (G : Graph E) 
           let (t, ht, et, ft) = top-child c m T in
           let (s, hs, es, fs) = top-child c k U in
           absurd (go t ht et ft s hs es fs
-          (class-together E p d root cl G F C t m s k {c = c} {c′ = c} (lower ht et (sym ft)) (lower hs es (sym fs)) refl))
+          (class-together G F C {c = c} {c′ = c} (lower ht et (sym ft)) (lower hs es (sym fs)) refl))
         where
           go : (t : ℕ) → 0 < d t → p t ≡ m → cl t ≡ c → (s : ℕ) → 0 < d s → p s ≡ k → cl s ≡ c → Together E t m s k → ⊥
           go t ht et ft s hs es fs (inl (inl e)) = n (e .1)
@@ -126,7 +126,7 @@ module _ (E : ℕ → ℕ → Type 0) (p d root cl : ℕ → ℕ) (G : Graph E) 
   touched-count n c w touches names k low ht hn =
       let m = top-exists c w k .0 in
       let T = top-exists c w k .1 in
-      let lm : m < n = low m (T .touched .0) (class-link E p d root cl G F m (T .touched .0) (T .touched .1)) in
+      let lm : m < n = low m (T .touched .0) (class-link G F (T .touched .1)) in
       picks-more touches names n m lm (ht m lm .1 (T .touched)) (off (names m) (λ e. T .nameless (hn m lm .0 e))) (λ i l ne. agree m T i l ne (touches i) (names i) refl refl)
     where
       off : (b : Bool) → (b ≡ true → ⊥) → b ≡ false

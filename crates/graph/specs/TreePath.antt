@@ -39,7 +39,7 @@ pub record TreePath (E : ℕ → ℕ → Type 0) (p d : ℕ → ℕ) (x y : ℕ)
   pub above : (z : ℕ) → Mem z (x ∷ l) → Anc p d z x ⊎ Anc p d z y
   pub crosses : (w : ℕ) → 0 < d w → Parts p d w x y → Passes x l w (p w)
 
-module _ (E : ℕ → ℕ → Type 0) (p d root : ℕ → ℕ) (G : Graph E) (F : Forest E p d root) where
+module _ {E : ℕ → ℕ → Type 0} {p d root : ℕ → ℕ} (G : Graph E) (F : Forest E p d root) where
   trivial : (x y : ℕ) → x ≡ y → TreePath E p d x y []
   trivial x y e =
       record {
@@ -56,8 +56,8 @@ module _ (E : ℕ → ℕ → Type 0) (p d root : ℕ → ℕ) (G : Graph E) (F 
       above z (inr h) = absurd h
 
       crosses : (w : ℕ) → 0 < d w → Parts p d w x y → Passes x [] w (p w)
-      crosses w h (inl k) = absurd (k .1 (anc-to p d w e (k .0)))
-      crosses w h (inr k) = absurd (k .0 (anc-to p d w (sym e) (k .1)))
+      crosses w h (inl k) = absurd (k .1 (anc-to e (k .0)))
+      crosses w h (inr k) = absurd (k .0 (anc-to (sym e) (k .1)))
 
   prepend : (x y : ℕ) (l : List ℕ) → 0 < d x → d y ≤ d x → x ≢ y → TreePath E p d (p x) y l → TreePath E p d x y (p x ∷ l)
   prepend x y l h k n T =
@@ -71,8 +71,8 @@ module _ (E : ℕ → ℕ → Type 0) (p d root : ℕ → ℕ) (G : Graph E) (F 
       }
     where
       fresh : Anc p d x (p x) ⊎ Anc p d x y → ⊥
-      fresh (inl a) = omega (arith, anc-depth E p d root F a, F .deeper x h)
-      fresh (inr a) = n (anc-level E p d root F a k)
+      fresh (inl a) = omega (arith, anc-depth F a, F .deeper x h)
+      fresh (inr a) = n (anc-level F a k)
 
       tree : (u v : ℕ) → Step x (p x ∷ l) u v → TreeLink p d u v
       tree u v (inl s) = inl (rw (s .0) h, ap p (s .0) ∙ sym (s .1))
@@ -87,7 +87,7 @@ module _ (E : ℕ → ℕ → Type 0) (p d root : ℕ → ℕ) (G : Graph E) (F 
       above z (inr m) = lift z (T .above z m)
 
       parts : (w : ℕ) → w ≢ x → Parts p d w x y → Parts p d w (p x) y
-      parts w e (inl s) = inl (anc-proper E p d root F (s .0) e .1, s .1)
+      parts w e (inl s) = inl (anc-proper F (s .0) e .1, s .1)
       parts w e (inr s) = inr (λ a. s .0 (up h a), s .1)
 
       later : (w : ℕ) → Passes (p x) l w (p w) → Passes x (p x ∷ l) w (p w)
@@ -110,8 +110,8 @@ module _ (E : ℕ → ℕ → Type 0) (p d root : ℕ → ℕ) (G : Graph E) (F 
       }
     where
       fresh : Anc p d y x ⊎ Anc p d y (p y) → ⊥
-      fresh (inl a) = omega (arith, anc-depth E p d root F a)
-      fresh (inr a) = omega (arith, anc-depth E p d root F a, F .deeper y h)
+      fresh (inl a) = omega (arith, anc-depth F a)
+      fresh (inr a) = omega (arith, anc-depth F a, F .deeper y h)
 
       apart : (z : ℕ) → Mem z (x ∷ l) → Mem z (y ∷ []) → ⊥
       apart z m (inl e) = fresh (T .above y (rw e at m))
@@ -133,7 +133,7 @@ module _ (E : ℕ → ℕ → Type 0) (p d root : ℕ → ℕ) (G : Graph E) (F 
 
       parts : (w : ℕ) → w ≢ y → Parts p d w x y → Parts p d w x (p y)
       parts w e (inl s) = inl (s .0, λ a. s .1 (up h a))
-      parts w e (inr s) = inr (s .0, anc-proper E p d root F (s .1) e .1)
+      parts w e (inr s) = inr (s .0, anc-proper F (s .1) e .1)
 
       earlier : (w : ℕ) → Passes x l w (p w) → Passes x (l ++ y ∷ []) w (p w)
       earlier w (inl s) = inl (step-left x l (y ∷ []) w (p w) s)
@@ -158,7 +158,7 @@ module _ (E : ℕ → ℕ → Type 0) (p d root : ℕ → ℕ) (G : Graph E) (F 
           let n : x ≢ y = eqb-false x y e in
           let c = leb-true (d y) (d x) f in
           let g : 0 < d x = positive (d x) refl c n in
-          prepend x y (treePath p d k (p x) y) g c n (ih (p x) y (omega (arith, F .deeper x g)) (root-up E p d root F x g ∙ r))
+          prepend x y (treePath p d k (p x) y) g c n (ih (p x) y (omega (arith, F .deeper x g)) (root-up F x g ∙ r))
         where
           positive : (i : ℕ) → d x ≡ i → d y ≤ d x → x ≢ y → 0 < d x
           positive zero z c n = absurd (n (top-same x y r z (omega arith)))
@@ -166,15 +166,15 @@ module _ (E : ℕ → ℕ → Type 0) (p d root : ℕ → ℕ) (G : Graph E) (F 
       go false false e f ih =
           let c = leb-false (d y) (d x) f in
           let g : 0 < d y = omega arith in
-          extend x y (treePath p d k x (p y)) g c (ih x (p y) (omega (arith, F .deeper y g)) (r ∙ sym (root-up E p d root F y g)))
+          extend x y (treePath p d k x (p y)) g c (ih x (p y) (omega (arith, F .deeper y g)) (r ∙ sym (root-up F y g)))
 
 -- the ring of a link off the tree: the path between its ends, closed by the link
 abbrev pub fundamental : (ℕ → ℕ) → (ℕ → ℕ) → ℕ → ℕ → List ℕ
 fundamental p d x y = x ∷ treePath p d (d x + d y) x y
 
-module _ (E : ℕ → ℕ → Type 0) (p d root : ℕ → ℕ) (G : Graph E) (F : Forest E p d root) (x y : ℕ) (o : OffTree E p d x y) where
+module _ {E : ℕ → ℕ → Type 0} {p d root : ℕ → ℕ} (G : Graph E) (F : Forest E p d root) {x y : ℕ} (o : OffTree E p d x y) where
   path : TreePath E p d x y (treePath p d (d x + d y) x y)
-  path = treePath-is E p d root G F (d x + d y) x y (omega arith) (F .spans x y (o .link))
+  path = treePath-is G F (d x + d y) x y (omega arith) (F .spans x y (o .link))
 
   pub fundamental-ring : Ring E (fundamental p d x y)
   fundamental-ring =

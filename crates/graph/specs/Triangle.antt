@@ -131,10 +131,10 @@ off-12 = record { link = l12; off = go }
     go (inr h) = let e : _≡_ {A = ℕ} 0 1 = h .1 in omega arith
 
 apart-12 : Anc parent depth 1 2 → ⊥
-apart-12 a = let e : _≡_ {A = ℕ} 1 2 = anc-level Tail parent depth top forest a (omega arith) in omega arith
+apart-12 a = let e : _≡_ {A = ℕ} 1 2 = anc-level forest a (omega arith) in omega arith
 
 apart-21 : Anc parent depth 2 1 → ⊥
-apart-21 a = let e : _≡_ {A = ℕ} 2 1 = anc-level Tail parent depth top forest a (omega arith) in omega arith
+apart-21 a = let e : _≡_ {A = ℕ} 2 1 = anc-level forest a (omega arith) in omega arith
 
 aux-12 : Aux Tail parent depth 1 2
 aux-12 = across off-12 apart-12 apart-21
@@ -142,7 +142,7 @@ aux-12 = across off-12 apart-12 apart-21
 -- and no auxiliary edge along the tree: the link off the tree lies too high
 no-climb : (u v x y : ℕ) → 0 < depth u → parent u ≡ v → 0 < depth v → OffTree Tail parent depth x y → Anc parent depth u y → ⊥
 no-climb u v x y h e k o a =
-    omega (arith, anc-depth Tail parent depth top forest a, off-tree (λ i j. depth j ≡ 1) refl refl x y o, forest .deeper u h, ap depth e)
+    omega (arith, anc-depth forest a, off-tree (λ i j. depth j ≡ 1) refl refl x y o, forest .deeper u h, ap depth e)
 
 classes : Classes Tail parent depth class
 classes = record { along-aux = along-aux; only-joined = only-joined }
@@ -182,32 +182,32 @@ class-23 = upper (omega arith) refl refl
 
 -- what the theorems then say of it: a ring holds 0-1 and 1-2, none holds 2-3, and 2 is an articulation point
 ring-of : OnRing Tail 0 1 1 2
-ring-of = blocks-other Tail parent depth top class graph forest classes 0 1 1 2 other class-01 class-12 .0 refl
+ring-of = blocks-other graph forest classes other class-01 class-12 .0 refl
   where
     other : SameLink 0 1 1 2 → ⊥
     other (inl h) = let e : _≡_ {A = ℕ} 0 1 = h .0 in omega arith
     other (inr h) = let e : _≡_ {A = ℕ} 0 2 = h .0 in omega arith
 
 lone-tail : (r : List ℕ) → Ring Tail r → Holds r 2 3 → ⊥
-lone-tail = bridge Tail parent depth top class graph forest classes 2 3 class-23 .0 alone
+lone-tail = bridge graph forest classes class-23 .0 alone
   where
     alone : Alone Tail parent depth class 2 3 3
     alone x y c l h e =
         links (λ u v. ClassOf Tail parent depth class u v c → SameLink 2 3 u v)
-        (other 0 1 class-01) (other 1 0 (flipped 0 1 class-01)) (other 1 2 class-12) (other 2 1 (flipped 1 2 class-12))
-        (other 0 2 (flipped 2 0 class-20)) (other 2 0 class-20) (λ k. inl (refl, refl)) (λ k. inr (refl, refl)) x y l h
+        (other 0 1 class-01) (other 1 0 (flipped class-01)) (other 1 2 class-12) (other 2 1 (flipped class-12))
+        (other 0 2 (flipped class-20)) (other 2 0 class-20) (λ k. inl (refl, refl)) (λ k. inr (refl, refl)) x y l h
       where
-        flipped : (u v : ℕ) {k : ℕ} → ClassOf Tail parent depth class u v k → ClassOf Tail parent depth class v u k
-        flipped = class-flip Tail parent depth top class graph forest (classes .along-aux)
+        flipped : {u v k : ℕ} → ClassOf Tail parent depth class u v k → ClassOf Tail parent depth class v u k
+        flipped = class-flip graph forest (classes .along-aux)
 
         other : (u v : ℕ) → ClassOf Tail parent depth class u v 1 → ClassOf Tail parent depth class u v c → SameLink 2 3 u v
         other u v a b =
-            let f : 1 ≡ c = class-unique Tail parent depth top class graph forest (classes .along-aux) u v (class-link Tail parent depth top class graph forest u v a) a b in
+            let f : 1 ≡ c = class-unique graph forest (classes .along-aux) (class-link graph forest a) a b in
             absurd (omega arith)
 
 cut-two : Articulation Tail 2
 cut-two =
-    articulation Tail parent depth top class graph forest classes 2 .0
+    articulation graph forest classes .0
     (record { a = 0; b = 3; class-a = 1; class-b = 3; first = class-20; second = class-23; differ = omega arith })
 
 -- the functions compute: the ring of the link off the tree, and two squares with a common link made one
@@ -310,12 +310,12 @@ class-rounds = record { start = λ v h. refl; own = own; near = near; attained =
 
 spread-classes : Classes Tail parent depth class
 spread-classes =
-    classes-by-rounds Tail parent depth top graph forest non-root 4 in-range Joins (λ v w a. (inl a, inr a)) (λ v w hv hw j. j) spread class-rounds 1
+    classes-by-rounds graph forest in-range (λ v w a. (inl a, inr a)) (λ v w hv hw j. j) class-rounds 1
     (λ v h. refl)
 
 -- class 1 touches 0, 1, 2 and has the tree links of 1 and 2
 touched : picks (λ x. ltb x 3) 4 ≡ suc (picks (λ x. non-root x && eqb (class x) 1) 4)
-touched = touched-count Tail parent depth top class graph forest classes 4 1 1 (λ x. ltb x 3) (λ x. non-root x && eqb (class x) 1)
+touched = touched-count graph forest classes 4 1 1 (λ x. ltb x 3) (λ x. non-root x && eqb (class x) 1)
     (omega arith, refl) low touches names
   where
     low : (u v : ℕ) → Tail u v → u < 4
