@@ -6,10 +6,10 @@ use mathlib.Core.List.{List, [], _∷_}
 use Prim.Native.Nat.{ℕ, zero, suc, _<_}
 use native.Mathlib.Omega.{arith}
 use Rattle.lists.specs.Members.{Mem}
-use Rattle.graph.specs.Rings.{last, lastOf, firstOf, Ring, Holds, OnRing, SameLink}
+use Rattle.graph.specs.Rings.{Graph, last, lastOf, firstOf, Ring, Holds, OnRing, SameLink}
 use Rattle.graph.specs.Walks.{last-mem}
 use Rattle.graph.specs.Turn.{turn, turn-ring, turn-link}
-use Rattle.graph.specs.Forest.{Graph, Forest, Anc, self, up, Aux, across, along, Joined, stay, on, back, Classes, ClassOf, lower, upper, first, second}
+use Rattle.graph.specs.Forest.{Forest, Anc, self, up, Aux, across, along, Joined, stay, on, back, Classes, ClassOf, lower, upper, first, second}
 use Rattle.graph.specs.Ancestors.{anc-trans, top-anc}
 use Rattle.graph.specs.TreePath.{fundamental, fundamental-ring, fundamental-link, fundamental-tree}
 use Rattle.graph.specs.Together.{Together, together-trans, together-flip, same-flip, same-trans, holds-same, ring-link}
@@ -141,10 +141,10 @@ module _ {E : ℕ → ℕ → Type 0} {p d root cl : ℕ → ℕ} (G : Graph E) 
       there : Alone E p d cl u v c → (r : List ℕ) → Ring E r → Holds r u v → ⊥
       there alone r R q =
           let t = turn u v r in
-          let T = turn-ring E r R u v q in
-          let s = turn-link E r R u v q in
+          let T = turn-ring R u v q in
+          let s = turn-link R u v q in
           let (x, y, h0, hx, n) = other-link E t T in
-          let lxy = ring-link E (G .flip) t T x y hx in
+          let lxy = ring-link G T x y hx in
           let m = class-exists G F (C .along-aux) x y lxy in
           let hu = holds-same t (lastOf t) (firstOf t) u v (same-flip u v (lastOf t) (firstOf t) s) h0 in
           let e = ring-class G F (C .along-aux) T hu hx h (m .1) in

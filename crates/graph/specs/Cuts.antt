@@ -4,10 +4,10 @@ use mathlib.Core.Logic.{_⊎_, inl, inr, _≢_, _↔_}
 use mathlib.Core.List.{List, [], _∷_}
 use Prim.Native.Nat.{ℕ}
 use native.Mathlib.Decide.{ℕ-discrete}
-use Rattle.graph.specs.Rings.{last, Walk, OnRing, SameLink, Connected, Articulation}
+use Rattle.graph.specs.Rings.{Graph, last, Walk, OnRing, SameLink, Connected, Articulation}
 use Rattle.graph.specs.Walks.{holds-first, holds-second}
 use Rattle.graph.specs.Routes.{Without, connected-refl, connected-link, connected-trans, avoiding, avoided, ring-around}
-use Rattle.graph.specs.Forest.{Graph, Forest, Classes, ClassOf}
+use Rattle.graph.specs.Forest.{Forest, Classes, ClassOf}
 use Rattle.graph.specs.Together.{ends-apart}
 use Rattle.graph.specs.Sides.{class-link, class-same, class-exists, class-at}
 use Rattle.graph.specs.Blocks.{blocks}
@@ -93,7 +93,7 @@ module _ {E : ℕ → ℕ → Type 0} {p d root cl : ℕ → ℕ} (G : Graph E) 
           round : SameLink u a u b ⊎ OnRing E u a u b → ⊥
           round (inl (inl e)) = join ([], (tt, e .1))
           round (inl (inr e)) = ends-apart G u b lb (e .0)
-          round (inr (r, R, h, k)) = join (ring-around E (G .flip) r R u a b (holds-first r u a h) (holds-second r u a h) (holds-second r u b k) (ends-apart G u a la) (ends-apart G u b lb))
+          round (inr (r, R, h, k)) = join (ring-around G R u a b (holds-first r u a h) (holds-second r u a h) (holds-second r u b k) (ends-apart G u a la) (ends-apart G u b lb))
 
   pub articulation : Meet E p d cl u ↔ Articulation E u
   articulation = (meet-cut, cut-meet)

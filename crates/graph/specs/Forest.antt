@@ -3,11 +3,6 @@ use mathlib.Core.Path.{_≡_}
 use mathlib.Core.Logic.{_⊎_}
 use Prim.Native.Nat.{ℕ, suc, _<_}
 
--- Links join different vertices, both ways.
-pub record Graph (E : ℕ → ℕ → Type 0) : Type 0 where
-  pub flip : (u v : ℕ) → E u v → E v u
-  pub loopless : (u : ℕ) → E u u → ⊥
-
 -- p is the parent and d the depth of a vertex, root the vertex of depth 0 above it. A root has no parent (its p is not
 -- read), and a number that is no vertex is a root with no link.
 pub record Forest (E : ℕ → ℕ → Type 0) (p d root : ℕ → ℕ) : Type 0 where

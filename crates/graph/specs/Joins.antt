@@ -5,8 +5,8 @@ use mathlib.Core.Bool.{Bool}
 use mathlib.Core.List.{List, [], _∷_}
 use Prim.Native.Nat.{ℕ, _<_}
 use Rattle.lists.specs.Pigeonhole.{Picked}
-use Rattle.graph.specs.Rings.{last, Walk}
-use Rattle.graph.specs.Forest.{Graph, Forest, Aux, Joined, stay, on, back, Classes}
+use Rattle.graph.specs.Rings.{Graph, last, Walk}
+use Rattle.graph.specs.Forest.{Forest, Aux, Joined, stay, on, back, Classes}
 use Rattle.graph.specs.Blocks.{aux-ring}
 use Rattle.graph.specs.Propagation.{Near, Rounds, Still, still-same, still-classes}
 

@@ -6,6 +6,11 @@ use Prim.Native.Nat.{ℕ, zero, _≤_}
 use lib.ListN.{length}
 use Rattle.lists.specs.Members.{Distinct}
 
+-- links join different vertices, both ways
+pub record Graph (E : ℕ → ℕ → Type 0) : Type 0 where
+  pub flip : (u v : ℕ) → E u v → E v u
+  pub loopless : (u : ℕ) → E u u → ⊥
+
 -- the last vertex of the chain that starts at a and goes through the list
 abbrev pub last : ℕ → List ℕ → ℕ
 last a [] = a

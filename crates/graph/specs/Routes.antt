@@ -6,7 +6,7 @@ use Prim.Native.Nat.{ℕ, suc, _≤_}
 use native.Mathlib.Omega.{arith}
 use lib.ListN.{length, length-append}
 use Rattle.lists.specs.Members.{Mem, mem?, Distinct, mem-split, mem-cases, mem-right, mem-left, distinct-swap, distinct-right}
-use Rattle.graph.specs.Rings.{last, Walk, lastOf, Ring, Route, Avoids, Connected}
+use Rattle.graph.specs.Rings.{Graph, last, Walk, lastOf, Ring, Route, Avoids, Connected}
 use Rattle.graph.specs.Walks.{last-append, walk-join, walk-left, walk-right, walk-map, walk-step, ring-closed, lastOf-split}
 
 -- the links that do not end at u
@@ -90,18 +90,19 @@ module _ (E : ℕ → ℕ → Type 0) where
       let k = connected-along u b l (w .1) (λ x. h (inr x)) z m in
       (b ∷ k .0, (((w .0, λ e. h (inl e), λ e. h (inr (inl e))), k .1 .0), k .1 .1))
 
+module _ {E : ℕ → ℕ → Type 0} (G : Graph E) where
   -- two vertices of a ring, other than u of it: the rest of the ring connects them
-  pub ring-around : ((v w : ℕ) → E v w → E w v) → (r : List ℕ) → Ring E r → (u a b : ℕ) → Mem u r → Mem a r → Mem b r → u ≢ a → u ≢ b
+  pub ring-around : {r : List ℕ} → Ring E r → (u a b : ℕ) → Mem u r → Mem a r → Mem b r → u ≢ a → u ≢ b
       → Connected (Without u E) a b
-  ring-around flip r R u a b mu ma mb na nb = go (mem-split u r mu)
+  ring-around {r} R u a b mu ma mb na nb = go (mem-split u r mu)
     where
       flipped : (v w : ℕ) → Without u E v w → Without u E w v
-      flipped v w h = (flip v w (h .0), h .2, h .1)
+      flipped v w h = (G .flip v w (h .0), h .2, h .1)
 
       round : (l : List ℕ) → Walk E u l → (Mem u l → ⊥) → Mem a l → Mem b l → Connected (Without u E) a b
       round [] w h m k = absurd m
       round (c ∷ l) w h m k =
-          connected-trans (Without u E) a c b (connected-sym (Without u E) flipped c a (connected-along u c l (w .1) h a m)) (connected-along u c l (w .1) h b k)
+          connected-trans (Without u E) a c b (connected-sym (Without u E) flipped c a (connected-along E u c l (w .1) h a m)) (connected-along E u c l (w .1) h b k)
 
       other : (s t : List ℕ) (z : ℕ) → u ≢ z → Mem z (s ++ u ∷ t) → Mem z (t ++ s)
       other s t z n m = cases (mem-cases z s (u ∷ t) m)
@@ -116,7 +117,7 @@ module _ (E : ℕ → ℕ → Type 0) where
           let s = k .0 in
           let t = k .1 in
           let e : r ≡ s ++ u ∷ t = k .2 in
-          let w : Walk E (lastOf (s ++ u ∷ t)) (s ++ u ∷ t) = rw e at (ring-closed E r R) in
+          let w : Walk E (lastOf (s ++ u ∷ t)) (s ++ u ∷ t) = rw e at (ring-closed R) in
           let d : Distinct (s ++ u ∷ t) = rw e at (R .different) in
           let before : Walk E (last u t) s = rw (lastOf-split s u t) at (walk-left E (lastOf (s ++ u ∷ t)) s (u ∷ t) w) in
           let after : Walk E u t = walk-right E (lastOf (s ++ u ∷ t)) s (u ∷ t) w .1 in

@@ -6,10 +6,10 @@ use mathlib.Core.List.{List, [], _∷_}
 use Prim.Native.Nat.{ℕ, zero, suc, _≤_, _<_}
 use native.Mathlib.Decide.{ℕ-discrete}
 use native.Mathlib.Omega.{arith}
-use Rattle.graph.specs.Rings.{last, Walk, Step, lastOf, Ring, Follows, Holds, Connected, SameLink}
+use Rattle.graph.specs.Rings.{Graph, last, Walk, Step, lastOf, Ring, Follows, Holds, Connected, SameLink}
 use Rattle.graph.specs.Walks.{follows-step, step-follows, follows-from, follows-to}
 use Rattle.graph.specs.Routes.{Without, ring-around}
-use Rattle.graph.specs.Forest.{Graph, Forest, Anc, self, up, TreeLink, OffTree, Aux, across, along, ClassOf, lower, upper, first, second}
+use Rattle.graph.specs.Forest.{Forest, Anc, self, up, TreeLink, OffTree, Aux, across, along, ClassOf, lower, upper, first, second}
 use Rattle.graph.specs.Together.{ends-apart, ring-link}
 use Rattle.graph.specs.Ancestors.{anc-of, anc-trans, anc-depth, anc-level, anc-order, anc?, anc-child, root-along, top-anc, tree?, tree-anc, leaves-off}
 
@@ -161,18 +161,18 @@ module _ {E : ℕ → ℕ → Type 0} {p d root cl : ℕ → ℕ} (G : Graph E) 
     -- two links that follow one another on the ring
     turn-class : {a b w c c′ : ℕ} → Follows r a b → Follows r b w → ClassOf E p d cl a b c → ClassOf E p d cl b w c′ → c ≡ c′
     turn-class {a} {b} {w} h k x y =
-        let ba = G .flip a b (ring-link E (G .flip) r R a b (inl h)) in
-        let bw = ring-link E (G .flip) r R b w (inl k) in
-        let way = ring-around E (G .flip) r R b a w (follows-to r a b h) (follows-from r a b h) (follows-to r b w k) (ends-apart G b a ba) (ends-apart G b w bw) in
+        let ba = G .flip a b (ring-link G R a b (inl h)) in
+        let bw = ring-link G R b w (inl k) in
+        let way = ring-around G R b a w (follows-to r a b h) (follows-from r a b h) (follows-to r b w k) (ends-apart G b a ba) (ends-apart G b w bw) in
         class-at ba bw way (class-flip x) y
 
     class-along : (a b : ℕ) (l : List ℕ) → ((u v : ℕ) → Step a (b ∷ l) u v → Follows r u v) → {c : ℕ} → ClassOf E p d cl a b c
         → (u v : ℕ) → Step a (b ∷ l) u v → {c′ : ℕ} → ClassOf E p d cl u v c′ → c ≡ c′
-    class-along a b [] on h u v (inl s) k = class-same (ring-link E (G .flip) r R a b (inl (on a b (inl (refl, refl))))) (inl (sym (s .0), sym (s .1))) h k
+    class-along a b [] on h u v (inl s) k = class-same (ring-link G R a b (inl (on a b (inl (refl, refl))))) (inl (sym (s .0), sym (s .1))) h k
     class-along a b [] on h u v (inr s) k = absurd s
-    class-along a b (w ∷ l) on h u v (inl s) k = class-same (ring-link E (G .flip) r R a b (inl (on a b (inl (refl, refl))))) (inl (sym (s .0), sym (s .1))) h k
+    class-along a b (w ∷ l) on h u v (inl s) k = class-same (ring-link G R a b (inl (on a b (inl (refl, refl))))) (inl (sym (s .0), sym (s .1))) h k
     class-along a b (w ∷ l) on h u v (inr s) k =
-        let m = class-exists b w (ring-link E (G .flip) r R b w (inl (on b w (inr (inl (refl, refl)))))) in
+        let m = class-exists b w (ring-link G R b w (inl (on b w (inr (inl (refl, refl)))))) in
         turn-class (on a b (inl (refl, refl))) (on b w (inr (inl (refl, refl)))) h (m .1)
         ∙ class-along b w l (λ x y q. on x y (inr q)) (m .1) u v s k
 

@@ -11,7 +11,7 @@ use lib.ListN.{length, length-append}
 use borrow.Author.Tests.{eqb-true, eqb-false, eq-eqb}
 use Rattle.lists.specs.Members.{Mem, Distinct, Disjoint, mem-left, mem-right, mem-cases, mem-reverse, distinct-left, distinct-right, distinct-apart, distinct-join, distinct-reverse}
 use Rattle.lists.specs.Parts.{some, before, after, firstOn, lastOn, past, memb, some-of, first-split, first-on, before-off, last-split, last-on, past-off, memb-mem, mem-memb}
-use Rattle.graph.specs.Rings.{last, Walk, Step, lastOf, firstOf, Ring, Follows, Holds, SameLink}
+use Rattle.graph.specs.Rings.{Graph, last, Walk, Step, lastOf, firstOf, Ring, Follows, Holds, SameLink}
 use Rattle.graph.specs.Walks.{last-append, lastOf-split, walk-join, walk-left, walk-right, walk-back, ring-closed, closed-ring, step-left, step-right, step-back, step-follows}
 
 -- Of a ring, read from its first vertex to its last: the first and the last vertex that pass a test, and what lies outside
@@ -50,7 +50,7 @@ module _ (E : ℕ → ℕ → Type 0) (on : ℕ → Bool) where
       let d : Distinct (B ++ x ∷ A) = R .different in
       let dA : Distinct (x ∷ A) = distinct-right B (x ∷ A) d in
       let e : lastOf (B ++ x ∷ A) ≡ last y P = lastOf-split B x A ∙ last-append x M (y ∷ P) in
-      let c : Walk E (last y P) (B ++ x ∷ A) = rw e at (ring-closed E (B ++ x ∷ A) R) in
+      let c : Walk E (last y P) (B ++ x ∷ A) = rw e at (ring-closed R) in
       let right : Walk E (last (last y P) B) (x ∷ A) = walk-right E (last y P) B (x ∷ A) c in
       let in-P : (v : ℕ) → Mem v P → Mem v (x ∷ A) = λ v h. inr (mem-right v M (y ∷ P) (inr h)) in
       record {
@@ -145,7 +145,7 @@ record Arc (E : ℕ → ℕ → Type 0) (r : List ℕ) (s t : ℕ) (a : List ℕ
   way : Walk E s (a ++ t ∷ [])
   over : Step s (a ++ t ∷ []) (lastOf r) (firstOf r) ⊎ Step s (a ++ t ∷ []) (firstOf r) (lastOf r)
 
-module _ (E : ℕ → ℕ → Type 0) (flip : (u v : ℕ) → E u v → E v u) where
+module _ {E : ℕ → ℕ → Type 0} (G : Graph E) where
   arc-of : (s t : ℕ) (r : List ℕ) → Ring E r → s ≢ t → Mem s r → Mem t r → Arc E r s t (arc s t r)
   arc-of s t r R n ms mt = go (enter on r) (leave on r) (outer on r) (outer-of E on r R s t n ms mt (either-first s t) (either-second s t))
     where
@@ -175,7 +175,7 @@ module _ (E : ℕ → ℕ → Type 0) (flip : (u v : ℕ) → E u v → E v u) w
                 not-first = λ m. O .off s (mem-reverse s o m) (either-first s t);
                 not-last = λ m. O .off t (mem-reverse t o m) (either-second s t);
                 different = distinct-reverse o (O .different);
-                way = walk-back E flip t o s (rw (h, k) at (O .way));
+                way = walk-back E (G .flip) t o s (rw (h, k) at (O .way));
                 over = inr (step-back t o s (lastOf r) (firstOf r) (rw (h, k) at (O .over)));
               }
 
@@ -187,7 +187,7 @@ module _ (E : ℕ → ℕ → Type 0) (t s : ℕ) (o a : List ℕ) where
   two-ways : Walk E t (o ++ s ∷ []) → Walk E s (a ++ t ∷ []) → Distinct o → Distinct a → Disjoint o a → s ≢ t
       → (Mem s o → ⊥) → (Mem t o → ⊥) → (Mem s a → ⊥) → (Mem t a → ⊥) → 1 ≤ length o + length a → Ring E ((o ++ s ∷ []) ++ (a ++ t ∷ []))
   two-ways wo wa fo fa apart n so to sa ta h =
-      closed-ring E ((o ++ s ∷ []) ++ (a ++ t ∷ []))
+      closed-ring ((o ++ s ∷ []) ++ (a ++ t ∷ []))
       (omega (arith, length-append (o ++ s ∷ []) (a ++ t ∷ []), length-append o (s ∷ []), length-append a (t ∷ [])))
       (distinct-join (o ++ s ∷ []) (a ++ t ∷ []) (one s o fo so) (one t a fa ta) both)
       (rw two-last (walk-join E t (o ++ s ∷ []) (a ++ t ∷ []) wo (rw (last-append t o (s ∷ [])) wa)))
@@ -219,16 +219,16 @@ module _ (E : ℕ → ℕ → Type 0) (t s : ℕ) (o a : List ℕ) where
   two-second u v h =
       step-follows ((o ++ s ∷ []) ++ (a ++ t ∷ [])) u v (rw two-last (step-right t (o ++ s ∷ []) (a ++ t ∷ []) u v (rw (last-append t o (s ∷ [])) h)))
 
-module _ (E : ℕ → ℕ → Type 0) (flip : (u v : ℕ) → E u v → E v u) where
-  pub splice-ring : (r q : List ℕ) → Ring E r → Ring E q → (z w : ℕ) → z ≢ w → Mem z r → Mem z q → Mem w r → Mem w q
+module _ {E : ℕ → ℕ → Type 0} (G : Graph E) where
+  pub splice-ring : {r q : List ℕ} → Ring E r → Ring E q → (z w : ℕ) → z ≢ w → Mem z r → Mem z q → Mem w r → Mem w q
       → (SameLink (lastOf r) (firstOf r) (lastOf q) (firstOf q) → ⊥)
       → Ring E (splice r q) × Holds (splice r q) (lastOf r) (firstOf r) × Holds (splice r q) (lastOf q) (firstOf q)
-  splice-ring r q R Q z w n rz qz rw′ qw other =
+  splice-ring {r} {q} R Q z w n rz qz rw′ qw other =
       go (enter (memb r) q) (leave (memb r) q) (outer (memb r) q) (outer-of E (memb r) q Q z w n qz qw (mem-memb r z rz) (mem-memb r w rw′))
     where
       go : (s t : ℕ) (o : List ℕ) → Outer E (memb r) q s t o
           → let k = (o ++ s ∷ []) ++ (arc s t r ++ t ∷ []) in Ring E k × Holds k (lastOf r) (firstOf r) × Holds k (lastOf q) (firstOf q)
-      go s t o O = both (arc s t r) (arc-of E flip s t r R (O .apart) (memb-mem r s (O .enters)) (memb-mem r t (O .leaves)))
+      go s t o O = both (arc s t r) (arc-of G s t r R (O .apart) (memb-mem r s (O .enters)) (memb-mem r t (O .leaves)))
         where
           -- ear and arc are not both a link alone: those would be one link
           long : (o′ a′ : List ℕ) → Step t (o′ ++ s ∷ []) (lastOf q) (firstOf q)

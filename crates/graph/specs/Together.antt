@@ -4,9 +4,8 @@ use mathlib.Core.Logic.{_⊎_, inl, inr, _≢_}
 use mathlib.Core.List.{List, [], _∷_}
 use Prim.Native.Nat.{ℕ}
 use native.Mathlib.Decide.{ℕ-discrete}
-use Rattle.graph.specs.Rings.{lastOf, firstOf, Ring, Holds, OnRing, SameLink}
+use Rattle.graph.specs.Rings.{Graph, lastOf, firstOf, Ring, Holds, OnRing, SameLink}
 use Rattle.graph.specs.Walks.{walk-step, walk-map, ring-closed, follows-step, holds-first, holds-second, holds-flip}
-use Rattle.graph.specs.Forest.{Graph}
 use Rattle.graph.specs.Turn.{turn, turn-ring, turn-mem, turn-link}
 use Rattle.graph.specs.Splice.{splice, splice-ring}
 
@@ -44,9 +43,9 @@ pub holds-same : (r : List ℕ) (u v x y : ℕ) → SameLink u v x y → Holds r
 holds-same r u v x y (inl e) h = subst₂ (λ (a b : ℕ). Holds r a b) (e .0) (e .1) h
 holds-same r u v x y (inr e) h = subst₂ (λ (a b : ℕ). Holds r a b) (e .1) (e .0) (holds-flip r u v h)
 
-pub ring-link : (E : ℕ → ℕ → Type 0) → ((u v : ℕ) → E u v → E v u) → (r : List ℕ) → Ring E r → (u v : ℕ) → Holds r u v → E u v
-ring-link E flip r R u v (inl h) = walk-step E (lastOf r) r (ring-closed E r R) u v (follows-step r u v h)
-ring-link E flip r R u v (inr h) = flip v u (walk-step E (lastOf r) r (ring-closed E r R) v u (follows-step r v u h))
+pub ring-link : {E : ℕ → ℕ → Type 0} → Graph E → {r : List ℕ} → Ring E r → (u v : ℕ) → Holds r u v → E u v
+ring-link {E} G {r} R u v (inl h) = walk-step E (lastOf r) r (ring-closed R) u v (follows-step r u v h)
+ring-link {E} G {r} R u v (inr h) = G .flip v u (walk-step E (lastOf r) r (ring-closed R) v u (follows-step r v u h))
 
 -- more links, more rings
 module _ (E F : ℕ → ℕ → Type 0) (more : (u v : ℕ) → E u v → F u v) where
@@ -64,17 +63,17 @@ through a b r u v q = splice (turn a b r) (turn u v q)
 
 module _ {E : ℕ → ℕ → Type 0} (G : Graph E) where
   -- two rings with a common link
-  pub through-ring : (r q : List ℕ) → Ring E r → Ring E q → (a b c d u v : ℕ) → Holds r a b → Holds r c d → Holds q c d → Holds q u v
+  pub through-ring : {r q : List ℕ} → Ring E r → Ring E q → (a b c d u v : ℕ) → Holds r a b → Holds r c d → Holds q c d → Holds q u v
       → (SameLink a b u v → ⊥) → Ring E (through a b r u v q) × Holds (through a b r u v q) a b × Holds (through a b r u v q) u v
-  through-ring r q R Q a b c d u v ha hc kc ku other =
+  through-ring {r} {q} R Q a b c d u v ha hc kc ku other =
       let r′ = turn a b r in
       let q′ = turn u v q in
-      let er = turn-link E r R a b ha in
-      let eq = turn-link E q Q u v ku in
-      let s = splice-ring E (G .flip) r′ q′ (turn-ring E r R a b ha) (turn-ring E q Q u v ku) c d
-      (ends-apart G c d (ring-link E (G .flip) r R c d hc))
-      (turn-mem E r R a b ha c (holds-first r c d hc)) (turn-mem E q Q u v ku c (holds-first q c d kc))
-      (turn-mem E r R a b ha d (holds-second r c d hc)) (turn-mem E q Q u v ku d (holds-second q c d kc))
+      let er = turn-link R a b ha in
+      let eq = turn-link Q u v ku in
+      let s = splice-ring G (turn-ring R a b ha) (turn-ring Q u v ku) c d
+      (ends-apart G c d (ring-link G R c d hc))
+      (turn-mem R a b ha c (holds-first r c d hc)) (turn-mem Q u v ku c (holds-first q c d kc))
+      (turn-mem R a b ha d (holds-second r c d hc)) (turn-mem Q u v ku d (holds-second q c d kc))
       (λ e. other (same-trans a b (lastOf r′) (firstOf r′) u v er (same-trans (lastOf r′) (firstOf r′) (lastOf q′) (firstOf q′) u v e (same-flip u v (lastOf q′) (firstOf q′) eq)))) in (
         s .0,
         holds-same (through a b r u v q) (lastOf r′) (firstOf r′) a b (same-flip a b (lastOf r′) (firstOf r′) er) (s .1),
@@ -89,7 +88,7 @@ module _ {E : ℕ → ℕ → Type 0} (G : Graph E) where
     where
       go : Dec (SameLink a b u v) → Together E a b u v
       go (yes h) = inl h
-      go (no h) = let t = through-ring r q R Q a b c d u v ha hc kc ku h in inr (through a b r u v q, t .0, t .1, t .2)
+      go (no h) = let t = through-ring R Q a b c d u v ha hc kc ku h in inr (through a b r u v q, t .0, t .1, t .2)
 
 pub together-flip : (E : ℕ → ℕ → Type 0) (u v x y : ℕ) → Together E u v x y → Together E x y u v
 together-flip E u v x y (inl h) = inl (same-flip u v x y h)

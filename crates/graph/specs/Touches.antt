@@ -8,10 +8,10 @@ use native.Mathlib.Decide.{ℕ-discrete, decLt}
 use native.Mathlib.Omega.{arith}
 use Rattle.lists.specs.Members.{Mem}
 use Rattle.lists.specs.Pigeonhole.{picks, picks-more}
-use Rattle.graph.specs.Rings.{last, Walk, Ring, Connected}
+use Rattle.graph.specs.Rings.{Graph, last, Walk, Ring, Connected}
 use Rattle.graph.specs.Walks.{holds-first, holds-second}
 use Rattle.graph.specs.Routes.{Without, ring-around}
-use Rattle.graph.specs.Forest.{Graph, Forest, self, Classes, ClassOf, lower, upper}
+use Rattle.graph.specs.Forest.{Forest, self, Classes, ClassOf, lower, upper}
 use Rattle.graph.specs.Ancestors.{anc-depth, top-anc}
 use Rattle.graph.specs.Together.{Together, ends-apart}
 use Rattle.graph.specs.Sides.{Side, below, beside, side, side-route, side-own, class-link}
@@ -67,7 +67,7 @@ module _ {E : ℕ → ℕ → Type 0} {p d root cl : ℕ → ℕ} (G : Graph E) 
       → (x : ℕ) → Mem x r → m ≢ x → d m < d x
   top-least c m t T h e f r R mm mt x mx n =
       let lt : E m t = subst (λ (z : ℕ). E z t) e (G .flip t (p t) (F .link t h)) in
-      let way = ring-around E (G .flip) r R m t x mm mt mx (ends-apart G m t lt) n in
+      let way = ring-around G R m t x mm mt mx (ends-apart G m t lt) n in
       let s = side G F (C .along-aux) m x n in
       go way (s .1) (side-route G F (C .along-aux) way (below t h e (self refl)) (s .1))
     where

@@ -10,9 +10,9 @@ use lib.Dec.{eqb, leb}
 use lib.ListN.{length}
 use borrow.Author.Tests.{eqb-true, eqb-false, leb-true, leb-false}
 use Rattle.lists.specs.Members.{Mem, Distinct, mem-cases, distinct-join}
-use Rattle.graph.specs.Rings.{last, Walk, Step, Ring, Holds}
+use Rattle.graph.specs.Rings.{Graph, last, Walk, Step, Ring, Holds}
 use Rattle.graph.specs.Walks.{last-append, walk-join, step-left, step-right, step-cases}
-use Rattle.graph.specs.Forest.{Graph, Forest, Anc, self, up, TreeLink, OffTree}
+use Rattle.graph.specs.Forest.{Forest, Anc, self, up, TreeLink, OffTree}
 use Rattle.graph.specs.Ancestors.{anc-to, anc-depth, anc-level, anc-proper, root-up}
 
 -- from x to y up and down the tree, without x: step up from the deeper end. The first number bounds the steps.

@@ -8,8 +8,8 @@ use native.Mathlib.Omega.{arith}
 use lib.Dec.{ltb, eqb}
 use borrow.Author.Tests.{lt-ltb, ltb-true}
 use Rattle.lists.specs.Pigeonhole.{picks, Picked}
-use Rattle.graph.specs.Rings.{Ring, Holds, OnRing, SameLink, Articulation}
-use Rattle.graph.specs.Forest.{Graph, Forest, Anc, TreeLink, OffTree, Aux, across, along, Joined, stay, on, back, Classes, ClassOf, lower, upper, first, second}
+use Rattle.graph.specs.Rings.{Graph, Ring, Holds, OnRing, SameLink, Articulation}
+use Rattle.graph.specs.Forest.{Forest, Anc, TreeLink, OffTree, Aux, across, along, Joined, stay, on, back, Classes, ClassOf, lower, upper, first, second}
 use Rattle.graph.specs.Ancestors.{anc-depth, anc-level}
 use Rattle.graph.specs.TreePath.{fundamental}
 use Rattle.graph.specs.Together.{through}

@@ -31,13 +31,13 @@ pub rotate-mem : (b : ℕ) (r : List ℕ) → Mem b r → (z : ℕ) → Mem z r 
 rotate-mem b r m z h =
     mem-swap z (before (λ z. eqb z b) r) (b ∷ after (λ z. eqb z b) r) (subst (λ (l : List ℕ). Mem z l) (rotate-split b r m) h)
 
-module _ (E : ℕ → ℕ → Type 0) (r : List ℕ) (R : Ring E r) where
+module _ {E : ℕ → ℕ → Type 0} {r : List ℕ} (R : Ring E r) where
   pub rotate-ring : (b : ℕ) → Mem b r → Ring E (rotate b r)
   rotate-ring b m = go (before (λ z. eqb z b) r) (after (λ z. eqb z b) r) (rotate-split b r m)
     where
       go : (s t : List ℕ) → r ≡ s ++ b ∷ t → Ring E (b ∷ (t ++ s))
       go s t e =
-          let w : Walk E (lastOf (s ++ b ∷ t)) (s ++ b ∷ t) = subst (λ (l : List ℕ). Walk E (lastOf l) l) e (ring-closed E r R) in
+          let w : Walk E (lastOf (s ++ b ∷ t)) (s ++ b ∷ t) = subst (λ (l : List ℕ). Walk E (lastOf l) l) e (ring-closed R) in
           let v : Walk E (last b t) (s ++ b ∷ t) = rw lastOf-split at w in
           let n : length r ≡ length (s ++ b ∷ t) = ap length e in
           let h : 3 ≤ length r = R .three in

@@ -92,10 +92,10 @@ step-into a s b t u hs ht h = go (step-cases a s (b ∷ t) u b h)
     go (inr (inr k)) = absurd (ht (step-to b t u b k))
 
 -- A ring as a closed walk: from its last vertex through the whole list.
-module _ (E : ℕ → ℕ → Type 0) where
-  pub ring-closed : (r : List ℕ) → Ring E r → Walk E (lastOf r) r
-  ring-closed [] R = tt
-  ring-closed (a ∷ l) R = (R .closed, R .linked)
+module _ {E : ℕ → ℕ → Type 0} where
+  pub ring-closed : {r : List ℕ} → Ring E r → Walk E (lastOf r) r
+  ring-closed {r = []} R = tt
+  ring-closed {r = a ∷ l} R = (R .closed, R .linked)
 
   pub closed-ring : (r : List ℕ) → 3 ≤ length r → Distinct r → Walk E (lastOf r) r → Ring E r
   closed-ring [] h d w = absurd (omega arith)
@@ -112,7 +112,7 @@ step-follows (a ∷ l) u v (inl h) = inr h
 step-follows (a ∷ l) u v (inr h) = inl h
 
 pub ring-as-closed : (E : ℕ → ℕ → Type 0) (r : List ℕ) → Ring E r ↔ ((3 ≤ length r) × Distinct r × Walk E (lastOf r) r)
-ring-as-closed E r = (λ R. (R .three, R .different, ring-closed E r R), λ h. closed-ring E r (h .0) (h .1) (h .2))
+ring-as-closed E r = (λ R. (R .three, R .different, ring-closed R), λ h. closed-ring r (h .0) (h .1) (h .2))
 
 pub follows-as-step : (r : List ℕ) (u v : ℕ) → Follows r u v ↔ Step (lastOf r) r u v
 follows-as-step r u v = (follows-step r u v, step-follows r u v)
