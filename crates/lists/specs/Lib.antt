@@ -5,4 +5,7 @@ pub mod Folds
 pub mod FoldLaws
 pub mod All
 pub mod Rests
+pub mod Members
+pub mod Pigeonhole
+pub mod Parts
 pub mod Text
