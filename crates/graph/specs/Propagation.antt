@@ -136,7 +136,8 @@ module _ {p : ℕ → Bool} {n : ℕ} {R : ℕ → ℕ → Type 0} {val : ℕ �
     pub still-on : Still p n val (suc k)
     still-on v h = go (rounds .attained (suc k) v h)
       where
-        go : (val (suc (suc k)) v ≡ val (suc k) v) ⊎ ((w : ℕ) × Picked p n w × R v w × (val (suc (suc k)) v ≡ val (suc k) w)) → val (suc (suc k)) v ≡ val (suc k) v
+        go : (val (suc (suc k)) v ≡ val (suc k) v) ⊎ ((w : ℕ) × Picked p n w × R v w × (val (suc (suc k)) v ≡ val (suc k) w))
+            → val (suc (suc k)) v ≡ val (suc k) v
         go (inl e) = e
         go (inr (w, pw, r, e)) = omega (arith, rounds .near k v w h pw r, still w pw, rounds .own (suc k) v h)
 
