@@ -5,7 +5,7 @@ use mathlib.Core.List.{List, [], _∷_}
 use Prim.Native.Nat.{ℕ}
 use native.Mathlib.Decide.{ℕ-discrete}
 use Rattle.lists.specs.Members.{Mem}
-use Rattle.graph.specs.Rings.{Graph, lastOf, firstOf, Ring, Holds, OnRing, SameLink}
+use Rattle.graph.specs.Rings.{Graph, lastOf, Ring, Holds, OnRing, SameLink}
 use Rattle.graph.specs.Walks.{walk-step, walk-map, ring-closed, follows-step, holds-first, holds-second, holds-flip}
 use Rattle.graph.specs.Turn.{turn, turn-ring, turn-mem, turn-link}
 use Rattle.graph.specs.Splice.{splice, splice-ring}
