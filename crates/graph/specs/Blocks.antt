@@ -146,9 +146,9 @@ module _ {E : ℕ → ℕ → Type 0} {p d root cl : ℕ → ℕ} (G : Graph E) 
           let (x, y, h0, hx, n) = other-link E t T in
           let lxy = ring-link G T x y hx in
           let m = class-exists G F (C .along-aux) x y lxy in
-          let hu = holds-same t (lastOf t) (firstOf t) u v (same-flip u v (lastOf t) (firstOf t) s) h0 in
+          let hu = holds-same t (same-flip s) h0 in
           let e = ring-class G F (C .along-aux) T hu hx h (m .1) in
-          n (same-trans (lastOf t) (firstOf t) u v x y (same-flip u v (lastOf t) (firstOf t) s) (alone x y (m .0) lxy (m .1) e))
+          n (same-trans (same-flip s) (alone x y (m .0) lxy (m .1) e))
 
       back-to : ((r : List ℕ) → Ring E r → Holds r u v → ⊥) → (x y : ℕ) → Together E u v x y → SameLink u v x y
       back-to f x y (inl s) = s

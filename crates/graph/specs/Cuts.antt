@@ -74,7 +74,9 @@ module _ {E : ℕ → ℕ → Type 0} {p d root cl : ℕ → ℕ} (G : Graph E) 
       }
 
   cut-meet : Articulation E u → Meet E p d cl u
-  cut-meet A = go (around E u (G .flip) (A .x) (A .connected .0) (A .y) (A .connected .1 .0) (A .connected .1 .1) (λ e. A .other-x (sym e)) (λ e. A .other-y (sym e)))
+  cut-meet A =
+      let (l, (w, e)) = A .connected in
+      go (around E u (G .flip) (A .x) l (A .y) w e (λ h. A .other-x (sym h)) (λ h. A .other-y (sym h)))
     where
       never : Connected (Without u E) (A .x) (A .y) → ⊥
       never c = let h = avoided E u (A .x) (c .0) (A .y) (c .1) in A .cut (c .0) (h .0) (h .1)
@@ -93,7 +95,9 @@ module _ {E : ℕ → ℕ → Type 0} {p d root cl : ℕ → ℕ} (G : Graph E) 
           round : SameLink u a u b ⊎ OnRing E u a u b → ⊥
           round (inl (inl e)) = join ([], (tt, e .1))
           round (inl (inr e)) = ends-apart G u b lb (e .0)
-          round (inr (r, R, h, k)) = join (ring-around G R u a b (holds-first r u a h) (holds-second r u a h) (holds-second r u b k) (ends-apart G u a la) (ends-apart G u b lb))
+          round (inr (r, R, h, k)) =
+              let way = ring-around G R u a b (holds-first r u a h) (holds-second r u a h) (holds-second r u b k) in
+              join (way (ends-apart G u a la) (ends-apart G u b lb))
 
   pub articulation : Meet E p d cl u ↔ Articulation E u
   articulation = (meet-cut, cut-meet)

@@ -22,6 +22,23 @@ Near p n R v w = Picked p n w × R v w
 abbrev pub Within : (ℕ → Bool) → ℕ → (ℕ → ℕ → Type 0) → ℕ → ℕ → ℕ → Type 0
 Within p n R k v w = (l : List ℕ) × (length l ≤ k) × Route (Near p n R) v l w
 
+module _ (p : ℕ → Bool) (n : ℕ) (R : ℕ → ℕ → Type 0) where
+  walk-picked : (v : ℕ) (l : List ℕ) → Picked p n v → Walk (Near p n R) v l → (z : ℕ) → Mem z (v ∷ l) → Picked p n z
+  walk-picked v [] h w z (inl e) = rw e h
+  walk-picked v [] h w z (inr m) = absurd m
+  walk-picked v (x ∷ l) h w z (inl e) = rw e h
+  walk-picked v (x ∷ l) h w z (inr m) = walk-picked x l (w .0 .0) (w .1) z m
+
+  pub reached-picked : (v w : ℕ) → Picked p n v → Connected (Near p n R) v w → Picked p n w
+  reached-picked v w h (l, r) = rw (r .1) at (walk-picked v l h (r .0) (last v l) (last-mem v l))
+
+  -- what is reached is reached in fewer steps than there are picked nodes, and in no more than were taken
+  pub short : (v w : ℕ) (l : List ℕ) → Picked p n v → Route (Near p n R) v l w
+      → (m : List ℕ) × (length m ≤ length l) × (length m < picks p n) × Route (Near p n R) v m w
+  short v w l h r =
+      let (m, s, e, f, d) = simple (Near p n R) v l (r .0) in
+      (m, f, pigeonhole p n (v ∷ m) d (walk-picked v m h s), (s, e ∙ r .1))
+
 -- val k v is the value of v after k rounds: at first its own number, then the least of its own and of those it reads
 pub record Rounds (p : ℕ → Bool) (n : ℕ) (R : ℕ → ℕ → Type 0) (val : ℕ → ℕ → ℕ) : Type 0 where
   pub start : (v : ℕ) → Picked p n v → val zero v ≡ v
@@ -66,34 +83,18 @@ module _ {p : ℕ → Bool} {n : ℕ} {R : ℕ → ℕ → Type 0} {val : ℕ �
           let b : length (a .0) ≤ k = a .1 in
           (w ∷ a .0, omega arith, (((pw, r), a .2 .0), a .2 .1 ∙ sym e))
 
-  walk-picked : (v : ℕ) (l : List ℕ) → Picked p n v → Walk (Near p n R) v l → (z : ℕ) → Mem z (v ∷ l) → Picked p n z
-  walk-picked v [] h w z (inl e) = rw e h
-  walk-picked v [] h w z (inr m) = absurd m
-  walk-picked v (x ∷ l) h w z (inl e) = rw e h
-  walk-picked v (x ∷ l) h w z (inr m) = walk-picked x l (w .0 .0) (w .1) z m
-
-  pub reached-picked : (v w : ℕ) → Picked p n v → Connected (Near p n R) v w → Picked p n w
-  reached-picked v w h (l, r) = rw (r .1) at (walk-picked v l h (r .0) (last v l) (last-mem v l))
-
   -- a round that changes something comes before as many rounds as there are picked nodes
   pub changed : (k v : ℕ) → Picked p n v → val (suc k) v ≢ val k v → suc k < picks p n
   changed k v h c = go (value-within (suc k) v h)
     where
       go : Within p n R (suc k) v (val (suc k) v) → suc k < picks p n
       go (l, b, r) =
-          let s = simple (Near p n R) v l (r .0) in
-          let m = s .0 in
-          let w : Walk (Near p n R) v m = s .1 in
-          let e : last v m ≡ val (suc k) v = s .2 ∙ r .1 in
-          let f : length m ≤ length l = s .3 in
-          let o : val (suc k) v ≤ val k v = rounds .own k v h in
-          let q : suc (length m) ≤ picks p n = pigeonhole p n (v ∷ m) (s .4) (walk-picked v m h w) in
-          let long : length m ≤ k → ⊥ = λ g. c (omega (arith, least-within k v (val (suc k) v) h (m, g, (w, e)))) in
-          by (decLe (length m) k) long q
+          let (m, f, q, s) = short p n R v (val (suc k) v) l h r in
+          by m q s (decLe (length m) k)
         where
-          by : {a : ℕ} → Dec (a ≤ k) → (a ≤ k → ⊥) → suc a ≤ picks p n → suc k < picks p n
-          by (yes g) x q = absurd (x g)
-          by (no g) x q = omega arith
+          by : (m : List ℕ) → length m < picks p n → Route (Near p n R) v m (val (suc k) v) → Dec (length m ≤ k) → suc k < picks p n
+          by m q s (yes g) = absurd (c (omega (arith, least-within k v (val (suc k) v) h (m, g, s), rounds .own k v h)))
+          by m q s (no g) = omega arith
 
   -- so from that number of rounds on nothing changes ..
   pub still-from : (k : ℕ) → picks p n ≤ suc k → Still p n val k
@@ -130,13 +131,14 @@ module _ {p : ℕ → Bool} {n : ℕ} {R : ℕ → ℕ → Type 0} {val : ℕ �
 
     -- .. and the least of all that it reaches
     pub still-least : (v w : ℕ) → Picked p n v → Connected (Near p n R) v w → val k v ≤ w
-    still-least v w pv c = omega (arith, still-along v w pv c, falls k w (reached-picked v w pv c))
+    still-least v w pv c = omega (arith, still-along v w pv c, falls k w (reached-picked p n R v w pv c))
 
     -- the next round changes nothing either
     pub still-on : Still p n val (suc k)
     still-on v h = go (rounds .attained (suc k) v h)
       where
-        go : (val (suc (suc k)) v ≡ val (suc k) v) ⊎ ((w : ℕ) × Picked p n w × R v w × (val (suc (suc k)) v ≡ val (suc k) w)) → val (suc (suc k)) v ≡ val (suc k) v
+        go : (val (suc (suc k)) v ≡ val (suc k) v) ⊎ ((w : ℕ) × Picked p n w × R v w × (val (suc (suc k)) v ≡ val (suc k) w))
+            → val (suc (suc k)) v ≡ val (suc k) v
         go (inl e) = e
         go (inr (w, pw, r, e)) = omega (arith, rounds .near k v w h pw r, still w pw, rounds .own (suc k) v h)
 
@@ -174,4 +176,4 @@ module _ {p : ℕ → Bool} {n : ℕ} {R : ℕ → ℕ → Type 0} {val : ℕ �
       still-own v pv =
           let c = value-reached k v pv in
           let m = val k v in
-          omega (arith, still-along v m pv c, still-along m v (reached-picked v m pv c) (reached-back v m pv c))
+          omega (arith, still-along v m pv c, still-along m v (reached-picked p n R v m pv c) (reached-back v m pv c))

@@ -102,7 +102,8 @@ module _ {E : ℕ → ℕ → Type 0} (G : Graph E) where
       round : (l : List ℕ) → Walk E u l → (Mem u l → ⊥) → Mem a l → Mem b l → Connected (Without u E) a b
       round [] w h m k = absurd m
       round (c ∷ l) w h m k =
-          connected-trans (Without u E) a c b (connected-sym (Without u E) flipped c a (connected-along E u c l (w .1) h a m)) (connected-along E u c l (w .1) h b k)
+          let to : (z : ℕ) → Mem z (c ∷ l) → Connected (Without u E) c z = connected-along E u c l (w .1) h in
+          connected-trans (Without u E) a c b (connected-sym (Without u E) flipped c a (to a m)) (to b k)
 
       other : (s t : List ℕ) (z : ℕ) → u ≢ z → Mem z (s ++ u ∷ t) → Mem z (t ++ s)
       other s t z n m = cases (mem-cases z s (u ∷ t) m)

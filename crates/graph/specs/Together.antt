@@ -4,7 +4,8 @@ use mathlib.Core.Logic.{_⊎_, inl, inr, _≢_}
 use mathlib.Core.List.{List, [], _∷_}
 use Prim.Native.Nat.{ℕ}
 use native.Mathlib.Decide.{ℕ-discrete}
-use Rattle.graph.specs.Rings.{Graph, lastOf, firstOf, Ring, Holds, OnRing, SameLink}
+use Rattle.lists.specs.Members.{Mem}
+use Rattle.graph.specs.Rings.{Graph, lastOf, Ring, Holds, OnRing, SameLink}
 use Rattle.graph.specs.Walks.{walk-step, walk-map, ring-closed, follows-step, holds-first, holds-second, holds-flip}
 use Rattle.graph.specs.Turn.{turn, turn-ring, turn-mem, turn-link}
 use Rattle.graph.specs.Splice.{splice, splice-ring}
@@ -28,20 +29,20 @@ same? u v x y = go (ℕ-discrete u x) (ℕ-discrete v y) (ℕ-discrete u y) (ℕ
     go (yes a) (no b) (no c) d = no (elim [ inl h ↦ b (h .1) | inr h ↦ c (h .0) ])
     go (yes a) (no b) (yes c) (no d) = no (elim [ inl h ↦ b (h .1) | inr h ↦ d (h .1) ])
 
-pub same-flip : (u v x y : ℕ) → SameLink u v x y → SameLink x y u v
-same-flip u v x y (inl h) = inl (sym (h .0), sym (h .1))
-same-flip u v x y (inr h) = inr (sym (h .1), sym (h .0))
+pub same-flip : {u v x y : ℕ} → SameLink u v x y → SameLink x y u v
+same-flip (inl h) = inl (sym (h .0), sym (h .1))
+same-flip (inr h) = inr (sym (h .1), sym (h .0))
 
-pub same-trans : (u v x y a b : ℕ) → SameLink u v x y → SameLink x y a b → SameLink u v a b
-same-trans u v x y a b (inl h) (inl k) = inl (h .0 ∙ k .0, h .1 ∙ k .1)
-same-trans u v x y a b (inl h) (inr k) = inr (h .0 ∙ k .0, h .1 ∙ k .1)
-same-trans u v x y a b (inr h) (inl k) = inr (h .0 ∙ k .1, h .1 ∙ k .0)
-same-trans u v x y a b (inr h) (inr k) = inl (h .0 ∙ k .1, h .1 ∙ k .0)
+pub same-trans : {u v x y a b : ℕ} → SameLink u v x y → SameLink x y a b → SameLink u v a b
+same-trans (inl h) (inl k) = inl (h .0 ∙ k .0, h .1 ∙ k .1)
+same-trans (inl h) (inr k) = inr (h .0 ∙ k .0, h .1 ∙ k .1)
+same-trans (inr h) (inl k) = inr (h .0 ∙ k .1, h .1 ∙ k .0)
+same-trans (inr h) (inr k) = inl (h .0 ∙ k .1, h .1 ∙ k .0)
 
 -- what holds a link holds it under both of its names
-pub holds-same : (r : List ℕ) (u v x y : ℕ) → SameLink u v x y → Holds r u v → Holds r x y
-holds-same r u v x y (inl e) h = subst₂ (λ (a b : ℕ). Holds r a b) (e .0) (e .1) h
-holds-same r u v x y (inr e) h = subst₂ (λ (a b : ℕ). Holds r a b) (e .1) (e .0) (holds-flip r u v h)
+pub holds-same : (r : List ℕ) {u v x y : ℕ} → SameLink u v x y → Holds r u v → Holds r x y
+holds-same r (inl e) h = subst₂ (λ (a b : ℕ). Holds r a b) (e .0) (e .1) h
+holds-same r {u} {v} (inr e) h = subst₂ (λ (a b : ℕ). Holds r a b) (e .1) (e .0) (holds-flip r u v h)
 
 pub ring-link : {E : ℕ → ℕ → Type 0} → Graph E → {r : List ℕ} → Ring E r → (u v : ℕ) → Holds r u v → E u v
 ring-link {E} G {r} R u v (inl h) = walk-step E (lastOf r) r (ring-closed R) u v (follows-step r u v h)
@@ -52,7 +53,8 @@ module _ (E F : ℕ → ℕ → Type 0) (more : (u v : ℕ) → E u v → F u v)
   pub ring-more : (r : List ℕ) → Ring E r → Ring F r
   ring-more [] R = record { three = R .three; different = R .different; linked = tt; closed = more 0 0 (R .closed) }
   ring-more (a ∷ l) R =
-      record { three = R .three; different = R .different; linked = walk-map E F a l (λ u v s. more u v) (R .linked); closed = more (lastOf (a ∷ l)) a (R .closed) }
+      let linked = walk-map E F a l (λ u v s. more u v) (R .linked) in
+      record { three = R .three; different = R .different; linked = linked; closed = more (lastOf (a ∷ l)) a (R .closed) }
 
   pub onRing-more : (u v x y : ℕ) → OnRing E u v x y → OnRing F u v x y
   onRing-more u v x y (r, R, h, k) = (r, ring-more r R, h, k)
@@ -66,24 +68,21 @@ module _ {E : ℕ → ℕ → Type 0} (G : Graph E) where
   pub through-ring : {r q : List ℕ} → Ring E r → Ring E q → (a b c d u v : ℕ) → Holds r a b → Holds r c d → Holds q c d → Holds q u v
       → (SameLink a b u v → ⊥) → Ring E (through a b r u v q) × Holds (through a b r u v q) a b × Holds (through a b r u v q) u v
   through-ring {r} {q} R Q a b c d u v ha hc kc ku other =
-      let r′ = turn a b r in
-      let q′ = turn u v q in
       let er = turn-link R a b ha in
       let eq = turn-link Q u v ku in
-      let s = splice-ring G (turn-ring R a b ha) (turn-ring Q u v ku) c d
-      (ends-apart G c d (ring-link G R c d hc))
-      (turn-mem R a b ha c (holds-first r c d hc)) (turn-mem Q u v ku c (holds-first q c d kc))
-      (turn-mem R a b ha d (holds-second r c d hc)) (turn-mem Q u v ku d (holds-second q c d kc))
-      (λ e. other (same-trans a b (lastOf r′) (firstOf r′) u v er (same-trans (lastOf r′) (firstOf r′) (lastOf q′) (firstOf q′) u v e (same-flip u v (lastOf q′) (firstOf q′) eq)))) in (
-        s .0,
-        holds-same (through a b r u v q) (lastOf r′) (firstOf r′) a b (same-flip a b (lastOf r′) (firstOf r′) er) (s .1),
-        holds-same (through a b r u v q) (lastOf q′) (firstOf q′) u v (same-flip u v (lastOf q′) (firstOf q′) eq) (s .2),
-      )
+      let apart = ends-apart G c d (ring-link G R c d hc) in
+      let on-r : (z : ℕ) → Mem z r → Mem z (turn a b r) = turn-mem R a b ha in
+      let on-q : (z : ℕ) → Mem z q → Mem z (turn u v q) = turn-mem Q u v ku in
+      let s =
+      splice-ring G (turn-ring R a b ha) (turn-ring Q u v ku) c d apart
+      (on-r c (holds-first r c d hc)) (on-q c (holds-first q c d kc)) (on-r d (holds-second r c d hc)) (on-q d (holds-second q c d kc))
+      (λ e. other (same-trans er (same-trans e (same-flip eq)))) in
+      (s .0, holds-same (through a b r u v q) (same-flip er) (s .1), holds-same (through a b r u v q) (same-flip eq) (s .2))
 
   pub together-trans : (a b c d u v : ℕ) → Together E a b c d → Together E c d u v → Together E a b u v
-  together-trans a b c d u v (inl h) (inl k) = inl (same-trans a b c d u v h k)
-  together-trans a b c d u v (inl h) (inr (q, Q, kc, ku)) = inr (q, Q, holds-same q c d a b (same-flip a b c d h) kc, ku)
-  together-trans a b c d u v (inr (r, R, ha, hc)) (inl k) = inr (r, R, ha, holds-same r c d u v k hc)
+  together-trans a b c d u v (inl h) (inl k) = inl (same-trans h k)
+  together-trans a b c d u v (inl h) (inr (q, Q, kc, ku)) = inr (q, Q, holds-same q (same-flip h) kc, ku)
+  together-trans a b c d u v (inr (r, R, ha, hc)) (inl k) = inr (r, R, ha, holds-same r k hc)
   together-trans a b c d u v (inr (r, R, ha, hc)) (inr (q, Q, kc, ku)) = go (same? a b u v)
     where
       go : Dec (SameLink a b u v) → Together E a b u v
@@ -91,5 +90,5 @@ module _ {E : ℕ → ℕ → Type 0} (G : Graph E) where
       go (no h) = let t = through-ring R Q a b c d u v ha hc kc ku h in inr (through a b r u v q, t .0, t .1, t .2)
 
 pub together-flip : (E : ℕ → ℕ → Type 0) (u v x y : ℕ) → Together E u v x y → Together E x y u v
-together-flip E u v x y (inl h) = inl (same-flip u v x y h)
+together-flip E u v x y (inl h) = inl (same-flip h)
 together-flip E u v x y (inr (r, R, h, k)) = inr (r, R, k, h)

@@ -127,7 +127,8 @@ module _ {E : ℕ → ℕ → Type 0} {p d root cl : ℕ → ℕ} (G : Graph E) 
       let m = top-exists c w k .0 in
       let T = top-exists c w k .1 in
       let lm : m < n = low m (T .touched .0) (class-link G F (T .touched .1)) in
-      picks-more touches names n m lm (ht m lm .1 (T .touched)) (off (names m) (λ e. T .nameless (hn m lm .0 e))) (λ i l ne. agree m T i l ne (touches i) (names i) refl refl)
+      let nameless : names m ≡ false = off (names m) (λ e. T .nameless (hn m lm .0 e)) in
+      picks-more touches names n m lm (ht m lm .1 (T .touched)) nameless (λ i l ne. agree m T i l ne (touches i) (names i) refl refl)
     where
       off : (b : Bool) → (b ≡ true → ⊥) → b ≡ false
       off true f = absurd (f refl)

@@ -107,7 +107,8 @@ module _ (on : ℕ → Bool) where
   last-on [] h = absurd (true≢false (sym h))
   last-on (x ∷ l) h = go (some on l) refl (or-true (on x) (some on l) h) (last-on l)
     where
-      go : (b : Bool) → some on l ≡ b → (on x ≡ true) ⊎ (some on l ≡ true) → (some on l ≡ true → on (lastOn on l) ≡ true) → on (cond b (lastOn on l) x) ≡ true
+      go : (b : Bool) → some on l ≡ b → (on x ≡ true) ⊎ (some on l ≡ true) → (some on l ≡ true → on (lastOn on l) ≡ true)
+          → on (cond b (lastOn on l) x) ≡ true
       go true e k f = f e
       go false e (inl k) f = k
       go false e (inr k) f = absurd (true≢false (sym k ∙ e))
