@@ -4,6 +4,8 @@ pub mod Tables
 pub mod Folds
 pub mod FoldLaws
 pub mod All
+pub mod Counts
+pub mod Agreement
 pub mod Rests
 pub mod Members
 pub mod Pigeonhole

@@ -75,6 +75,16 @@ picks-le p (suc n) = go (p n) (picks-le p n)
     go true h = omega arith
     go false h = omega arith
 
+-- a test that fails somewhere below n picks fewer
+pub picks-fewer : (p : ℕ → Bool) (n i : ℕ) → i < n → p i ≡ false → picks p n < n
+picks-fewer p zero i l e = absurd (omega arith)
+picks-fewer p (suc n) i l e = go (ℕ-discrete i n) (p n) refl (λ h. picks-fewer p n i h e)
+  where
+    go : Dec (i ≡ n) → (b : Bool) → p n ≡ b → (i < n → picks p n < n) → cond (p n) (suc (picks p n)) (picks p n) < suc n
+    go (yes h) b f below = let g : p n ≡ false = rw (← h) e in rw g (omega (arith, picks-le p n))
+    go (no h) true f below = rw f (omega (arith, below (omega arith)))
+    go (no h) false f below = rw f (omega (arith, picks-le p n))
+
 -- tests that agree below n pick as many; tests that agree but at one number, one more
 pub picks-same : (p q : ℕ → Bool) (n : ℕ) → ((i : ℕ) → i < n → p i ≡ q i) → picks p n ≡ picks q n
 picks-same p q zero h = refl
