@@ -6,6 +6,7 @@ pub mod Step
 pub mod StepKept
 pub mod StepLaws
 pub mod Run
+pub mod RunLaws
 pub mod Report
 pub mod Calls
 pub mod CallCauses
