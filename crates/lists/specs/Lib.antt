@@ -4,7 +4,7 @@ pub mod Tables
 pub mod Folds
 pub mod FoldLaws
 pub mod All
-pub mod Counts
+pub mod CountOne
 pub mod Agreement
 pub mod Rests
 pub mod Members

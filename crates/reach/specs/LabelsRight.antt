@@ -11,7 +11,7 @@ use borrow.Author.Tests.{eqb-true, eqb-false, eq-eqb, ne-eqb, ltb-true, ltb-fals
 use Rattle.lists.specs.Tests.{either, or-exact, not-exact, and-left, and-right, and-true, cond-true, cond-false}
 use Rattle.lists.specs.Folds.{least, count, some}
 use Rattle.lists.specs.FoldLaws.{least-le, least-is, some-exact}
-use Rattle.lists.specs.Counts.{count-one}
+use Rattle.lists.specs.CountOne.{count-one}
 use Rattle.table.specs.Table.{endA, endB}
 use Rattle.rules.specs.Basics.{ABSENT, at}
 use Rattle.rules.specs.BoundLaws.{eq-exact}
