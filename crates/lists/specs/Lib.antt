@@ -9,3 +9,5 @@ pub mod Members
 pub mod Pigeonhole
 pub mod Parts
 pub mod Text
+pub mod Counts
+pub mod Multiples

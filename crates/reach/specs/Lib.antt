@@ -1,2 +1,4 @@
 pub mod Site
 pub mod Rooted
+pub mod Doubling
+pub mod Segments
