@@ -14,7 +14,7 @@ use borrow.Author.Tests.{eqb-true, eq-eqb, ne-eqb, leb-true, le-leb, lt-leb, ltb
 use Rattle.lists.specs.Folds.{sum as total, count}
 use Rattle.lists.specs.Tests.{and-left, and-right, and-true, not-both}
 use Rattle.lists.specs.Counts.{sum-le, sum-further, count-cong, count-none, count-some, count-positive, count-both}
-use Rattle.numbers.specs.Lg.{lg}
+use Rattle.numbers.specs.Lg.{lg, lgFrom}
 use Rattle.numbers.specs.LgLaws.{lg-reaches, lg-least}
 use Rattle.rules.specs.Basics.{ABSENT, MAX-NUMBER, at, bounded}
 use Rattle.rules.specs.Ranking.{asks, sumRound, jumpRound, requestsOf, rankingEnds}
@@ -68,19 +68,21 @@ module _ {K : ℕ} {R S : ℕ → ℕ} (potential : Potential K R S) {jump sum :
     object = λ (a : ℕ) (l : a < K). entry a l (ranked .object a l);
   }
     where
+      moved : (a : ℕ) → a < K → at jump a < K → at (jumpRound K jump) a ≡ at jump (at jump a)
+      moved a l h = jump-taken K jump a l (ranked .manyJumps) (omega (arith, potential .few))
+
+      added : (a : ℕ) → a < K → at jump a < K → at (sumRound K jump sum) a ≡ bounded (at sum a + at sum (at jump a))
+      added a l h = sum-taken K jump sum a l (ranked .manySums) (omega (arith, potential .few))
+
       -- the predecessor has reached the head, or has a predecessor of its own
       taken : (a : ℕ) → a < K → Ahead K R S jump sum k a → Reached R S jump sum k (at jump a) ⊎ Ahead K R S jump sum k (at jump a)
           → Reached R S (jumpRound K jump) (sumRound K jump sum) (suc k) a ⊎ Ahead K R S (jumpRound K jump) (sumRound K jump sum) (suc k) a
       taken a l w (inl o) =
-          let below : at jump a < ABSENT = omega (arith, w .0, potential .few) in
-          let moved : at (jumpRound K jump) a ≡ at jump (at jump a) = jump-taken K jump a l (ranked .manyJumps) below in
-          let added : at (sumRound K jump sum) a ≡ bounded (at sum a + at sum (at jump a)) = sum-taken K jump sum a l (ranked .manySums) below in
-          inl (moved ∙ o .0, omega (arith, w .1, o .1), omega (arith, added, w .2, o .2, potential .small a l))
+          inl
+          (moved a l (w .0) ∙ o .0, omega (arith, w .1, o .1), omega (arith, added a l (w .0), w .2, o .2, potential .small a l))
       taken a l w (inr o) =
-          let below : at jump a < ABSENT = omega (arith, w .0, potential .few) in
-          let moved : at (jumpRound K jump) a ≡ at jump (at jump a) = jump-taken K jump a l (ranked .manyJumps) below in
-          let added : at (sumRound K jump sum) a ≡ bounded (at sum a + at sum (at jump a)) = sum-taken K jump sum a l (ranked .manySums) below in
-          inr (rw moved (o .0), rw moved (omega (arith, w .1, o .1)), rw moved (omega (arith, added, w .2, o .2, potential .small a l)))
+          rw (moved a l (w .0))
+          (inr (o .0, omega (arith, w .1, o .1), omega (arith, added a l (w .0), w .2, o .2, potential .small a l)))
 
       entry : (a : ℕ) → a < K → Reached R S jump sum k a ⊎ Ahead K R S jump sum k a
           → Reached R S (jumpRound K jump) (sumRound K jump sum) (suc k) a ⊎ Ahead K R S (jumpRound K jump) (sumRound K jump sum) (suc k) a
@@ -90,7 +92,7 @@ module _ {K : ℕ} {R S : ℕ → ℕ} (potential : Potential K R S) {jump sum :
 
   -- ---- requests
 
-  -- an object makes a request exactly when it stands more than 2 ^ k from before the head
+  -- an object makes a request exactly when it stands past 2 ^ k
   pub asks-far : (a : ℕ) → a < K → asks jump a ≡ ltb (2 ^ k) (R a)
   asks-far a l = go (ranked .object a l)
     where
@@ -199,12 +201,15 @@ most-le k = go (most-total k)
 pub asked-le : (K A : ℕ) (R : ℕ → ℕ) → A ≤ 510
     → ((x : ℕ) → 1 ≤ x → (a : ℕ) → a < K → x < R a → count K (λ (b : ℕ). ltb x (R b)) + x ≤ A)
     → (k : ℕ) → asked K R k ≤ 4079
-asked-le K A R h within k = omega (arith, sum-le k (λ (i : ℕ). count K (λ (a : ℕ). ltb (2 ^ i) (R a))) most (λ (i : ℕ) (l : i < k). each i (count-some K (λ (a : ℕ). ltb (2 ^ i) (R a)))), most-le k)
+asked-le K A R h within k = omega (arith, most-le k, sum-le k past most (λ (i : ℕ) (l : i < k). each i (count-some K (λ (a : ℕ). ltb (2 ^ i) (R a)))))
   where
+    past : ℕ → ℕ
+    past i = count K (λ (a : ℕ). ltb (2 ^ i) (R a))
+
     each : (i : ℕ)
         → ((a : ℕ) × (a < K) × (ltb (2 ^ i) (R a) ≡ true))
-        ⊎ ((count K (λ (a : ℕ). ltb (2 ^ i) (R a)) ≡ 0) × ((a : ℕ) → a < K → ltb (2 ^ i) (R a) ≡ false))
-        → count K (λ (a : ℕ). ltb (2 ^ i) (R a)) ≤ most i
+        ⊎ ((past i ≡ 0) × ((a : ℕ) → a < K → ltb (2 ^ i) (R a) ≡ false))
+        → past i ≤ most i
     each i (inl w) = omega (arith, within (2 ^ i) (pow-pos i) (w .0) (w .1) (ltb-true (2 ^ i) (R (w .0)) (w .2)))
     each i (inr w) = omega (arith, w .0)
 
@@ -295,7 +300,11 @@ five-ranked = start 5 suc suc five ones (omega arith) (omega arith) each
     each (suc (suc (suc (suc zero)))) l = inr (omega arith, refl, refl)
     each (suc (suc (suc (suc (suc a))))) l = absurd (omega arith)
 
--- requests 4, 3 and 1 in its three rounds with requests
+-- three rounds with requests, 4, 3 and 1; a fourth without
+five-rounds : lg 5 ≡ 3
+unfolding lg lgFrom
+five-rounds = refl
+
 five-asked : asked 5 suc 3 ≡ 8
 five-asked = refl
 

@@ -3,7 +3,7 @@ use mathlib.Core.Path.{_≡_, _∙_}
 use mathlib.Core.Bool.{true, false, cond}
 use mathlib.Core.Logic.{_⊎_, inl, inr}
 use mathlib.Core.List.{List}
-use Prim.Native.Nat.{ℕ, suc, _+_, _-_, _%_, _≤_, _<_, _^_, min, max}
+use Prim.Native.Nat.{ℕ, suc, _+_, _-_, _%_, _≤_, _<_, _^_}
 use native.Mathlib.Nat.{le-refl}
 use native.Mathlib.Decide.{decLt}
 use native.Mathlib.Omega.{arith}
@@ -13,39 +13,11 @@ use Rattle.lists.specs.Multiples.{Multiple, multiple-one, multiple-up, multiple
 use Rattle.numbers.specs.Lg.{lg}
 use Rattle.numbers.specs.LgLaws.{lg-reaches}
 use Rattle.rules.specs.Basics.{MAX-NUMBER, at, bounded}
-use Rattle.rules.specs.BoundLaws.{Picks, min-picks, max-picks}
-use Rattle.rules.specs.Range.{odd, localAt, movesLittle, movesBig, withLittle, withBig, globalFirst, rangeFirst, littleFirst, bigFirst, rangeLater, littleLater, bigLater, globalLater}
-use Rattle.rules.specs.RangeLaws.{global-first, range-first, little-first, big-first, even-multiple, odd-remainder, little-rests, big-rests, little-moves, big-moves, little-entry, big-entry, range-entry, little-takes, little-passes, big-takes, big-passes, global-doubles, global-stays, length-global-first, length-range-first, length-little-first, length-big-first, length-global-later, length-range-later, length-little-later, length-big-later}
+use Rattle.rules.specs.ChoiceLaws.{Choice}
+use Rattle.rules.specs.Range.{odd, localOf, localAt, movesLittle, movesBig, withLittle, withBig, globalFirst, rangeFirst, littleFirst, bigFirst, rangeLater, littleLater, bigLater, globalLater}
+use Rattle.rules.specs.RangeLaws.{unit-at, local-at, global-first, range-first, little-first, big-first, even-multiple, odd-remainder, little-rests, big-rests, little-moves, big-moves, little-entry, big-entry, range-entry, little-takes, little-passes, big-takes, big-passes, global-doubles, global-stays, length-global-first, length-range-first, length-little-first, length-big-first, length-global-later, length-range-later, length-little-later, length-big-later}
 
--- ---- a choice, and the extreme of the local values over some places
-
-pub record Choice (op : ℕ → ℕ → ℕ) (le : ℕ → ℕ → Type 0) : Type 0 where
-  pub left : (x y : ℕ) → le (op x y) x
-  pub right : (x y : ℕ) → le (op x y) y
-  pub picks : Picks op
-  pub same : (x : ℕ) → le x x
-  pub through : (x y z : ℕ) → le x y → le y z → le x z
-
-abbrev pub AtLeast : ℕ → ℕ → Type 0
-AtLeast x y = y ≤ x
-
-pub min-choice : Choice min _≤_
-min-choice = record {
-  left = λ (x y : ℕ). omega arith;
-  right = λ (x y : ℕ). omega arith;
-  picks = min-picks;
-  same = λ (x : ℕ). omega arith;
-  through = λ (x y z : ℕ) (p : x ≤ y) (q : y ≤ z). omega arith;
-}
-
-pub max-choice : Choice max AtLeast
-max-choice = record {
-  left = λ (x y : ℕ). omega arith;
-  right = λ (x y : ℕ). omega arith;
-  picks = max-picks;
-  same = λ (x : ℕ). omega arith;
-  through = λ (x y z : ℕ) (p : y ≤ x) (q : z ≤ y). omega arith;
-}
+-- ---- the extreme of the local values over some places
 
 -- x is before every local value over the places of P, and is one of them
 abbrev pub Extreme : (ℕ → ℕ → Type 0) → (ℕ → ℕ) → (ℕ → Type 0) → ℕ → Type 0
@@ -413,3 +385,29 @@ module _ (n : ℕ) (nd pre : List ℕ) (few : n ≤ MAX-NUMBER) (own : (v : ℕ)
       (λ (v : ℕ) (l : v < n). range-first op n m ends parent nd pre range v l b (own v l) (inside v l))
       (λ (v : ℕ) (l : v < n). little-first n pre little v l c)
       (λ (v : ℕ) (l : v < n). big-first n nd pre big v l d few (inside v l))
+
+  -- at the end, by units: the extreme of the local values of v's descendants, the units whose places lie in v's interval
+  pub over-descendants : (op : ℕ → ℕ → ℕ) {le : ℕ → ℕ → Type 0} (m : ℕ) (ends parent : List ℕ) {global range little big : List ℕ}
+      → ((u v : ℕ) → u < n → v < n → at pre u ≡ at pre v → u ≡ v) → ((q : ℕ) → q < n → (w : ℕ) × (w < n) × (at pre w ≡ q))
+      → SegmentsAt le n (localAt op n m ends parent pre) (at pre) (lastPlace nd pre) global range little big (lg n) → (v : ℕ) → v < n
+      → ((w : ℕ) → w < n → at pre v ≤ at pre w → at pre w < at pre v + at nd v → le (at range v) (localOf op m ends parent pre w))
+      × ((w : ℕ) × (w < n) × (at pre v ≤ at pre w) × (at pre w < at pre v + at nd v) × (at range v ≡ localOf op m ends parent pre w))
+  over-descendants op {le} m ends parent {range = range} differ onto now v l = (before, found (ends-at .1))
+    where
+      ends-at : ((q : ℕ) → at pre v ≤ q → q ≤ lastPlace nd pre v → le (at range v) (localAt op n m ends parent pre q))
+          × ((q : ℕ) × (at pre v ≤ q) × (q ≤ lastPlace nd pre v) × (at range v ≡ localAt op n m ends parent pre q))
+      ends-at = done place-spans now v l
+
+      local : (w : ℕ) → w < n → localAt op n m ends parent pre (at pre w) ≡ localOf op m ends parent pre w
+      local w k = local-at op n m ends parent pre w (omega arith) (unit-at n pre (omega arith) differ w k)
+
+      before : (w : ℕ) → w < n → at pre v ≤ at pre w → at pre w < at pre v + at nd v → le (at range v) (localOf op m ends parent pre w)
+      before w k a b = rw (local w k) at (ends-at .0 (at pre w) a (omega arith))
+
+      found : (q : ℕ) × (at pre v ≤ q) × (q ≤ lastPlace nd pre v) × (at range v ≡ localAt op n m ends parent pre q)
+          → (w : ℕ) × (w < n) × (at pre v ≤ at pre w) × (at pre w < at pre v + at nd v) × (at range v ≡ localOf op m ends parent pre w)
+      found (q, a, b, e) =
+          let w = onto q (omega (arith, own v l, inside v l)) in
+          let place : at pre (w .0) ≡ q = w .2 in
+          let said : at range v ≡ localAt op n m ends parent pre (at pre (w .0)) = rw place e in
+          (w .0, w .1, omega arith, omega (arith, own v l), said ∙ local (w .0) (w .1))

@@ -14,3 +14,4 @@ pub mod Labels
 pub mod RoundBounds
 pub mod RankingLaws
 pub mod RangeLaws
+pub mod ChoiceLaws
