@@ -1,4 +1,4 @@
--- What counts of 0 and of 1 say.
+-- What a count of 1 says.
 use mathlib.Core.Path.{_≡_, refl, sym}
 use mathlib.Core.Bool.{Bool, true, false, cond}
 use mathlib.Core.Logic.{_↔_, _⊎_, inl, inr}
@@ -6,24 +6,9 @@ use Prim.Native.Nat.{ℕ, zero, suc, _+_, _≤_, _<_}
 use native.Mathlib.Decide.{decLt, ℕ-discrete}
 use native.Mathlib.Nat.{le-refl, le-step, not-suc-le-zero}
 use native.Mathlib.Omega.{arith}
+use Rattle.lists.specs.Counts.{count-none, count-positive}
 use Rattle.lists.specs.Folds.{count}
 use Rattle.lists.specs.Tests.{not-both, refuted}
-
--- a number that passes is counted
-pub count-some : (n : ℕ) (p : ℕ → Bool) (i : ℕ) → i < n → p i ≡ true → 1 ≤ count n p
-count-some zero p i l e = absurd (not-suc-le-zero l)
-count-some (suc n) p i l e = go (decLt i n) (λ h. count-some n p i h e)
-  where
-    last : i ≡ n → 1 ≤ count (suc n) p
-    last h = let f : p n ≡ true = rw (← h) e in rw f (omega arith)
-
-    go : Dec (i < n) → (i < n → 1 ≤ count n p) → 1 ≤ count (suc n) p
-    go (yes h) below = omega (arith, below h)
-    go (no h) below = last (omega arith)
-
-pub count-none : (n : ℕ) (p : ℕ → Bool) → ((i : ℕ) → i < n → p i ≡ false) → count n p ≡ 0
-count-none zero p h = refl
-count-none (suc n) p h = rw (h n (le-refl (suc n))) (omega (arith, count-none n p (λ i l. h i (le-step l))))
 
 -- two that pass
 pub count-two : (n : ℕ) (p : ℕ → Bool) (i j : ℕ) → i < j → j < n → p i ≡ true → p j ≡ true → 2 ≤ count n p
@@ -31,7 +16,7 @@ count-two zero p i j h l a b = absurd (not-suc-le-zero l)
 count-two (suc n) p i j h l a b = go (decLt j n) (λ k. count-two n p i j h k a b)
   where
     last : j ≡ n → 2 ≤ count (suc n) p
-    last e = let f : p n ≡ true = rw (← e) b in rw f (omega (arith, count-some n p i (omega arith) a))
+    last e = let f : p n ≡ true = rw (← e) b in rw f (omega (arith, count-positive n p i (omega arith) a))
 
     go : Dec (j < n) → (j < n → 2 ≤ count n p) → 2 ≤ count (suc n) p
     go (yes k) below = omega (arith, below k)

@@ -4,8 +4,10 @@ pub mod Tables
 pub mod Folds
 pub mod FoldLaws
 pub mod All
+pub mod Counts
 pub mod CountOne
 pub mod Agreement
+pub mod Multiples
 pub mod Rests
 pub mod Members
 pub mod Pigeonhole

@@ -1,6 +1,8 @@
 pub mod Site
 pub mod Rooted
+pub mod Doubling
 pub mod Ordered
+pub mod Segments
 pub mod OffTheTree
 pub mod AuxEdges
 pub mod AuxColors

@@ -12,3 +12,6 @@ pub mod Range
 pub mod Aux
 pub mod Labels
 pub mod RoundBounds
+pub mod RankingLaws
+pub mod RangeLaws
+pub mod ChoiceLaws

@@ -67,8 +67,8 @@ ran-before zero k s = (refl, sym (zero-add k))
 ran-before (suc budget) k s = go (either (finished s)) (λ i. ran-before budget i (step s))
   where
     go : (finished s ≡ true) ⊎ (finished s ≡ false)
-      → ((i : ℕ) → (ran budget i (step s) .0 ≡ ran budget 0 (step s) .0) × (ran budget i (step s) .1 ≡ ran budget 0 (step s) .1 + i))
-      → (ran (suc budget) k s .0 ≡ ran (suc budget) 0 s .0) × (ran (suc budget) k s .1 ≡ ran (suc budget) 0 s .1 + k)
+        → ((i : ℕ) → (ran budget i (step s) .0 ≡ ran budget 0 (step s) .0) × (ran budget i (step s) .1 ≡ ran budget 0 (step s) .1 + i))
+        → (ran (suc budget) k s .0 ≡ ran (suc budget) 0 s .0) × (ran (suc budget) k s .1 ≡ ran (suc budget) 0 s .1 + k)
     go (inl f) later = rw f (refl, sym (zero-add k))
     go (inr f) later = rw f (later (suc k) .0 ∙ sym (later 1 .0), omega (arith, later (suc k) .1, later 1 .1))
 
@@ -80,21 +80,22 @@ ran-made (suc budget) s = go (either (finished s)) (ran-made budget (step s)) (r
     first : finished s ≡ false → ((i : ℕ) → i < ran budget 0 (step s) .1 → finished (steps i (step s)) ≡ false) → (i : ℕ) → i < ran budget 0 (step s) .1 + 1 → finished (steps i s) ≡ false
     first f later zero l = f
     first f later (suc i) l = later i (omega arith)
+
     go : (finished s ≡ true) ⊎ (finished s ≡ false) → Made budget (step s) (ran budget 0 (step s) .0) (ran budget 0 (step s) .1)
-      → (ran budget 1 (step s) .0 ≡ ran budget 0 (step s) .0) × (ran budget 1 (step s) .1 ≡ ran budget 0 (step s) .1 + 1)
-      → Made (suc budget) s (ran (suc budget) 0 s .0) (ran (suc budget) 0 s .1)
+        → (ran budget 1 (step s) .0 ≡ ran budget 0 (step s) .0) × (ran budget 1 (step s) .1 ≡ ran budget 0 (step s) .1 + 1)
+        → Made (suc budget) s (ran (suc budget) 0 s .0) (ran (suc budget) 0 s .1)
     go (inl f) m b = rw f (record { state = refl; within = omega arith; stops = inr f; going = λ i l. absurd (not-suc-le-zero l) })
     go (inr f) m b =
         rw (f, b .0, b .1)
-        (record
-          { state = rw (add-one (ran budget 0 (step s) .1)) (m .state)
-          ; within = omega (arith, m .within)
-          ; stops = stop (m .stops)
-          ; going = first f (m .going)
-          })
+        (record {
+          state = rw (add-one (ran budget 0 (step s) .1)) (m .state);
+          within = omega (arith, m .within);
+          stops = stop (m .stops);
+          going = first f (m .going);
+        })
       where
         stop : (ran budget 0 (step s) .1 ≡ budget) ⊎ (finished (ran budget 0 (step s) .0) ≡ true)
-          → (ran budget 0 (step s) .1 + 1 ≡ suc budget) ⊎ (finished (ran budget 0 (step s) .0) ≡ true)
+            → (ran budget 0 (step s) .1 + 1 ≡ suc budget) ⊎ (finished (ran budget 0 (step s) .0) ≡ true)
         stop (inl e) = inl (omega arith)
         stop (inr e) = inr e
 
@@ -122,13 +123,14 @@ countdown-steps (suc k) s w h =
 pub total-least : (s : Survey) → wellFormed s ≡ true → Total s (total s)
 unfolding total
 total-least s w =
-    record
-      { ends = ended (m .stops)
-      ; least = λ i l e. not-both (finished (steps i s)) (eq-eqb (steps i s .clock .stage) FINISHED e) (m .going i l)
-      }
+    record {
+      ends = ended (m .stops);
+      least = λ i l e. not-both (finished (steps i s)) (eq-eqb (steps i s .clock .stage) FINISHED e) (m .going i l);
+    }
   where
     m : Made (countdown s) s (ran (countdown s) 0 s .0) (ran (countdown s) 0 s .1)
     m = ran-made (countdown s) s
+
     ended : (ran (countdown s) 0 s .1 ≡ countdown s) ⊎ (finished (ran (countdown s) 0 s .0) ≡ true) → steps (ran (countdown s) 0 s .1) s .clock .stage ≡ FINISHED
     ended (inr f) = rw (← (m .state)) (eqb-true (ran (countdown s) 0 s .0 .clock .stage) FINISHED f)
     ended (inl e) =
@@ -146,6 +148,7 @@ ended-exact s w k = (λ e. late e (decLt k (total s)), after)
     late : steps k s .clock .stage ≡ FINISHED → Dec (k < total s) → total s ≤ k
     late e (yes l) = absurd (total-least s w .least k l e)
     late e (no l) = omega arith
+
     after : total s ≤ k → steps k s .clock .stage ≡ FINISHED
     after l =
         let j : k ≡ total s + (k - total s) = omega arith in
