@@ -9,3 +9,4 @@ pub mod Members
 pub mod Pigeonhole
 pub mod Parts
 pub mod Text
+pub mod Agreement

@@ -1,2 +1,4 @@
 pub mod Site
 pub mod Rooted
+pub mod Colors
+pub mod BreadthFirst

@@ -12,3 +12,4 @@ pub mod Range
 pub mod Aux
 pub mod Labels
 pub mod RoundBounds
+pub mod TreeLaws
