@@ -1,5 +1,7 @@
 pub mod Site
 pub mod Rooted
+pub mod Colors
+pub mod BreadthFirst
 pub mod Doubling
 pub mod Ordered
 pub mod Segments

@@ -5,13 +5,14 @@ pub mod Ceilings
 pub mod CeilingLaws
 pub mod Components
 pub mod Tree
+pub mod ParentChoice
 pub mod Tour
 pub mod Ranking
+pub mod RankingLaws
 pub mod Order
 pub mod Range
+pub mod RangeLaws
+pub mod ChoiceLaws
 pub mod Aux
 pub mod Labels
 pub mod RoundBounds
-pub mod RankingLaws
-pub mod RangeLaws
-pub mod ChoiceLaws
