@@ -175,7 +175,7 @@ module _ {n m : ℕ} {ends : List ℕ} (site : Site n m ends) where
     pub done : colorEnds n k color (colorRound n m k ends color) ≡ true → Colored n m ends (colorRound n m k ends color)
     done e =
         record {
-          below = λ v l. rw (after .values v l) (reached-picked rounds v (value v) (unit v l) (value-reached rounds (suc k) v (unit v l)) .below);
+          below = λ v l. rw (after .values v l) (reached-picked all n (Link m ends) v (value v) (unit v l) (value-reached rounds (suc k) v (unit v l)) .below);
           reached = λ v l. rw (after .values v l) (plain (value-reached rounds (suc k) v (unit v l)));
           lowest = λ v w l c. rw (after .values v l) (still-least rounds (suc k) st v w (unit v l) (near c));
           same = same;
@@ -198,5 +198,5 @@ module _ {n m : ℕ} {ends : List ℕ} (site : Site n m ends) where
 
         own : (v : ℕ) → v < n → at (colorRound n m k ends color) (at (colorRound n m k ends color) v) ≡ at (colorRound n m k ends color) v
         own v l =
-            let b : value v < n = reached-picked rounds v (value v) (unit v l) (value-reached rounds (suc k) v (unit v l)) .below in
+            let b : value v < n = reached-picked all n (Link m ends) v (value v) (unit v l) (value-reached rounds (suc k) v (unit v l)) .below in
             rw (after .values v l) (after .values (value v) b ∙ still-own rounds (suc k) st both v (unit v l))
