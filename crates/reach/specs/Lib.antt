@@ -1,5 +1,6 @@
 pub mod Site
 pub mod Rooted
+pub mod Sized
 pub mod Colors
 pub mod BreadthFirst
 pub mod Doubling

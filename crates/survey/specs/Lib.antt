@@ -3,6 +3,7 @@ pub mod Load
 pub mod WellFormed
 pub mod Kept
 pub mod Step
+pub mod StageLaws
 pub mod StepKept
 pub mod StepLaws
 pub mod Run
