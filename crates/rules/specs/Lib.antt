@@ -6,6 +6,7 @@ pub mod CeilingLaws
 pub mod Components
 pub mod Tree
 pub mod Tour
+pub mod TourLaws
 pub mod Ranking
 pub mod Order
 pub mod Range
