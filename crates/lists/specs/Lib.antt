@@ -3,6 +3,7 @@ pub mod Bools
 pub mod Tables
 pub mod Folds
 pub mod FoldLaws
+pub mod Sums
 pub mod All
 pub mod Counts
 pub mod CountOne

@@ -3,6 +3,10 @@ pub mod Rooted
 pub mod Sized
 pub mod Colors
 pub mod BreadthFirst
+pub mod SizeAndOrder
+pub mod Potentials
+pub mod TourOf
+pub mod Places
 pub mod Doubling
 pub mod Ordered
 pub mod Segments

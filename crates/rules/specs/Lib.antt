@@ -7,6 +7,7 @@ pub mod Components
 pub mod Tree
 pub mod ParentChoice
 pub mod Tour
+pub mod TourLaws
 pub mod Ranking
 pub mod RankingLaws
 pub mod Order
