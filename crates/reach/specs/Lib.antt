@@ -14,3 +14,6 @@ pub mod OffTheTree
 pub mod AuxEdges
 pub mod AuxColors
 pub mod LabelsRight
+pub mod Invariant
+pub mod Ticks
+pub mod Rounds1and2

@@ -1,0 +1,87 @@
+-- Rounds of stages 1 and 2.
+use mathlib.Core.Path.{_≡_, refl, sym, ap, _∙_}
+use mathlib.Core.Bool.{Bool, true, false, cond}
+use mathlib.Core.Logic.{_⊎_, inl, inr}
+use Prim.Native.Nat.{ℕ, suc, _+_, _≤_, _<_, max}
+use native.Mathlib.Numerals.{add-one}
+use native.Mathlib.Omega.{arith}
+use lib.ListN.{length}
+use Rattle.lists.specs.Tests.{either, not-both}
+use Rattle.rules.specs.Basics.{ABSENT, at}
+use Rattle.rules.specs.Ceilings.{ceiling}
+use Rattle.rules.specs.Components.{colorRound, colorEnds}
+use Rattle.rules.specs.Tree.{parentRound, distRound, treeEnds}
+use Rattle.survey.specs.declared.state.Survey.{Survey}
+use Rattle.survey.specs.State.{units, links}
+use Rattle.survey.specs.Step
+use Rattle.survey.specs.StageLaws.{ticked, step-1, ends-1, requests-1, step-2, ends-2, requests-2}
+use Rattle.reach.specs.Site.{Site}
+use Rattle.reach.specs.Sized.{Sized}
+use Rattle.reach.specs.Colors
+use Rattle.reach.specs.BreadthFirst
+use Rattle.reach.specs.Invariant.{Base, Fresh, Treed, In1, In2, In3, Reached, in1, in2, in3}
+use Rattle.reach.specs.Ticks.{Goes, uncut, stage-on, made-on, stage-over, made-over, requests-next}
+
+-- ---- stage 1
+
+module _ (s : Survey) (b : Base s) (i : In1 s) where
+  color-room : units s ≤ length (s .components .color)
+  color-room = omega (arith, b .site .fewUnits, b .sized .byUnit .0)
+
+  rule-1 : Step.ruleEnds s ≡ colorEnds (units s) (s .clock .made) (s .components .color) (colorRound (units s) (links s) (s .clock .made) (s .table .ends) (s .components .color))
+  unfolding Step.components
+  rule-1 = ends-1 s (i .stage)
+
+  quiet-1 : (last : Bool) → Step.nextClock last (Step.roundRequests s) (s .clock) .requests ≡ 0
+  quiet-1 last =
+      requests-next last (Step.roundRequests s) (s .clock) (omega (arith, i .quiet, requests-1 s (i .stage)))
+      ∙ omega (arith, i .quiet, requests-1 s (i .stage))
+
+  fresh-1 : Fresh (ticked s (Step.components s))
+  unfolding Step.components
+  fresh-1 = record { parents = i .fresh .parents; distances = i .fresh .distances }
+
+  -- the stage goes on
+  on-1 : Step.lastRound s ≡ false → Colors.ColorsAt (units s) (links s) (s .table .ends) (colorRound (units s) (links s) (s .clock .made) (s .table .ends) (s .components .color)) (suc (s .clock .made))
+    → Reached (ticked s (Step.components s))
+  unfolding Step.components
+  on-1 e c =
+      in1
+      (record
+        { stage = stage-on (Step.lastRound s) (Step.roundRequests s) (s .clock) e ∙ i .stage
+        ; quiet = quiet-1 (Step.lastRound s)
+        ; fresh = fresh-1
+        ; colors = inr (rw (made-on (Step.lastRound s) (Step.roundRequests s) (s .clock) e) (omega arith, rw (add-one (s .clock .made)) c))
+        })
+
+  -- the stage is over
+  over-1 : Step.lastRound s ≡ true → Colors.Colored (units s) (links s) (s .table .ends) (colorRound (units s) (links s) (s .clock .made) (s .table .ends) (s .components .color))
+    → Reached (ticked s (Step.components s))
+  unfolding Step.components
+  over-1 e c =
+      in2
+      (record
+        { stage = stage-over (Step.lastRound s) (Step.roundRequests s) (s .clock) e ∙ omega (arith, i .stage)
+        ; quiet = quiet-1 (Step.lastRound s)
+        ; colored = c
+        ; tree = inl (made-over (Step.lastRound s) (Step.roundRequests s) (s .clock) e, fresh-1)
+        })
+
+  pub goes-1 : Goes s
+  goes-1 = go (i .colors) (either (Step.ruleEnds s))
+    where
+      Later : Type 0
+      Later = (1 ≤ s .clock .made) × Colors.ColorsAt (units s) (links s) (s .table .ends) (s .components .color) (s .clock .made)
+      first : s .clock .made ≡ 0 → Goes s
+      first z =
+          let rule : Step.ruleEnds s ≡ false = rule-1 ∙ rw z (Colors.first-goes-on (b .site) (s .components .color) _) in
+          let u : Step.lastRound s ≡ Step.ruleEnds s = uncut s (λ e. rw (i .stage) (omega arith)) in
+          record { uncut = u; after = rw (step-1 s (i .stage)) (on-1 (u ∙ rule) (rw z (Colors.first (b .site) (s .components .color) color-room))) }
+      go : (s .clock .made ≡ 0) ⊎ Later → (Step.ruleEnds s ≡ true) ⊎ (Step.ruleEnds s ≡ false) → Goes s
+      go (inl z) r = first z
+      go (inr (l, c)) (inr r) =
+          let u : Step.lastRound s ≡ Step.ruleEnds s = uncut s (λ e. rw (i .stage) (omega (arith, Colors.bound (b .site) c l (sym rule-1 ∙ r)))) in
+          record { uncut = u; after = rw (step-1 s (i .stage)) (on-1 (u ∙ r) (Colors.next (b .site) c l)) }
+      go (inr (l, c)) (inl r) =
+          let u : Step.lastRound s ≡ Step.ruleEnds s = uncut s (λ e. absurd (not-both (Step.ruleEnds s) r e)) in
+          record { uncut = u; after = rw (step-1 s (i .stage)) (over-1 (u ∙ r) (Colors.done (b .site) c l (sym rule-1 ∙ r))) }
