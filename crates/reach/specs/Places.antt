@@ -1,7 +1,7 @@
 -- Stages 5 and 6 from the potentials: forward arcs, descendants and places; and what places are: a numbering of the units from 0 in which the
 -- descendants of each unit are an interval.
 use mathlib.Core.Path.{_≡_, refl, sym, ap, _∙_}
-use mathlib.Core.Bool.{Bool, true, false}
+use mathlib.Core.Bool.{Bool, true, false, cond, not, _&&_}
 use mathlib.Core.Logic.{_↔_, _⊎_, inl, inr}
 use mathlib.Core.List.{List}
 use Prim.Native.Nat.{ℕ, _+_, _*_, _-_, _≤_, _<_}
@@ -166,6 +166,20 @@ module _ {n m : ℕ} {ends color parent : List ℕ} {d : ℕ → ℕ} (rooted : 
           let x = held a (2 * v + 1) l e in
           let y = held (a - 1) (2 * v) (omega arith) (omega arith) in
           rw i (le-ltb (at rank a) (at rank (a - 1)) (omega (arith, rank-less rooted v h)))
+
+  -- so the second ranking counts the arcs into units
+  pub forward-value : (rank forward : List ℕ) → ((a : ℕ) → a < 2 * n → at rank a ≡ rankOf n parent d a)
+      → ((a : ℕ) → a < 2 * n → at forward a ≡ cond (isArc parent a && ltb (at rank a) (at rank (reverseArc a))) 1 0) → (a : ℕ) → a < 2 * n
+      → (isArc parent a && not (eqb (at forward a) 0)) ≡ (isArc parent a && isInto a)
+  forward-value rank forward f g a l = go (either (isArc parent a))
+    where
+      mark : (b : Bool) → not (eqb (cond b 1 0) 0) ≡ b
+      mark true = refl
+      mark false = refl
+
+      go : (isArc parent a ≡ true) ⊎ (isArc parent a ≡ false) → (isArc parent a && not (eqb (at forward a) 0)) ≡ (isArc parent a && isInto a)
+      go (inl t) = rw (g a l, t, forward-exact rank f a l t) (mark (isInto a))
+      go (inr t) = rw t refl
 
   pub descendants-nd : (rank : List ℕ) → ((a : ℕ) → a < 2 * n → at rank a ≡ rankOf n parent d a) → (v : ℕ) → v < n
       → descendants n color parent rank v ≡ nd n parent d v

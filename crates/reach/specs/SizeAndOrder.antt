@@ -14,7 +14,7 @@ use Rattle.lists.specs.FoldLaws.{count-le}
 use Rattle.lists.specs.Sums.{sum-cong, sum-zero, sum-add, sum-swap, sum-le, sum-more, sum-one}
 use Rattle.lists.specs.Tests.{either, or-cases, or-left, or-right, and-left, and-right, and-true, cond-true, cond-false, refuted}
 use Rattle.rules.specs.Basics.{at}
-use Rattle.rules.specs.TourLaws.{turned, turned-low, turned-high, turned-below, turned-one}
+use Rattle.rules.specs.TourLaws.{turned, turned-low, turned-cases, turned-below, turned-one}
 use Rattle.graph.specs.Forest.{Anc, self, up}
 use Rattle.graph.specs.Ancestors.{anc-trans, anc-depth, anc-level, anc-order, anc-child, anc?, anc-of, top-anc, root-up}
 use Rattle.reach.specs.Rooted.{Rooted, rootOf}
@@ -119,27 +119,27 @@ module _ {n m : ℕ} {ends color parent : List ℕ} {d : ℕ → ℕ} (rooted : 
       → _≡_ {A = ℕ} (cond (isAbove parent d v w) 1 0) (cond (eqb v w) 1 0 + sum n (λ (c : ℕ). cond (isChild parent d v c && isAbove parent d c w) 1 0))
   below-split v w l = go (ℕ-discrete v w) (anc? (rooted .forest) v w)
     where
-      Through : ℕ → Bool
-      Through c = isChild parent d v c && isAbove parent d c w
+      isThrough : ℕ → Bool
+      isThrough c = isChild parent d v c && isAbove parent d c w
 
-      through : (c : ℕ) → Through c ≡ true → Child parent d v c × Anc (at parent) d c w
+      through : (c : ℕ) → isThrough c ≡ true → Child parent d v c × Anc (at parent) d c w
       through c t = (
         child-of v c (and-left (isChild parent d v c) (isAbove parent d c w) t),
         above-exact c w .0 (and-right (isChild parent d v c) (isAbove parent d c w) t),
       )
 
-      none : ((c : ℕ) → Child parent d v c → Anc (at parent) d c w → ⊥) → sum n (λ (c : ℕ). cond (Through c) 1 0) ≡ 0
+      none : ((c : ℕ) → Child parent d v c → Anc (at parent) d c w → ⊥) → sum n (λ (c : ℕ). cond (isThrough c) 1 0) ≡ 0
       none h =
-          sum-zero n (λ (c : ℕ). cond (Through c) 1 0)
-          (λ (c : ℕ) (k : c < n). cond-false (Through c) 1 0 (refuted (Through c) (λ (t : Through c ≡ true). h c (through c t .0) (through c t .1))))
+          sum-zero n (λ (c : ℕ). cond (isThrough c) 1 0)
+          (λ (c : ℕ) (k : c < n). cond-false (isThrough c) 1 0 (refuted (isThrough c) (λ (t : isThrough c ≡ true). h c (through c t .0) (through c t .1))))
 
-      one : (c : ℕ) → Child parent d v c → Anc (at parent) d c w → sum n (λ (x : ℕ). cond (Through x) 1 0) ≡ 1
+      one : (c : ℕ) → Child parent d v c → Anc (at parent) d c w → sum n (λ (x : ℕ). cond (isThrough x) 1 0) ≡ 1
       one c h a =
-          sum-one n (λ (x : ℕ). cond (Through x) 1 0) c (inside c (h .0))
+          sum-one n (λ (x : ℕ). cond (isThrough x) 1 0) c (inside c (h .0))
           (λ (x : ℕ) (k : x < n) (e : x ≢ c).
-          cond-false (Through x) 1 0
-          (refuted (Through x) (λ (t : Through x ≡ true). e (same x (through x t .0) (through x t .1)))))
-          ∙ cond-true (Through c) 1 0 (and-true (isChild parent d v c) (isAbove parent d c w) (child-true v c h) (above-exact c w .1 a))
+          cond-false (isThrough x) 1 0
+          (refuted (isThrough x) (λ (t : isThrough x ≡ true). e (same x (through x t .0) (through x t .1)))))
+          ∙ cond-true (isThrough c) 1 0 (and-true (isChild parent d v c) (isAbove parent d c w) (child-true v c h) (above-exact c w .1 a))
         where
           same : (x : ℕ) → Child parent d v x → Anc (at parent) d x w → x ≡ c
           same x g b =
@@ -150,7 +150,7 @@ module _ {n m : ℕ} {ends color parent : List ℕ} {d : ℕ → ℕ} (rooted : 
       yes-above a = cond-true (isAbove parent d v w) 1 0 (above-exact v w .1 a)
 
       go : Dec (v ≡ w) → Dec (Anc (at parent) d v w)
-          → _≡_ {A = ℕ} (cond (isAbove parent d v w) 1 0) (cond (eqb v w) 1 0 + sum n (λ (c : ℕ). cond (Through c) 1 0))
+          → _≡_ {A = ℕ} (cond (isAbove parent d v w) 1 0) (cond (eqb v w) 1 0 + sum n (λ (c : ℕ). cond (isThrough c) 1 0))
       go (yes e) a =
           let s : _≡_ {A = ℕ} (cond (eqb v w) 1 0) 1 = cond-true (eqb v w) 1 0 (eq-eqb v w e) in
           omega (arith, yes-above (self e), none (λ (c : ℕ) (h : Child parent d v c) (b : Anc (at parent) d c w). deep c h (anc-depth (rooted .forest) b)))
@@ -277,17 +277,14 @@ module _ {n m : ℕ} {ends color parent : List ℕ} {d : ℕ → ℕ} (rooted : 
       let e = earlier-gap v (key n parent d v q) (n + n) (omega (arith, turned-below n (pivot parent d v) q l)) last in
       omega (arith, earlier-all v (n + n) (inside v h) (omega arith))
     where
-      last : (c : ℕ) → Child parent d v c → key n parent d v (at parent v) ≤ key n parent d v c → key n parent d v c < n + n → ⊥
-      last c g a b = go (decLt c (suc (at parent v))) (rw (pivot-parent v h) at a)
-        where
-          other : c ≡ at parent v → ⊥
-          other e = let j : d c ≡ d (at parent v) = ap d e in omega (arith, child-deeper v c g, deeper v h)
+      other : (c : ℕ) → Child parent d v c → c ≢ at parent v
+      other c g e = let j : d c ≡ d (at parent v) = ap d e in omega (arith, child-deeper v c g, deeper v h)
 
-          go : Dec (c < suc (at parent v)) → turned n (suc (at parent v)) (at parent v) ≤ turned n (suc (at parent v)) c → ⊥
-          go (yes i) j =
-              other (omega (arith, turned-low n (suc (at parent v)) c i, turned-low n (suc (at parent v)) (at parent v) (omega arith)))
-          go (no i) j =
-              omega (arith, turned-high n (suc (at parent v)) c (omega arith), turned-low n (suc (at parent v)) (at parent v) (omega arith), inside c (g .0))
+      last : (c : ℕ) → Child parent d v c → key n parent d v (at parent v) ≤ key n parent d v c → key n parent d v c < n + n → ⊥
+      last c g a b =
+          let j : turned n (suc (at parent v)) (at parent v) ≤ turned n (suc (at parent v)) c = rw (pivot-parent v h) at a in
+          let k = turned-low n (suc (at parent v)) (at parent v) (omega arith) in
+          turned-cases n (suc (at parent v)) c (λ i e. other c g (omega arith)) (λ i e. omega (arith, inside c (g .0)))
 
   -- ---- preorder numbers
 

@@ -32,6 +32,13 @@ no-follower : (n : ℕ) (parent : List ℕ) (a : ℕ) → isArc parent a ≡ fal
 unfolding follower
 no-follower n parent a e = rw e refl
 
+-- a start leads into a unit
+pub start-into : (n : ℕ) (parent : List ℕ) (a : ℕ) → isStart n parent a ≡ true → isInto a ≡ true
+unfolding isStart
+start-into n parent a t =
+    and-left (isInto a) (isRoot parent (at parent (arcUnit a)))
+    (and-left (isInto a && isRoot parent (at parent (arcUnit a))) (eqb (leastNeighbor n parent (at parent (arcUnit a))) (arcUnit a)) t)
+
 module _ {n m : ℕ} {ends color parent : List ℕ} {d : ℕ → ℕ} (site : Site n m ends) (rooted : Rooted n m ends color parent d) where
   small : n ≤ ABSENT
   small = omega (arith, site .fewUnits)
@@ -174,9 +181,7 @@ module _ {n m : ℕ} {ends color parent : List ℕ} {d : ℕ → ℕ} (site : Si
           let z = pre-root rooted q flat in
           let o : _≡_ {A = ℕ} (cond (isInto a) 1 0) 1 = cond-true (isInto a) 1 0 i in
           (omega (arith, none, flat), omega (arith, none))
-      go (inr (e, i)) =
-          absurd (not-both (isInto a)
-          (and-left (isInto a) (isRoot parent q) (and-left (isInto a && isRoot parent q) (eqb (leastPassing n (treeNeighbor parent q)) w) t)) i)
+      go (inr (e, i)) = absurd (not-both (isInto a) (start-into n parent a t) i)
 
   -- from the parent
   round-parent : (a b u v w : ℕ) → Child parent d u v → a ≡ 2 * v → w < n → treeNeighbor parent v w ≡ true → Arc parent d b v w

@@ -161,67 +161,52 @@ pub turned-high : (n pivot w : ℕ) → pivot ≤ w → turned n pivot w ≡ w
 unfolding turned
 turned-high n pivot w l = rw (le-ltb w pivot l) (omega arith)
 
-pub turned-below : (n pivot w : ℕ) → w < n → turned n pivot w < n + n
-turned-below n pivot w l = go (decLt w pivot)
+-- a number is below the pivot or not
+pub turned-cases : {G : Type 0} (n pivot w : ℕ) → (w < pivot → turned n pivot w ≡ w + n → G) → (pivot ≤ w → turned n pivot w ≡ w → G) → G
+turned-cases {G} n pivot w f g = go (decLt w pivot)
   where
-    go : Dec (w < pivot) → turned n pivot w < n + n
-    go (yes k) = omega (arith, turned-low n pivot w k)
-    go (no k) = omega (arith, turned-high n pivot w (omega arith))
+    go : Dec (w < pivot) → G
+    go (yes l) = f l (turned-low n pivot w l)
+    go (no l) = let k : pivot ≤ w = omega arith in g k (turned-high n pivot w k)
+
+pub turned-below : (n pivot w : ℕ) → w < n → turned n pivot w < n + n
+turned-below n pivot w l = turned-cases n pivot w (λ k e. omega arith) (λ k e. omega arith)
 
 pub turned-one : (n pivot w x : ℕ) → w < n → x < n → turned n pivot w ≡ turned n pivot x → w ≡ x
-turned-one n pivot w x l k e = go (decLt w pivot) (decLt x pivot)
-  where
-    go : Dec (w < pivot) → Dec (x < pivot) → w ≡ x
-    go (yes a) (yes b) = omega (arith, turned-low n pivot w a, turned-low n pivot x b)
-    go (yes a) (no b) = omega (arith, turned-low n pivot w a, turned-high n pivot x (omega arith))
-    go (no a) (yes b) = omega (arith, turned-high n pivot w (omega arith), turned-low n pivot x b)
-    go (no a) (no b) = omega (arith, turned-high n pivot w (omega arith), turned-high n pivot x (omega arith))
+turned-one n pivot w x l k h =
+    turned-cases n pivot w
+    (λ a e. turned-cases n pivot x (λ b g. omega arith) (λ b g. omega arith))
+    (λ a e. turned-cases n pivot x (λ b g. omega arith) (λ b g. omega arith))
+
+-- w is the next after u, by key
+abbrev pub NextBy : (ℕ → ℕ) → (ℕ → Bool) → ℕ → ℕ → ℕ → Type 0
+NextBy key nb n u w = (key u < key w) × ((x : ℕ) → x < n → nb x ≡ true → key u < key x → key w ≤ key x)
 
 module _ {nb : ℕ → Bool} {n u w : ℕ} (lw : w < n) (tw : nb w ≡ true) where
   -- cut after u, the next comes first
   pub turned-first : Next nb n u w → (x : ℕ) → x < n → nb x ≡ true → turned n (suc u) w ≤ turned n (suc u) x
-  turned-first (greater a f) x l t = go (decLt x (suc u))
-    where
-      go : Dec (x < suc u) → turned n (suc u) w ≤ turned n (suc u) x
-      go (yes k) = omega (arith, turned-low n (suc u) x k, turned-high n (suc u) w (omega arith))
-      go (no k) = omega (arith, turned-high n (suc u) x (omega arith), turned-high n (suc u) w (omega arith), f x l t (omega arith))
+  turned-first (greater a f) x l t =
+      let kw = turned-high n (suc u) w a in
+      turned-cases n (suc u) x (λ k e. omega arith) (λ k e. omega (arith, f x l t k))
   turned-first (wrapped a f) x l t =
-      omega (arith, a x l t, a w lw tw, f x l t, turned-low n (suc u) x (omega (arith, a x l t)), turned-low n (suc u) w (omega (arith, a w lw tw)))
+      let bx = a x l t in
+      let bw = a w lw tw in
+      omega (arith, f x l t, turned-low n (suc u) x (omega arith), turned-low n (suc u) w (omega arith))
 
-  -- cut after another one q, the next is the next, and u is not the last
-  pub turned-next : (q : ℕ) → q < n → nb q ≡ true → u ≢ q → u < n → Next nb n u w
-      → (turned n (suc q) u < turned n (suc q) w) × ((x : ℕ) → x < n → nb x ≡ true → turned n (suc q) u < turned n (suc q) x → turned n (suc q) w ≤ turned n (suc q) x)
-  turned-next q lq tq d lu (greater a f) = go (decLt u (suc q))
-    where
-      go : Dec (u < suc q)
-          → (turned n (suc q) u < turned n (suc q) w) × ((x : ℕ) → x < n → nb x ≡ true → turned n (suc q) u < turned n (suc q) x → turned n (suc q) w ≤ turned n (suc q) x)
-      go (yes k) =
-          let b = f q lq tq (omega arith) in
-          let ku = turned-low n (suc q) u k in
-          let kw = turned-low n (suc q) w (omega arith) in
-          (omega arith, λ (x : ℕ) (l : x < n) (t : nb x ≡ true) (j : turned n (suc q) u < turned n (suc q) x). from x l t j (decLt x (suc q)) ku kw)
-        where
-          from : (x : ℕ) → x < n → nb x ≡ true → turned n (suc q) u < turned n (suc q) x → Dec (x < suc q) → turned n (suc q) u ≡ u + n → turned n (suc q) w ≡ w + n
-              → turned n (suc q) w ≤ turned n (suc q) x
-          from x l t j (yes i) ku kw = let e = turned-low n (suc q) x i in omega (arith, f x l t (omega arith))
-          from x l t j (no i) ku kw = let e = turned-high n (suc q) x (omega arith) in omega arith
-      go (no k) =
-          let ku = turned-high n (suc q) u (omega arith) in
-          let kw = turned-high n (suc q) w (omega arith) in
-          (omega arith, λ (x : ℕ) (l : x < n) (t : nb x ≡ true) (j : turned n (suc q) u < turned n (suc q) x). from x l t j (decLt x (suc q)) ku kw)
-        where
-          from : (x : ℕ) → x < n → nb x ≡ true → turned n (suc q) u < turned n (suc q) x → Dec (x < suc q) → turned n (suc q) u ≡ u → turned n (suc q) w ≡ w
-              → turned n (suc q) w ≤ turned n (suc q) x
-          from x l t j (yes i) ku kw = let e = turned-low n (suc q) x i in omega arith
-          from x l t j (no i) ku kw = let e = turned-high n (suc q) x (omega arith) in omega (arith, f x l t (omega arith))
+  -- cut after another one q, the next is the next by key, and u is not the last
+  pub turned-next : (q : ℕ) → q < n → nb q ≡ true → u ≢ q → u < n → Next nb n u w → NextBy (turned n (suc q)) nb n u w
+  turned-next q lq tq d lu (greater a f) =
+      turned-cases n (suc q) u
+      (λ k ku.
+      let b = f q lq tq (omega arith) in
+      let kw = turned-low n (suc q) w (omega arith) in
+      (omega arith, λ x l t j. turned-cases n (suc q) x (λ i e. omega (arith, f x l t (omega arith))) (λ i e. omega arith)))
+      (λ k ku.
+      let kw = turned-high n (suc q) w (omega arith) in
+      (omega arith, λ x l t j. turned-cases n (suc q) x (λ i e. omega arith) (λ i e. omega (arith, f x l t (omega arith)))))
   turned-next q lq tq d lu (wrapped a f) =
       let b = a q lq tq in
       let c = f q lq tq in
       let ku = turned-high n (suc q) u (omega arith) in
       let kw = turned-low n (suc q) w (omega arith) in
-      (omega arith, λ (x : ℕ) (l : x < n) (t : nb x ≡ true) (j : turned n (suc q) u < turned n (suc q) x). from x l t j (decLt x (suc q)) ku kw)
-    where
-      from : (x : ℕ) → x < n → nb x ≡ true → turned n (suc q) u < turned n (suc q) x → Dec (x < suc q) → turned n (suc q) u ≡ u → turned n (suc q) w ≡ w + n
-          → turned n (suc q) w ≤ turned n (suc q) x
-      from x l t j (yes i) ku kw = let e = turned-low n (suc q) x i in omega (arith, f x l t)
-      from x l t j (no i) ku kw = let e = turned-high n (suc q) x (omega arith) in omega (arith, a x l t)
+      (omega arith, λ x l t j. turned-cases n (suc q) x (λ i e. omega (arith, f x l t)) (λ i e. omega (arith, a x l t)))
