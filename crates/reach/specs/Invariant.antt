@@ -4,6 +4,7 @@ use mathlib.Core.Bool.{Bool, true, cond}
 use mathlib.Core.Logic.{_⊎_}
 use mathlib.Core.List.{List}
 use Prim.Native.Nat.{ℕ, _+_, _*_, _-_, _≤_, _<_, min, max}
+use Rattle.numbers.specs.Lg.{lg}
 use Rattle.rules.specs.Basics.{ABSENT, at}
 use Rattle.rules.specs.ChoiceLaws.{AtLeast}
 use Rattle.rules.specs.Tour.{isInto, isArc, follower, predecessor}
@@ -57,6 +58,10 @@ pub record Toured (s : Survey) : Type 0 where
 abbrev pub rank : (s : Survey) → Treed s → ℕ → ℕ
 rank s t a = rankOf (units s) (s .tree .parent) (t .depth) a
 
+-- what the first ranking sums up to: the rank of an arc, 0 where there is none
+abbrev pub ranks : (s : Survey) → Treed s → ℕ → ℕ
+ranks s t a = cond (isArc (s .tree .parent) a) (rank s t a) 0
+
 abbrev pub sums : (s : Survey) → Treed s → ℕ → ℕ
 sums s t a = forwardSum (units s) (s .tree .parent) (t .depth) a
 
@@ -91,13 +96,13 @@ pub record In4 (s : Survey) : Type 0 where
   pub stage : s .clock .stage ≡ 4
   pub toured : Toured s
   pub asks : s .clock .requests ≡ asked (2 * units s) (rank s (toured .treed)) (s .clock .made)
-  pub ranked : Ranked (2 * units s) (rank s (toured .treed)) (rank s (toured .treed)) (s .ranking .jump) (s .ranking .sum) (s .clock .made)
+  pub ranked : Ranked (2 * units s) (rank s (toured .treed)) (ranks s (toured .treed)) (s .ranking .jump) (s .ranking .sum) (s .clock .made)
 
 pub record In5 (s : Survey) : Type 0 where
   pub stage : s .clock .stage ≡ 5
   pub few : s .clock .requests ≤ 4079
   pub toured : Toured s
-  pub ranks : (a : ℕ) → a < 2 * units s → at (s .ranking .sum) a ≡ rank s (toured .treed) a
+  pub held : (a : ℕ) → a < 2 * units s → isArc (s .tree .parent) a ≡ true → at (s .ranking .sum) a ≡ rank s (toured .treed) a
   pub marks : (s .clock .made ≡ 0)
     ⊎ ((s .clock .made ≡ 1) × ((a : ℕ) → a < 2 * units s → isArc (s .tree .parent) a ≡ true → at (s .order .forward) a ≡ cond (isInto a) 1 0))
 
@@ -111,6 +116,7 @@ pub record In6 (s : Survey) : Type 0 where
 pub record In7 (s : Survey) : Type 0 where
   pub stage : s .clock .stage ≡ 7
   pub few : s .clock .requests ≤ 8158
+  pub early : s .clock .made ≤ lg (units s)
   pub numbered : Numbered s
   pub segments : (s .clock .made ≡ 0)
     ⊎ ((1 ≤ s .clock .made)

@@ -17,3 +17,8 @@ pub mod LabelsRight
 pub mod Invariant
 pub mod Ticks
 pub mod Rounds1and2
+pub mod RankingOf
+pub mod Rounds3and4
+pub mod Rounds5and6
+pub mod Rounds7and8
+pub mod Rounds9and10

@@ -143,8 +143,12 @@ module _ {n m : ℕ} {ends color parent : List ℕ} {d : ℕ → ℕ} (rooted : 
 
   -- ---- the rules of stages 5 and 6, on tables that hold the potentials
 
+  -- a table holds the ranks of the arcs
+  abbrev pub Held : List ℕ → Type 0
+  Held rank = (a : ℕ) → a < 2 * n → isArc parent a ≡ true → at rank a ≡ rankOf n parent d a
+
   -- forward arcs are those into a unit
-  pub forward-exact : (rank : List ℕ) → ((a : ℕ) → a < 2 * n → at rank a ≡ rankOf n parent d a) → (a : ℕ) → a < 2 * n → isArc parent a ≡ true
+  pub forward-exact : (rank : List ℕ) → Held rank → (a : ℕ) → a < 2 * n → isArc parent a ≡ true
       → ltb (at rank a) (at rank (reverseArc a)) ≡ isInto a
   forward-exact rank f a l t = go (arc-cases a)
     where
@@ -154,34 +158,20 @@ module _ {n m : ℕ} {ends color parent : List ℕ} {d : ℕ → ℕ} (rooted : 
       h : 0 < d v
       h = arc-exact rooted a l .0 t
 
-      held : (b x : ℕ) → b < 2 * n → b ≡ x → at rank b ≡ rankOf n parent d x
-      held b x k e = f b k ∙ ap (rankOf n parent d) e
+      held : (b x : ℕ) → b < 2 * n → arcUnit b ≡ v → b ≡ x → at rank b ≡ rankOf n parent d x
+      held b x k u e = f b k (arc-exact rooted b k .1 (rw u h)) ∙ ap (rankOf n parent d) e
 
       go : ((a ≡ 2 * v) × (isInto a ≡ true)) ⊎ ((a ≡ 2 * v + 1) × (isInto a ≡ false)) → ltb (at rank a) (at rank (reverseArc a)) ≡ isInto a
       go (inl (e, i)) =
-          let x = held a (2 * v) l e in
-          let y = held (a + 1) (2 * v + 1) (omega arith) (omega arith) in
+          let x = held a (2 * v) l refl e in
+          let y = held (a + 1) (2 * v + 1) (omega arith) (omega arith) (omega arith) in
           rw i (lt-ltb (at rank a) (at rank (a + 1)) (omega (arith, rank-less rooted v h)))
       go (inr (e, i)) =
-          let x = held a (2 * v + 1) l e in
-          let y = held (a - 1) (2 * v) (omega arith) (omega arith) in
+          let x = held a (2 * v + 1) l refl e in
+          let y = held (a - 1) (2 * v) (omega arith) (omega arith) (omega arith) in
           rw i (le-ltb (at rank a) (at rank (a - 1)) (omega (arith, rank-less rooted v h)))
 
-  -- so the second ranking counts the arcs into units
-  pub forward-value : (rank forward : List ℕ) → ((a : ℕ) → a < 2 * n → at rank a ≡ rankOf n parent d a)
-      → ((a : ℕ) → a < 2 * n → at forward a ≡ cond (isArc parent a && ltb (at rank a) (at rank (reverseArc a))) 1 0) → (a : ℕ) → a < 2 * n
-      → (isArc parent a && not (eqb (at forward a) 0)) ≡ (isArc parent a && isInto a)
-  forward-value rank forward f g a l = go (either (isArc parent a))
-    where
-      mark : (b : Bool) → not (eqb (cond b 1 0) 0) ≡ b
-      mark true = refl
-      mark false = refl
-
-      go : (isArc parent a ≡ true) ⊎ (isArc parent a ≡ false) → (isArc parent a && not (eqb (at forward a) 0)) ≡ (isArc parent a && isInto a)
-      go (inl t) = rw (g a l, t, forward-exact rank f a l t) (mark (isInto a))
-      go (inr t) = rw t refl
-
-  pub descendants-nd : (rank : List ℕ) → ((a : ℕ) → a < 2 * n → at rank a ≡ rankOf n parent d a) → (v : ℕ) → v < n
+  pub descendants-nd : (rank : List ℕ) → Held rank → (v : ℕ) → v < n
       → descendants n color parent rank v ≡ nd n parent d v
   unfolding descendants
   descendants-nd rank f v l = go (either (isRoot parent v)) (ℕ-discrete (d v) 0)
@@ -189,7 +179,13 @@ module _ {n m : ℕ} {ends color parent : List ℕ} {d : ℕ → ℕ} (rooted : 
       go : (isRoot parent v ≡ true) ⊎ (isRoot parent v ≡ false) → Dec (d v ≡ 0) → descendants n color parent rank v ≡ nd n parent d v
       go (inl t) z = rw t (root-size v l (root-exact rooted v l .0 t))
       go (inr t) (yes z) = absurd (not-both (isRoot parent v) (root-exact rooted v l .1 z) t)
-      go (inr t) (no z) = rw (t, f (2 * v) (omega arith), f (2 * v + 1) (omega arith)) (rank-size rooted v (omega arith))
+      go (inr t) (no z) =
+          let h : 0 < d v = omega arith in
+          let even : arcUnit (2 * v) ≡ v = omega arith in
+          let odd : arcUnit (2 * v + 1) ≡ v = omega arith in
+          let x = f (2 * v) (omega arith) (arc-exact rooted (2 * v) (omega arith) .1 (rw even h)) in
+          let y = f (2 * v + 1) (omega arith) (arc-exact rooted (2 * v + 1) (omega arith) .1 (rw odd h)) in
+          rw (t, x, y) (rank-size rooted v h)
 
   pub place-exact : n ≤ maxUnits → (sum : List ℕ) → ((a : ℕ) → a < 2 * n → at sum a ≡ forwardSum n parent d a) → (v : ℕ) → v < n
       → placeOf n color parent sum v ≡ place n color parent d v

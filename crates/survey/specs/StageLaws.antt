@@ -1,7 +1,7 @@
 -- What a step is at each stage, by the number that the clock shows: the tables, the end rule and the requests, each stated once.
 use mathlib.Core.Path.{_≡_, refl, ap, _∙_}
 use mathlib.Core.Bool.{Bool, true, false, cond}
-use Prim.Native.Nat.{ℕ, _*_}
+use Prim.Native.Nat.{ℕ, _*_, _-_}
 use native.Mathlib.Omega.{arith}
 use lib.Dec.{eqb}
 use borrow.Author.Tests.{ne-eqb}
@@ -192,3 +192,37 @@ ends-10 s e = rw e refl
 pub requests-10 : (s : Survey) → s .clock .stage ≡ 10 → Step.roundRequests s ≡ 0
 unfolding Step.roundRequests
 requests-10 s e = rw e refl
+
+-- ---- stages whose first round differs
+
+pub tour-first : (s : Survey) → s .clock .made ≡ 0 → Step.tour s ≡ Step.tourNext s
+unfolding Step.tour
+tour-first s e = rw e refl
+
+pub tour-second : (s : Survey) → s .clock .made ≡ 1 → Step.tour s ≡ Step.tourPred s
+unfolding Step.tour
+tour-second s e = rw e refl
+
+pub marks-first : (s : Survey) → s .clock .made ≡ 0 → Step.marks s ≡ Step.marksForward s
+unfolding Step.marks
+marks-first s e = rw e refl
+
+pub marks-second : (s : Survey) → s .clock .made ≡ 1 → Step.marks s ≡ Step.marksDescendants s
+unfolding Step.marks
+marks-second s e = rw e refl
+
+pub labels-first : (s : Survey) → s .clock .made ≡ 0 → Step.labels s ≡ Step.labelClasses s
+unfolding Step.labels
+labels-first s e = rw e refl
+
+pub labels-second : (s : Survey) → s .clock .made ≡ 1 → Step.labels s ≡ Step.labelPositions s
+unfolding Step.labels
+labels-second s e = rw e refl
+
+pub range-first : (s : Survey) → s .clock .made ≡ 0 → Step.range s ≡ Step.rangeBegun s
+unfolding Step.range
+range-first s e = rw e refl
+
+pub range-later : (s : Survey) → (s .clock .made ≡ 0 → ⊥) → Step.range s ≡ Step.rangeDoubled (s .clock .made - 1) s
+unfolding Step.range
+range-later s h = rw (ne-eqb (s .clock .made) 0 h) refl
