@@ -14,3 +14,4 @@ pub mod Cuts
 pub mod Joins
 pub mod Touches
 pub mod Triangle
+pub mod Same

@@ -38,7 +38,7 @@ pub record Treed (s : Survey) : Type 0 where
   pub depth : ℕ → ℕ
   pub rooted : Rooted (units s) (links s) (s .table .ends) (s .components .color) (s .tree .parent) depth
   pub unrelated : (u v : ℕ) → OffTree (Link (links s) (s .table .ends)) (at (s .tree .parent)) depth u v
-    → (Anc (at (s .tree .parent)) depth u v → ⊥) × (Anc (at (s .tree .parent)) depth v u → ⊥)
+      → (Anc (at (s .tree .parent)) depth u v → ⊥) × (Anc (at (s .tree .parent)) depth v u → ⊥)
 
 -- round one of stage 3
 abbrev pub Followers : Survey → Type 0
@@ -77,14 +77,14 @@ pub record In1 (s : Survey) : Type 0 where
   pub quiet : s .clock .requests ≡ 0
   pub fresh : Fresh s
   pub colors : (s .clock .made ≡ 0)
-    ⊎ ((1 ≤ s .clock .made) × ColorsAt (units s) (links s) (s .table .ends) (s .components .color) (s .clock .made))
+      ⊎ ((1 ≤ s .clock .made) × ColorsAt (units s) (links s) (s .table .ends) (s .components .color) (s .clock .made))
 
 pub record In2 (s : Survey) : Type 0 where
   pub stage : s .clock .stage ≡ 2
   pub quiet : s .clock .requests ≡ 0
   pub colored : Colored (units s) (links s) (s .table .ends) (s .components .color)
   pub tree : ((s .clock .made ≡ 0) × Fresh s)
-    ⊎ ((1 ≤ s .clock .made) × TreeAt (units s) (links s) (s .table .ends) (s .components .color) (s .tree .parent) (s .tree .dist) (s .clock .made))
+      ⊎ ((1 ≤ s .clock .made) × TreeAt (units s) (links s) (s .table .ends) (s .components .color) (s .tree .parent) (s .tree .dist) (s .clock .made))
 
 pub record In3 (s : Survey) : Type 0 where
   pub stage : s .clock .stage ≡ 3
@@ -104,7 +104,7 @@ pub record In5 (s : Survey) : Type 0 where
   pub toured : Toured s
   pub held : (a : ℕ) → a < 2 * units s → isArc (s .tree .parent) a ≡ true → at (s .ranking .sum) a ≡ rank s (toured .treed) a
   pub marks : (s .clock .made ≡ 0)
-    ⊎ ((s .clock .made ≡ 1) × ((a : ℕ) → a < 2 * units s → isArc (s .tree .parent) a ≡ true → at (s .order .forward) a ≡ cond (isInto a) 1 0))
+      ⊎ ((s .clock .made ≡ 1) × ((a : ℕ) → a < 2 * units s → isArc (s .tree .parent) a ≡ true → at (s .order .forward) a ≡ cond (isInto a) 1 0))
 
 pub record In6 (s : Survey) : Type 0 where
   pub stage : s .clock .stage ≡ 6
@@ -119,10 +119,10 @@ pub record In7 (s : Survey) : Type 0 where
   pub early : s .clock .made ≤ lg (units s)
   pub numbered : Numbered s
   pub segments : (s .clock .made ≡ 0)
-    ⊎ ((1 ≤ s .clock .made)
-    × SegmentsAt _≤_ (units s) (localAt min (units s) (links s) (s .table .ends) (s .tree .parent) (s .order .pre)) (at (s .order .pre))
+      ⊎ ((1 ≤ s .clock .made)
+      × SegmentsAt _≤_ (units s) (localAt min (units s) (links s) (s .table .ends) (s .tree .parent) (s .order .pre)) (at (s .order .pre))
       (lastPlace (s .order .nd) (s .order .pre)) (s .global .low) (s .range .low) (s .range .little) (s .range .big) (s .clock .made - 1)
-    × SegmentsAt AtLeast (units s) (localAt max (units s) (links s) (s .table .ends) (s .tree .parent) (s .order .pre)) (at (s .order .pre))
+      × SegmentsAt AtLeast (units s) (localAt max (units s) (links s) (s .table .ends) (s .tree .parent) (s .order .pre)) (at (s .order .pre))
       (lastPlace (s .order .nd) (s .order .pre)) (s .global .high) (s .range .high) (s .range .little) (s .range .big) (s .clock .made - 1))
 
 pub record In8 (s : Survey) : Type 0 where
@@ -138,8 +138,8 @@ pub record In9 (s : Survey) : Type 0 where
   pub numbered : Numbered s
   pub marked : Marked (units s) (links s) (s .table .ends) (s .tree .parent) (s .aux .links) (s .aux .parents) (numbered .treed .depth)
   pub classes : (s .clock .made ≡ 0)
-    ⊎ ((first : List ℕ) × (units s ≤ lib.ListN.length first) × (1 ≤ s .clock .made)
-    × (s .aux .color ≡ auxAfter (units s) (links s) (s .table .ends) (s .tree .parent) (s .aux .links) (s .aux .parents) first (s .clock .made)))
+      ⊎ ((first : List ℕ) × (units s ≤ lib.ListN.length first) × (1 ≤ s .clock .made)
+      × (s .aux .color ≡ auxAfter (units s) (links s) (s .table .ends) (s .tree .parent) (s .aux .links) (s .aux .parents) first (s .clock .made)))
 
 pub record In10 (s : Survey) : Type 0 where
   pub stage : s .clock .stage ≡ 10
@@ -147,8 +147,8 @@ pub record In10 (s : Survey) : Type 0 where
   pub numbered : Numbered s
   pub classes : Classes (Link (links s) (s .table .ends)) (at (s .tree .parent)) (numbered .treed .depth) (at (s .aux .color))
   pub named : (s .clock .made ≡ 0)
-    ⊎ ((s .clock .made ≡ 1)
-    × ((j : ℕ) → j < links s
+      ⊎ ((s .clock .made ≡ 1)
+      × ((j : ℕ) → j < links s
       → at (s .labels .class) j
       ≡ at (s .aux .color) (namingUnit (s .tree .parent) (s .order .pre) (Rattle.table.specs.Table.endA (s .table .ends) j) (Rattle.table.specs.Table.endB (s .table .ends) j))))
 

@@ -22,3 +22,5 @@ pub mod Rounds3and4
 pub mod Rounds5and6
 pub mod Rounds7and8
 pub mod Rounds9and10
+pub mod Loaded
+pub mod Reach

@@ -30,30 +30,31 @@ module _ (s : Survey) (b : Base s) (t : Treed s) where
 
   pub first-potential : Potential (2 * units s) (rank s t) (ranks s t)
   first-potential =
-      record
-        { few = omega (arith, few-arcs)
-        ; positive = λ a l. rank-positive (t .rooted) a
-        ; small = λ a l. cond-keeps (λ (x : ℕ). x ≤ MAX-NUMBER) (isArc (s .tree .parent) a) (rank s t a) 0 (omega (arith, rank-small a, few-arcs)) (omega arith)
-        }
+      record {
+        few = omega (arith, few-arcs);
+        positive = λ a l. rank-positive (t .rooted) a;
+        small = λ a l. cond-keeps (λ (x : ℕ). x ≤ MAX-NUMBER) (isArc (s .tree .parent) a) (rank s t a) 0 (omega (arith, rank-small a, few-arcs)) (omega arith);
+      }
 
   pub second-potential : Potential (2 * units s) (rank s t) (sums s t)
   second-potential =
-      record
-        { few = omega (arith, few-arcs)
-        ; positive = λ a l. rank-positive (t .rooted) a
-        ; small = λ a l. omega (arith, forward-le (t .rooted) a, few-arcs)
-        }
+      record {
+        few = omega (arith, few-arcs);
+        positive = λ a l. rank-positive (t .rooted) a;
+        small = λ a l. omega (arith, forward-le (t .rooted) a, few-arcs);
+      }
 
   -- behind each arc but the first ones stands another
   behind : (a : ℕ) → a < 2 * units s → 1 < rank s t a
-    → (isArc (s .tree .parent) a ≡ true) × ((c : ℕ) × (c < 2 * units s) × (isArc (s .tree .parent) c ≡ true) × (suc (rank s t c) ≡ rank s t a))
+      → (isArc (s .tree .parent) a ≡ true) × ((c : ℕ) × (c < 2 * units s) × (isArc (s .tree .parent) c ≡ true) × (suc (rank s t c) ≡ rank s t a))
   behind a l h =
       go (preceded (b .site) (t .rooted) followers (λ i k. getD-tab (2 * units s) (follower (units s) (s .tree .parent)) i 0 k) a l)
     where
       followers : List ℕ
       followers = tab (2 * units s) (follower (units s) (s .tree .parent))
+
       go : {c : ℕ} → Preceded (units s) (s .tree .parent) (t .depth) a c
-        → (isArc (s .tree .parent) a ≡ true) × ((e : ℕ) × (e < 2 * units s) × (isArc (s .tree .parent) e ≡ true) × (suc (rank s t e) ≡ rank s t a))
+          → (isArc (s .tree .parent) a ≡ true) × ((e : ℕ) × (e < 2 * units s) × (isArc (s .tree .parent) e ≡ true) × (suc (rank s t e) ≡ rank s t a))
       go (none e f r z) = absurd (omega arith)
       go (start e f g r z) = absurd (omega arith)
       go {c} (after e f k g r) = (e, (c, k, g, omega (arith, r .rank)))

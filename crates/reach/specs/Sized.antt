@@ -63,138 +63,138 @@ zeros-long k = length-replicate k 0
 pub loaded-sized : (n : ℕ) (t : List ℕ) → Sized (loaded n t)
 unfolding loaded begun
 loaded-sized n t =
-    record
-      { byUnit = (absents-long 256, (absents-long 256, (absents-long 256, (zeros-long 256, (zeros-long 256, (zeros-long 256, (zeros-long 256, (zeros-long 256, (zeros-long 256, (zeros-long 256, (zeros-long 256, (zeros-long 256, (absents-long 256, tt)))))))))))))
-      ; byArc = (absents-long 512, (absents-long 512, (absents-long 512, (zeros-long 512, (zeros-long 512, tt)))))
-      ; byLink = (zeros-long 1024, (absents-long 1024, (absents-long 1024, tt)))
-      }
+    record {
+      byUnit = (absents-long 256, (absents-long 256, (absents-long 256, (zeros-long 256, (zeros-long 256, (zeros-long 256, (zeros-long 256, (zeros-long 256, (zeros-long 256, (zeros-long 256, (zeros-long 256, (zeros-long 256, (absents-long 256, tt)))))))))))));
+      byArc = (absents-long 512, (absents-long 512, (absents-long 512, (zeros-long 512, (zeros-long 512, tt)))));
+      byLink = (zeros-long 1024, (absents-long 1024, (absents-long 1024, tt)));
+    }
 
 module _ (s : Survey) (z : Sized s) where
   components-sized : Sized (Step.components s)
   unfolding Step.components colorRound
   components-sized =
-      record
-        { byUnit = (rw length-over (z .byUnit .0), z .byUnit .1)
-        ; byArc = z .byArc
-        ; byLink = z .byLink
-        }
+      record {
+        byUnit = (rw length-over (z .byUnit .0), z .byUnit .1);
+        byArc = z .byArc;
+        byLink = z .byLink;
+      }
 
   tree-sized : Sized (Step.tree s)
   unfolding Step.tree parentRound distRound
   tree-sized =
-      record
-        { byUnit = (z .byUnit .0, (rw length-over (z .byUnit .1 .0), (rw length-over (z .byUnit .1 .1 .0), z .byUnit .1 .1 .1)))
-        ; byArc = z .byArc
-        ; byLink = z .byLink
-        }
+      record {
+        byUnit = (z .byUnit .0, (rw length-over (z .byUnit .1 .0), (rw length-over (z .byUnit .1 .1 .0), z .byUnit .1 .1 .1)));
+        byArc = z .byArc;
+        byLink = z .byLink;
+      }
 
   tourNext-sized : Sized (Step.tourNext s)
   unfolding Step.tourNext nextRound
   tourNext-sized =
-      record
-        { byUnit = z .byUnit
-        ; byArc = (rw length-over (z .byArc .0), z .byArc .1)
-        ; byLink = z .byLink
-        }
+      record {
+        byUnit = z .byUnit;
+        byArc = (rw length-over (z .byArc .0), z .byArc .1);
+        byLink = z .byLink;
+      }
 
   tourPred-sized : Sized (Step.tourPred s)
   unfolding Step.tourPred predRound firstJumps firstSums
   tourPred-sized =
-      record
-        { byUnit = z .byUnit
-        ; byArc = (z .byArc .0, (rw length-over (z .byArc .1 .0), (rw length-over (z .byArc .1 .1 .0), (rw length-over (z .byArc .1 .1 .1 .0), z .byArc .1 .1 .1 .1))))
-        ; byLink = z .byLink
-        }
+      record {
+        byUnit = z .byUnit;
+        byArc = (z .byArc .0, (rw length-over (z .byArc .1 .0), (rw length-over (z .byArc .1 .1 .0), (rw length-over (z .byArc .1 .1 .1 .0), z .byArc .1 .1 .1 .1))));
+        byLink = z .byLink;
+      }
 
   ranking-sized : Sized (Step.ranking s)
   unfolding Step.ranking jumpRound sumRound
   ranking-sized =
-      record
-        { byUnit = z .byUnit
-        ; byArc = (z .byArc .0, (z .byArc .1 .0, (rw length-over (z .byArc .1 .1 .0), (rw length-over (z .byArc .1 .1 .1 .0), z .byArc .1 .1 .1 .1))))
-        ; byLink = z .byLink
-        }
+      record {
+        byUnit = z .byUnit;
+        byArc = (z .byArc .0, (z .byArc .1 .0, (rw length-over (z .byArc .1 .1 .0), (rw length-over (z .byArc .1 .1 .1 .0), z .byArc .1 .1 .1 .1))));
+        byLink = z .byLink;
+      }
 
   marksForward-sized : Sized (Step.marksForward s)
   unfolding Step.marksForward forwardRound
   marksForward-sized =
-      record
-        { byUnit = z .byUnit
-        ; byArc = (z .byArc .0, (z .byArc .1 .0, (z .byArc .1 .1 .0, (z .byArc .1 .1 .1 .0, (rw length-over (z .byArc .1 .1 .1 .1 .0), z .byArc .1 .1 .1 .1 .1)))))
-        ; byLink = z .byLink
-        }
+      record {
+        byUnit = z .byUnit;
+        byArc = (z .byArc .0, (z .byArc .1 .0, (z .byArc .1 .1 .0, (z .byArc .1 .1 .1 .0, (rw length-over (z .byArc .1 .1 .1 .1 .0), z .byArc .1 .1 .1 .1 .1)))));
+        byLink = z .byLink;
+      }
 
   marksDescendants-sized : Sized (Step.marksDescendants s)
   unfolding Step.marksDescendants ndRound secondJumps secondSums
   marksDescendants-sized =
-      record
-        { byUnit = (z .byUnit .0, (z .byUnit .1 .0, (z .byUnit .1 .1 .0, (rw length-over (z .byUnit .1 .1 .1 .0), z .byUnit .1 .1 .1 .1))))
-        ; byArc = (z .byArc .0, (z .byArc .1 .0, (rw length-over (z .byArc .1 .1 .0), (rw length-over (z .byArc .1 .1 .1 .0), z .byArc .1 .1 .1 .1))))
-        ; byLink = z .byLink
-        }
+      record {
+        byUnit = (z .byUnit .0, (z .byUnit .1 .0, (z .byUnit .1 .1 .0, (rw length-over (z .byUnit .1 .1 .1 .0), z .byUnit .1 .1 .1 .1))));
+        byArc = (z .byArc .0, (z .byArc .1 .0, (rw length-over (z .byArc .1 .1 .0), (rw length-over (z .byArc .1 .1 .1 .0), z .byArc .1 .1 .1 .1))));
+        byLink = z .byLink;
+      }
 
   places-sized : Sized (Step.places s)
   unfolding Step.places Step.ranking preRound jumpRound sumRound
   places-sized =
-      record
-        { byUnit = (z .byUnit .0, (z .byUnit .1 .0, (z .byUnit .1 .1 .0, (z .byUnit .1 .1 .1 .0, (rw length-over (z .byUnit .1 .1 .1 .1 .0), z .byUnit .1 .1 .1 .1 .1)))))
-        ; byArc = (z .byArc .0, (z .byArc .1 .0, (rw length-over (z .byArc .1 .1 .0), (rw length-over (z .byArc .1 .1 .1 .0), z .byArc .1 .1 .1 .1))))
-        ; byLink = z .byLink
-        }
+      record {
+        byUnit = (z .byUnit .0, (z .byUnit .1 .0, (z .byUnit .1 .1 .0, (z .byUnit .1 .1 .1 .0, (rw length-over (z .byUnit .1 .1 .1 .1 .0), z .byUnit .1 .1 .1 .1 .1)))));
+        byArc = (z .byArc .0, (z .byArc .1 .0, (rw length-over (z .byArc .1 .1 .0), (rw length-over (z .byArc .1 .1 .1 .0), z .byArc .1 .1 .1 .1))));
+        byLink = z .byLink;
+      }
 
   rangeBegun-sized : Sized (Step.rangeBegun s)
   unfolding Step.rangeBegun rangeFirst littleFirst bigFirst globalFirst
   rangeBegun-sized =
-      record
-        { byUnit = (z .byUnit .0, (z .byUnit .1 .0, (z .byUnit .1 .1 .0, (z .byUnit .1 .1 .1 .0, (z .byUnit .1 .1 .1 .1 .0, (rw length-over (z .byUnit .1 .1 .1 .1 .1 .0), (rw length-over (z .byUnit .1 .1 .1 .1 .1 .1 .0), (rw length-over (z .byUnit .1 .1 .1 .1 .1 .1 .1 .0), (rw length-over (z .byUnit .1 .1 .1 .1 .1 .1 .1 .1 .0), (rw length-over (z .byUnit .1 .1 .1 .1 .1 .1 .1 .1 .1 .0), (rw length-over (z .byUnit .1 .1 .1 .1 .1 .1 .1 .1 .1 .1 .0), z .byUnit .1 .1 .1 .1 .1 .1 .1 .1 .1 .1 .1)))))))))))
-        ; byArc = z .byArc
-        ; byLink = z .byLink
-        }
+      record {
+        byUnit = (z .byUnit .0, (z .byUnit .1 .0, (z .byUnit .1 .1 .0, (z .byUnit .1 .1 .1 .0, (z .byUnit .1 .1 .1 .1 .0, (rw length-over (z .byUnit .1 .1 .1 .1 .1 .0), (rw length-over (z .byUnit .1 .1 .1 .1 .1 .1 .0), (rw length-over (z .byUnit .1 .1 .1 .1 .1 .1 .1 .0), (rw length-over (z .byUnit .1 .1 .1 .1 .1 .1 .1 .1 .0), (rw length-over (z .byUnit .1 .1 .1 .1 .1 .1 .1 .1 .1 .0), (rw length-over (z .byUnit .1 .1 .1 .1 .1 .1 .1 .1 .1 .1 .0), z .byUnit .1 .1 .1 .1 .1 .1 .1 .1 .1 .1 .1)))))))))));
+        byArc = z .byArc;
+        byLink = z .byLink;
+      }
 
   rangeDoubled-sized : (i : ℕ) → Sized (Step.rangeDoubled i s)
   unfolding Step.rangeDoubled rangeLater littleLater bigLater globalLater
   rangeDoubled-sized i =
-      record
-        { byUnit = (z .byUnit .0, (z .byUnit .1 .0, (z .byUnit .1 .1 .0, (z .byUnit .1 .1 .1 .0, (z .byUnit .1 .1 .1 .1 .0, (rw length-over (z .byUnit .1 .1 .1 .1 .1 .0), (rw length-over (z .byUnit .1 .1 .1 .1 .1 .1 .0), (rw length-over (z .byUnit .1 .1 .1 .1 .1 .1 .1 .0), (rw length-over (z .byUnit .1 .1 .1 .1 .1 .1 .1 .1 .0), (rw length-over (z .byUnit .1 .1 .1 .1 .1 .1 .1 .1 .1 .0), (rw length-over (z .byUnit .1 .1 .1 .1 .1 .1 .1 .1 .1 .1 .0), z .byUnit .1 .1 .1 .1 .1 .1 .1 .1 .1 .1 .1)))))))))))
-        ; byArc = z .byArc
-        ; byLink = z .byLink
-        }
+      record {
+        byUnit = (z .byUnit .0, (z .byUnit .1 .0, (z .byUnit .1 .1 .0, (z .byUnit .1 .1 .1 .0, (z .byUnit .1 .1 .1 .1 .0, (rw length-over (z .byUnit .1 .1 .1 .1 .1 .0), (rw length-over (z .byUnit .1 .1 .1 .1 .1 .1 .0), (rw length-over (z .byUnit .1 .1 .1 .1 .1 .1 .1 .0), (rw length-over (z .byUnit .1 .1 .1 .1 .1 .1 .1 .1 .0), (rw length-over (z .byUnit .1 .1 .1 .1 .1 .1 .1 .1 .1 .0), (rw length-over (z .byUnit .1 .1 .1 .1 .1 .1 .1 .1 .1 .1 .0), z .byUnit .1 .1 .1 .1 .1 .1 .1 .1 .1 .1 .1)))))))))));
+        byArc = z .byArc;
+        byLink = z .byLink;
+      }
 
   auxEdges-sized : Sized (Step.auxEdges s)
   unfolding Step.auxEdges parentJoinsRound linkJoinsRound
   auxEdges-sized =
-      record
-        { byUnit = (z .byUnit .0, (z .byUnit .1 .0, (z .byUnit .1 .1 .0, (z .byUnit .1 .1 .1 .0, (z .byUnit .1 .1 .1 .1 .0, (z .byUnit .1 .1 .1 .1 .1 .0, (z .byUnit .1 .1 .1 .1 .1 .1 .0, (z .byUnit .1 .1 .1 .1 .1 .1 .1 .0, (z .byUnit .1 .1 .1 .1 .1 .1 .1 .1 .0, (z .byUnit .1 .1 .1 .1 .1 .1 .1 .1 .1 .0, (z .byUnit .1 .1 .1 .1 .1 .1 .1 .1 .1 .1 .0, (rw length-over (z .byUnit .1 .1 .1 .1 .1 .1 .1 .1 .1 .1 .1 .0), z .byUnit .1 .1 .1 .1 .1 .1 .1 .1 .1 .1 .1 .1))))))))))))
-        ; byArc = z .byArc
-        ; byLink = (rw length-over (z .byLink .0), z .byLink .1)
-        }
+      record {
+        byUnit = (z .byUnit .0, (z .byUnit .1 .0, (z .byUnit .1 .1 .0, (z .byUnit .1 .1 .1 .0, (z .byUnit .1 .1 .1 .1 .0, (z .byUnit .1 .1 .1 .1 .1 .0, (z .byUnit .1 .1 .1 .1 .1 .1 .0, (z .byUnit .1 .1 .1 .1 .1 .1 .1 .0, (z .byUnit .1 .1 .1 .1 .1 .1 .1 .1 .0, (z .byUnit .1 .1 .1 .1 .1 .1 .1 .1 .1 .0, (z .byUnit .1 .1 .1 .1 .1 .1 .1 .1 .1 .1 .0, (rw length-over (z .byUnit .1 .1 .1 .1 .1 .1 .1 .1 .1 .1 .1 .0), z .byUnit .1 .1 .1 .1 .1 .1 .1 .1 .1 .1 .1 .1))))))))))));
+        byArc = z .byArc;
+        byLink = (rw length-over (z .byLink .0), z .byLink .1);
+      }
 
   auxComponents-sized : Sized (Step.auxComponents s)
   unfolding Step.auxComponents auxRound
   auxComponents-sized =
-      record
-        { byUnit = (z .byUnit .0, (z .byUnit .1 .0, (z .byUnit .1 .1 .0, (z .byUnit .1 .1 .1 .0, (z .byUnit .1 .1 .1 .1 .0, (z .byUnit .1 .1 .1 .1 .1 .0, (z .byUnit .1 .1 .1 .1 .1 .1 .0, (z .byUnit .1 .1 .1 .1 .1 .1 .1 .0, (z .byUnit .1 .1 .1 .1 .1 .1 .1 .1 .0, (z .byUnit .1 .1 .1 .1 .1 .1 .1 .1 .1 .0, (z .byUnit .1 .1 .1 .1 .1 .1 .1 .1 .1 .1 .0, (z .byUnit .1 .1 .1 .1 .1 .1 .1 .1 .1 .1 .1 .0, (rw length-over (z .byUnit .1 .1 .1 .1 .1 .1 .1 .1 .1 .1 .1 .1 .0), z .byUnit .1 .1 .1 .1 .1 .1 .1 .1 .1 .1 .1 .1 .1)))))))))))))
-        ; byArc = z .byArc
-        ; byLink = z .byLink
-        }
+      record {
+        byUnit = (z .byUnit .0, (z .byUnit .1 .0, (z .byUnit .1 .1 .0, (z .byUnit .1 .1 .1 .0, (z .byUnit .1 .1 .1 .1 .0, (z .byUnit .1 .1 .1 .1 .1 .0, (z .byUnit .1 .1 .1 .1 .1 .1 .0, (z .byUnit .1 .1 .1 .1 .1 .1 .1 .0, (z .byUnit .1 .1 .1 .1 .1 .1 .1 .1 .0, (z .byUnit .1 .1 .1 .1 .1 .1 .1 .1 .1 .0, (z .byUnit .1 .1 .1 .1 .1 .1 .1 .1 .1 .1 .0, (z .byUnit .1 .1 .1 .1 .1 .1 .1 .1 .1 .1 .1 .0, (rw length-over (z .byUnit .1 .1 .1 .1 .1 .1 .1 .1 .1 .1 .1 .1 .0), z .byUnit .1 .1 .1 .1 .1 .1 .1 .1 .1 .1 .1 .1 .1)))))))))))));
+        byArc = z .byArc;
+        byLink = z .byLink;
+      }
 
   labelClasses-sized : Sized (Step.labelClasses s)
   unfolding Step.labelClasses classRound
   labelClasses-sized =
-      record
-        { byUnit = z .byUnit
-        ; byArc = z .byArc
-        ; byLink = (z .byLink .0, (rw length-over (z .byLink .1 .0), z .byLink .1 .1))
-        }
+      record {
+        byUnit = z .byUnit;
+        byArc = z .byArc;
+        byLink = (z .byLink .0, (rw length-over (z .byLink .1 .0), z .byLink .1 .1));
+      }
 
   labelPositions-sized : Sized (Step.labelPositions s)
   unfolding Step.labelPositions labelRound
   labelPositions-sized =
-      record
-        { byUnit = z .byUnit
-        ; byArc = z .byArc
-        ; byLink = (z .byLink .0, (z .byLink .1 .0, (rw length-over (z .byLink .1 .1 .0), z .byLink .1 .1 .1)))
-        }
+      record {
+        byUnit = z .byUnit;
+        byArc = z .byArc;
+        byLink = (z .byLink .0, (z .byLink .1 .0, (rw length-over (z .byLink .1 .1 .0), z .byLink .1 .1 .1)));
+      }
 
   tables-sized : Sized (Step.roundTables s)
   unfolding Step.roundTables Step.tour Step.marks Step.range Step.labels

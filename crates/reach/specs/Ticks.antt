@@ -14,9 +14,10 @@ use Rattle.survey.specs.State.{units, MAX-REQUESTS}
 use Rattle.survey.specs.Step
 use Rattle.reach.specs.Invariant.{Reached}
 
--- a round of a reached state: not cut short, and it leaves a reached state
+-- a round of a reached state: not cut short by the ceiling, its requests within their limit, and it leaves a reached state
 pub record Goes (s : Survey) : Type 0 where
   pub uncut : Step.lastRound s ≡ Step.ruleEnds s
+  pub unclamped : s .clock .requests + Step.roundRequests s ≤ MAX-REQUESTS
   pub after : Reached (Step.step s)
 
 -- where a round that does not end the stage leaves room below the ceiling, the rule alone decides

@@ -5,13 +5,14 @@ use Prim.Native.Nat.{ℕ, _*_, _-_}
 use native.Mathlib.Omega.{arith}
 use lib.Dec.{eqb}
 use borrow.Author.Tests.{ne-eqb}
+use Rattle.lists.specs.All.{cond-keeps}
 use Rattle.rules.specs.Components.{colorEnds}
 use Rattle.rules.specs.Tree.{treeEnds}
 use Rattle.rules.specs.Ranking.{requestsOf, rankingEnds}
 use Rattle.rules.specs.Range.{rangeEnds}
 use Rattle.rules.specs.Aux.{auxEnds}
 use Rattle.survey.specs.declared.state.Survey.{Survey}
-use Rattle.survey.specs.State.{units, links, withClock, FINISHED}
+use Rattle.survey.specs.State.{units, links, withClock, finished, FINISHED}
 use Rattle.survey.specs.Step
 
 -- the state with the clock of the next round over these tables
@@ -22,6 +23,31 @@ ticked s tables = withClock (Step.nextClock (Step.lastRound s) (Step.roundReques
 pub step-going : (s : Survey) → (s .clock .stage ≡ FINISHED → ⊥) → Step.step s ≡ ticked s (Step.roundTables s)
 unfolding Step.step
 step-going s h = rw (ne-eqb (s .clock .stage) FINISHED h) refl
+
+-- no round touches the table of links
+record SameTable (s x : Survey) : Type 0 where
+  same : x .table ≡ s .table
+
+kept-table : (s : Survey) → SameTable s (Step.roundTables s)
+unfolding Step.roundTables Step.components Step.tree Step.tour Step.tourNext Step.tourPred Step.ranking Step.marks Step.marksForward Step.marksDescendants Step.places Step.range Step.rangeBegun Step.rangeDoubled Step.auxEdges Step.auxComponents Step.labels Step.labelClasses Step.labelPositions
+kept-table s =
+    choose (eqb (s .clock .stage) 1) (record { same = refl })
+    (choose (eqb (s .clock .stage) 2) (record { same = refl })
+    (choose (eqb (s .clock .stage) 3) (choose (eqb (s .clock .made) 0) (record { same = refl }) (record { same = refl }))
+    (choose (eqb (s .clock .stage) 4) (record { same = refl })
+    (choose (eqb (s .clock .stage) 5) (choose (eqb (s .clock .made) 0) (record { same = refl }) (record { same = refl }))
+    (choose (eqb (s .clock .stage) 6) (choose (Step.lastRound s) (record { same = refl }) (record { same = refl }))
+    (choose (eqb (s .clock .stage) 7) (choose (eqb (s .clock .made) 0) (record { same = refl }) (record { same = refl }))
+    (choose (eqb (s .clock .stage) 8) (record { same = refl })
+    (choose (eqb (s .clock .stage) 9) (record { same = refl })
+    (choose (eqb (s .clock .made) 0) (record { same = refl }) (record { same = refl }))))))))))
+  where
+    choose : (b : Bool) {x y : Survey} → SameTable s x → SameTable s y → SameTable s (cond b x y)
+    choose b {x} {y} p q = cond-keeps (SameTable s) b x y p q
+
+pub step-table : (s : Survey) → Step.step s .table ≡ s .table
+unfolding Step.step
+step-table s = cond-keeps (λ (z : Survey). z .table ≡ s .table) (finished s) s _ refl (kept-table s .same)
 
 -- ---- stage 1
 
