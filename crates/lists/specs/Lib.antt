@@ -3,3 +3,4 @@ pub mod Tables
 pub mod Folds
 pub mod Rests
 pub mod Bools
+pub mod Puts
