@@ -1,6 +1,7 @@
 pub mod Tests
+pub mod Bools
 pub mod Tables
 pub mod Folds
 pub mod Rests
-pub mod Bools
 pub mod Puts
+pub mod Text

@@ -1,11 +1,9 @@
 -- Tables made over a range: entry i is f i. The head waits in a `let`, so that a table costs its length and not its square.
-use mathlib.Core.Path.{_≡_, refl, ap, ap₂, _∙_}
+use mathlib.Core.Path.{_≡_, refl, ap, ap₂}
 use mathlib.Core.List.{List, [], _∷_, _++_}
-use Prim.Native.Nat.{ℕ, zero, suc, _+_, _≤_, _<_, _-_, zero-le, suc-le-suc}
-use native.Mathlib.Omega.{arith}
+use Prim.Native.Nat.{ℕ, zero, suc, _≤_, _<_, zero-le, suc-le-suc}
 use native.Mathlib.Nat.{le-of-suc-le-suc, not-suc-le-zero}
-use lib.ListN.{length, getD, drop, length-append, length-drop, List·getD-append}
-use lib.Seq.{getD-append-add, getD-drop, ext-getD}
+use lib.ListN.{length, getD, set}
 
 module _ {ℓ} {A : Type ℓ} where
   -- f 0, f 1, .., f (n − 1)
@@ -28,7 +26,49 @@ module _ {ℓ} {A : Type ℓ} where
       ap₂ (λ (x : A) (xs : List A). x ∷ xs) (h zero (suc-le-suc zero-le))
       (tab-cong n (λ (k : ℕ). f (suc k)) (λ (k : ℕ). g (suc k)) (λ (i : ℕ) (l : i < n). h (suc i) (suc-le-suc l)))
 
--- a table after a round: entries below n made anew, those from n on as they were
+-- A table after a round: its entries below n made anew, those from n on as they were.
 module _ {ℓ} {A : Type ℓ} where
   abbrev pub over : ℕ → (ℕ → A) → List A → List A
-  over n f old = tab n f ++ drop n old
+  over zero f old = old
+  over (suc n) f [] = []
+  over (suc n) f (x ∷ old) = let h = f zero in h ∷ over n (λ (k : ℕ). f (suc k)) old
+
+  pub length-over : (n : ℕ) (f : ℕ → A) (old : List A) → length (over n f old) ≡ length old
+  length-over zero f old = refl
+  length-over (suc n) f [] = refl
+  length-over (suc n) f (x ∷ old) = ap suc (length-over n (λ (k : ℕ). f (suc k)) old)
+
+  -- an entry below n
+  pub getD-over : (n : ℕ) (f : ℕ → A) (old : List A) (i : ℕ) (d : A) → i < n → i < length old → getD (over n f old) i d ≡ f i
+  getD-over zero f old i d h l = absurd (not-suc-le-zero h)
+  getD-over (suc n) f [] i d h l = absurd (not-suc-le-zero l)
+  getD-over (suc n) f (x ∷ old) zero d h l = refl
+  getD-over (suc n) f (x ∷ old) (suc i) d h l =
+      getD-over n (λ (k : ℕ). f (suc k)) old i d (le-of-suc-le-suc h) (le-of-suc-le-suc l)
+
+  -- an entry from n on
+  pub getD-over-past : (n : ℕ) (f : ℕ → A) (old : List A) (i : ℕ) (d : A) → n ≤ i → getD (over n f old) i d ≡ getD old i d
+  getD-over-past zero f old i d h = refl
+  getD-over-past (suc n) f [] i d h = refl
+  getD-over-past (suc n) f (x ∷ old) zero d h = absurd (not-suc-le-zero h)
+  getD-over-past (suc n) f (x ∷ old) (suc i) d h = getD-over-past n (λ (k : ℕ). f (suc k)) old i d (le-of-suc-le-suc h)
+
+  -- one entry more, as a loop stores it
+  pub set-over : (n : ℕ) (f : ℕ → A) (old : List A) → set (over n f old) n (f n) ≡ over (suc n) f old
+  set-over zero f [] = refl
+  set-over zero f (x ∷ old) = refl
+  set-over (suc n) f [] = refl
+  set-over (suc n) f (x ∷ old) = ap {B = List A} (λ (l : List A). f zero ∷ l) (set-over n (λ (k : ℕ). f (suc k)) old)
+
+  pub over-cong : (n : ℕ) (f g : ℕ → A) (old : List A) → ((i : ℕ) → i < n → f i ≡ g i) → over n f old ≡ over n g old
+  over-cong zero f g old h = refl
+  over-cong (suc n) f g [] h = refl
+  over-cong (suc n) f g (x ∷ old) h =
+      ap₂ (λ (y : A) (l : List A). y ∷ l) (h zero (suc-le-suc zero-le))
+      (over-cong n (λ (k : ℕ). f (suc k)) (λ (k : ℕ). g (suc k)) old (λ (i : ℕ) (l : i < n). h (suc i) (suc-le-suc l)))
+
+-- f 0 ++ f 1 ++ .. ++ f (n − 1)
+module _ {ℓ} {A : Type ℓ} where
+  abbrev pub gathered : ℕ → (ℕ → List A) → List A
+  gathered zero f = []
+  gathered (suc n) f = gathered n f ++ f n

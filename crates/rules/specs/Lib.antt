@@ -1,0 +1,10 @@
+pub mod Basics
+pub mod Ceilings
+pub mod Components
+pub mod Tree
+pub mod Tour
+pub mod Ranking
+pub mod Order
+pub mod Range
+pub mod Aux
+pub mod Labels

@@ -1,0 +1,1 @@
+// The ten stages as rules over tables: specs only.

@@ -1,0 +1,104 @@
+-- Each call's answer: the state handed back and the reply. A refusal gives only its number, with the state as given and nothing written.
+use mathlib.Core.Bool.{Bool, cond, not}
+use mathlib.Core.List.{List, [], _∷_, _++_}
+use Prim.Native.Nat.{ℕ}
+use lib.Dec.{eqb, ltb}
+use lib.ListN.{length, drop}
+use Rattle.table.specs.Refusals.{firstOf}
+use Rattle.table.specs.Table.{linkCount, tableRefusal}
+use Rattle.files.specs.File.{fileLength, linesOf, readRefusal, writeRefusal, unitsIn, linkFrames}
+use Rattle.survey.specs.declared.state.Survey.{Survey}
+use Rattle.survey.specs.declared.reply.Answer.{Answer}
+use Rattle.survey.specs.declared.reply.Reply.{Reply}
+use Rattle.survey.specs.declared.reply.Reply.the-variants.{Refused, Done, Made, Status, Unit, Link, Read, Written}
+use Rattle.survey.specs.State.{units, links, finished}
+use Rattle.survey.specs.Load.{loaded}
+use Rattle.survey.specs.WellFormed.{wellFormed}
+use Rattle.survey.specs.Step.{step, countdown}
+use Rattle.survey.specs.Run.{ran}
+use Rattle.survey.specs.Report.{unitColor, unitParent, unitPlace, unitSingle, linkLabel, linkLone, report, reportLength}
+
+-- document 01's number of a reply: 0 where the call was not refused
+abbrev pub numberOf : Reply → ℕ
+numberOf (Refused k) = k
+numberOf Done = 0
+numberOf (Made k) = 0
+numberOf (Status stage countdown rounds requests) = 0
+numberOf (Unit unit color parent place single) = 0
+numberOf (Link position label lone) = 0
+numberOf (Read units links) = 0
+numberOf (Written k) = 0
+
+-- the answer where refusal k came up, or the call was made (k = 0): the state after it and its reply
+abbrev pub answered : ℕ → Survey → Survey → Reply → Answer
+answered k s after reply = cond (eqb k 0) (record { survey = after; reply = reply }) (record { survey = s; reply = Refused k })
+
+-- what a lent slice holds after the call: the new contents and the rest as it was, or all as it was where refusal k came up
+abbrev pub written : ℕ → List ℕ → List ℕ → List ℕ
+written k new old = cond (eqb k 0) (new ++ drop (length new) old) old
+
+-- ---- load: 4 to 9
+
+unfoldable pub loadAnswer : ℕ → List ℕ → Survey → Answer
+loadAnswer n t s = answered (tableRefusal n t) s (loaded n t) Done
+
+-- ---- round and run: 10, 11
+
+unfoldable pub roundRefusal : Survey → ℕ
+roundRefusal s = firstOf ((10, not (wellFormed s)) ∷ (11, finished s) ∷ [])
+
+unfoldable pub roundAnswer : Survey → Answer
+roundAnswer s = answered (roundRefusal s) s (step s) Done
+
+unfoldable pub runAnswer : ℕ → Survey → Answer
+runAnswer budget s = answered (roundRefusal s) s (ran budget 0 s .0) (Made (ran budget 0 s .1))
+
+-- ---- status: 10
+
+unfoldable pub statusRefusal : Survey → ℕ
+statusRefusal s = firstOf ((10, not (wellFormed s)) ∷ [])
+
+unfoldable pub statusAnswer : Survey → Answer
+statusAnswer s = answered (statusRefusal s) s s (Status (s .clock .stage) (countdown s) (s .clock .rounds) (s .clock .requests))
+
+-- ---- questions: 10, 12, 13
+
+unfoldable pub questionRefusal : Survey → Bool → ℕ
+questionRefusal s exists = firstOf ((10, not (wellFormed s)) ∷ (12, not (finished s)) ∷ (13, not exists) ∷ [])
+
+unfoldable pub unitRefusal : ℕ → Survey → ℕ
+unitRefusal v s = questionRefusal s (ltb v (units s))
+
+unfoldable pub unitAnswer : ℕ → Survey → Answer
+unitAnswer v s = answered (unitRefusal v s) s s (Unit v (unitColor s v) (unitParent s v) (unitPlace s v) (unitSingle s v))
+
+unfoldable pub linkRefusal : ℕ → Survey → ℕ
+linkRefusal j s = questionRefusal s (ltb j (links s))
+
+unfoldable pub linkAnswer : ℕ → Survey → Answer
+linkAnswer j s = answered (linkRefusal j s) s s (Link j (linkLabel s j) (linkLone s j))
+
+-- ---- report: 10, 12, 14
+
+unfoldable pub reportRefusal : Survey → ℕ → ℕ
+reportRefusal s places =
+    firstOf
+    ((10, not (wellFormed s)) ∷ (12, not (finished s)) ∷ (14, ltb places (reportLength (units s) (links s))) ∷ [])
+
+unfoldable pub reportAnswer : ℕ → Survey → Answer
+reportAnswer places s = answered (reportRefusal s places) s s (Written (reportLength (units s) (links s)))
+
+-- the lent slice after a report
+unfoldable pub reported : Survey → List ℕ → List ℕ
+reported s out = written (reportRefusal s (length out)) (report s) out
+
+-- ---- files: the state is handed back as it came
+
+-- reading a file into words: 1, 2, 3, 6, 14
+unfoldable pub readAnswer : List ℕ → ℕ → Survey → Answer
+readAnswer input places s =
+    answered (readRefusal (linesOf input) places) s s (Read (unitsIn (linesOf input)) (linkFrames (linesOf input)))
+
+-- writing a file from words: 4 to 9, 14
+unfoldable pub writeAnswer : ℕ → List ℕ → ℕ → Survey → Answer
+writeAnswer n t places s = answered (writeRefusal n t places) s s (Written (fileLength (linkCount t)))
