@@ -1,5 +1,5 @@
 -- The kinds of the frames of a survey file, and what recognising a line replies.
-use mathlib.Core.Bool.{Bool, true, false, cond, not, _&&_}
+use mathlib.Core.Bool.{Bool, cond, not, _&&_}
 use mathlib.Core.List.{List}
 use Prim.Native.Nat.{ℕ}
 use lib.Dec.{eqb}
@@ -31,10 +31,6 @@ kindFront s = byteAt s 0
 unfoldable pub fileFront : List ℕ → Bool
 fileFront s = not (eqb (frameBytes (kindFront s)) 0) && lineFront (frameBytes (kindFront s)) s
 
-abbrev pub pickFront : Bool → Front → Front → Front
-pickFront true a b = a
-pickFront false a b = b
-
 -- the frame's kind and number of bytes, or refused: the line has fault 1 of document 01's list
 unfoldable pub frontOf : List ℕ → Front
-frontOf s = pickFront (fileFront s) (Frame (kindFront s) (frameBytes (kindFront s))) Refused
+frontOf s = cond (fileFront s) (Frame (kindFront s) (frameBytes (kindFront s))) Refused

@@ -67,3 +67,8 @@ pub some-cause : (rs : List Reason) → Numbered rs → (firstOf (tests rs) ≡ 
 some-cause [] h = (λ e. e refl, λ (b : ⊥). absurd b)
 some-cause (r ∷ rs) h =
     step-none (r .test) (r .cause) (r .exact) (r .number) (firstOf (tests rs)) (SomeCause rs) (h .0) (some-cause rs (h .1))
+
+-- where nothing is refused, each test in turn fails
+pub passed-test : (b : Bool) (n m : ℕ) → (n ≡ 0 → ⊥) → cond b n m ≡ 0 → (b ≡ false) × (m ≡ 0)
+passed-test true n m h e = absurd (h e)
+passed-test false n m h e = (refl, e)
