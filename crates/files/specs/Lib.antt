@@ -4,3 +4,4 @@ pub mod OrderLaws
 pub mod ShapeLaws
 pub mod PlaceLaws
 pub mod ReadLaws
+pub mod WriteLaws

@@ -6,8 +6,9 @@ use Prim.Native.Nat.{ℕ, _+_, _*_, _-_, _≤_, _<_}
 use native.Mathlib.Nat.{add-zero}
 use native.Mathlib.Omega.{arith}
 use lib.Dec.{eqb}
-use lib.ListN.{length, drop, take, length-drop}
-use lib.Seq.{drop-drop, take-all}
+use lib.ListN.{length, drop, length-drop}
+use lib.Seq.{drop-drop}
+use Rattle.lists.specs.Lent.{lent, lent-rest}
 use Rattle.frames.specs.Frame.{byteAt}
 use Rattle.frames.specs.Kinds.{UNITS, LINK, END, frameBytes, kindFront, fileFront, frontOf}
 use Rattle.frames.specs.FrontLaws.{front-is-frame, front-is-refused}
@@ -17,17 +18,13 @@ use Rattle.files.specs.File.{linesOf, faultyLine, inOrderAfter}
 use Rattle.files.specs.LineLaws.{front-says, faulty-here, faulty-later, faulty-none, pastLine}
 use Rattle.files.specs.OrderLaws.{byteAt-drop, sound-short, sound-later, order-end, order-link, order-other, order-none}
 
--- the rest of a slice from a place on
-pub rest-all : (s : List ℕ) (at : ℕ) → take (length s - at) (drop at s) ≡ drop at s
-rest-all s at = take-all (length s - at) (drop at s) (omega (arith, length-drop at s))
-
 module _ (s : List ℕ) (at : ℕ) (h : at < length s) where
-  pub fault-at : frontOf (take (length s - at) (drop at s)) ≡ Refused → faultyLine (linesOf (drop at s)) ≡ true
-  fault-at e = faulty-here (drop at s) (omega (arith, length-drop at s)) (front-is-refused (drop at s) (ap frontOf (sym (rest-all s at)) ∙ e))
+  pub fault-at : frontOf (lent at s) ≡ Refused → faultyLine (linesOf (drop at s)) ≡ true
+  fault-at e = faulty-here (drop at s) (omega (arith, length-drop at s)) (front-is-refused (drop at s) (ap frontOf (sym (lent-rest at s)) ∙ e))
 
-  module _ (kind bytes : ℕ) (e : frontOf (take (length s - at) (drop at s)) ≡ Frame kind bytes) where
+  module _ (kind bytes : ℕ) (e : frontOf (lent at s) ≡ Frame kind bytes) where
     found : (fileFront (drop at s) ≡ true) × (bytes ≡ frameBytes (kindFront (drop at s)))
-    found = front-is-frame (drop at s) kind bytes (ap frontOf (sym (rest-all s at)) ∙ e)
+    found = front-is-frame (drop at s) kind bytes (ap frontOf (sym (lent-rest at s)) ∙ e)
 
     pub past-fits : at + (2 * bytes + 1) ≤ length s
     past-fits = omega (arith, found .1, front-says (drop at s) (found .0) .short, length-drop at s)

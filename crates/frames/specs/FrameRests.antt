@@ -10,6 +10,7 @@ use lib.ListN.{length, getD, drop, take, set, drop-of-length-le, length-drop, le
 use lib.Seq.{take-suc, length-take-le}
 use borrow.Author.Tests.{lt-ltb, le-ltb, le-leb, lt-leb}
 use Rattle.lists.specs.Rests.{rest-one, rest-two}
+use Rattle.lists.specs.Lent.{lent, back, back-next}
 use Rattle.lists.specs.Puts.{put-one, put-two}
 use Rattle.frames.specs.Frame.{LF, checkByte, lineOf, lineLength, lineOver, digitOf, digitValue, byteAt, hexOf, hexesOf, sumOf, allDigits, bytesOf}
 use Rattle.frames.specs.FrameLaws.{hexes-append, length-hexes}
@@ -100,3 +101,9 @@ line-laid f out h =
       put-one (hexesOf f ++ hexOf (checkByte f)) out (n + 2) LF e (omega arith),
       further,
     )
+
+-- a line written to the lent rest of a slice, past what is laid down already
+pub line-next : (f p out : List ℕ) (at : ℕ) → length p ≡ at → at + lineLength f ≤ length out
+    → back at (p ++ drop at out) (lineOver f (lent at (p ++ drop at out))) ≡ (p ++ lineOf f) ++ drop (at + lineLength f) out
+line-next f p out at e h =
+    back-next (lineOver f) (lineOf f) p out at (lineLength f) e (lineOver-fits f (drop at out) (omega (arith, length-drop at out)))

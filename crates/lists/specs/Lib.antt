@@ -5,3 +5,4 @@ pub mod Folds
 pub mod Rests
 pub mod Puts
 pub mod Text
+pub mod Lent
