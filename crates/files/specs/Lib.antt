@@ -5,3 +5,5 @@ pub mod ShapeLaws
 pub mod PlaceLaws
 pub mod ReadLaws
 pub mod WriteLaws
+pub mod WrittenLaws
+pub mod RewrittenLaws

@@ -106,7 +106,7 @@ whole-says p h =
       known = eqb-false (frameBytes k) 0 (not-true (eqb (frameBytes k) 0) (and-right d u two));
     }
 
-says-whole : (p : List ℕ) (bytes : ℕ) → Whole p bytes → whole (p, true) ≡ true
+pub says-whole : (p : List ℕ) (bytes : ℕ) → Whole p bytes → whole (p, true) ≡ true
 unfolding whole
 says-whole p bytes w =
     rw (w .kind, w .digits, ne-eqb bytes 0 (w .known), eq-eqb (length p) (2 * bytes) (w .long), eq-eqb (sumOf (bytesOf p) % 256) 0 (w .sums))

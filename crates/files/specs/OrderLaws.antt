@@ -66,7 +66,7 @@ unfolding inOrderAfter
 after-end l [] e = eq-eqb (kindOf l) END e
 after-end l (k ∷ ls) e = rw (e, ne-eqb (suc (length ls)) 0 (omega arith))
 
-after-link : (l : Line) (ls : List Line) → kindOf l ≡ LINK → inOrderAfter (l ∷ ls) ≡ inOrderAfter ls
+pub after-link : (l : Line) (ls : List Line) → kindOf l ≡ LINK → inOrderAfter (l ∷ ls) ≡ inOrderAfter ls
 unfolding inOrderAfter
 after-link l [] e = rw e
 after-link l (k ∷ ls) e = rw e

@@ -33,16 +33,16 @@ pub record Tail (s : List ℕ) (ls : List Line) : Type 0 where
 
 -- the first line of sound characters, by its kind
 module _ (s : List ℕ) (l : Line) (ls : List Line) (e : linesOf s ≡ l ∷ ls) (sound : faultyLine (linesOf s) ≡ false) where
-  some : 0 < length s
+  pub some : 0 < length s
   some = some-lines s l ls e
 
-  head-line : l ≡ frontLine s
+  pub head-line : l ≡ frontLine s
   head-line = let q : l ∷ ls ≡ frontLine s ∷ linesOf (pastLine s) = sym e ∙ sound-lines s sound some in cc
 
-  later-lines : ls ≡ linesOf (pastLine s)
+  pub later-lines : ls ≡ linesOf (pastLine s)
   later-lines = let q : l ∷ ls ≡ frontLine s ∷ linesOf (pastLine s) = sym e ∙ sound-lines s sound some in cc
 
-  head-kind : kindOf l ≡ kindFront s
+  pub head-kind : kindOf l ≡ kindFront s
   head-kind = ap kindOf head-line ∙ sound-kind s sound some
 
   head-number : (i : ℕ) → i + 1 < frameBytes (kindFront s) → numberAt l i ≡ wordAt s (2 * i)
@@ -62,15 +62,15 @@ tail-end s l e sound k =
       ends = rw k;
     }
 
-frames-link : (l : Line) (ls : List Line) → kindOf l ≡ LINK → linkFrames (l ∷ ls) ≡ suc (linkFrames ls)
+pub frames-link : (l : Line) (ls : List Line) → kindOf l ≡ LINK → linkFrames (l ∷ ls) ≡ suc (linkFrames ls)
 unfolding linkFrames
 frames-link l ls k = rw (k, one-add)
 
-stated-later : (l m : Line) (ls : List Line) → statedCount (l ∷ m ∷ ls) ≡ statedCount (m ∷ ls)
+pub stated-later : (l m : Line) (ls : List Line) → statedCount (l ∷ m ∷ ls) ≡ statedCount (m ∷ ls)
 unfolding statedCount
 stated-later l m ls = refl
 
-ends-link : (l : Line) (ls : List Line) → kindOf l ≡ LINK → endsIn (l ∷ ls) ≡ numberAt l 1 ∷ numberAt l 3 ∷ endsIn ls
+pub ends-link : (l : Line) (ls : List Line) → kindOf l ≡ LINK → endsIn (l ∷ ls) ≡ numberAt l 1 ∷ numberAt l 3 ∷ endsIn ls
 unfolding endsIn
 ends-link l ls k = rw k
 
@@ -117,30 +117,30 @@ tail-shape (l ∷ m ∷ ls) s e sound h =
 
 -- ---- the whole file
 
-first-units : (l : Line) (ls : List Line) → inOrder (l ∷ ls) ≡ true → (kindOf l ≡ UNITS) × (inOrderAfter ls ≡ true)
+pub first-units : (l : Line) (ls : List Line) → inOrder (l ∷ ls) ≡ true → (kindOf l ≡ UNITS) × (inOrderAfter ls ≡ true)
 unfolding inOrder
 first-units l ls h =
     (eqb-true (kindOf l) UNITS (and-left (eqb (kindOf l) UNITS) (inOrderAfter ls) h), and-right (eqb (kindOf l) UNITS) (inOrderAfter ls) h)
 
-no-order : inOrder [] ≡ true → ⊥
+pub no-order : inOrder [] ≡ true → ⊥
 unfolding inOrder
 no-order h = false≢true h
 
-frames-units : (l : Line) (ls : List Line) → kindOf l ≡ UNITS → linkFrames (l ∷ ls) ≡ linkFrames ls
+pub frames-units : (l : Line) (ls : List Line) → kindOf l ≡ UNITS → linkFrames (l ∷ ls) ≡ linkFrames ls
 unfolding linkFrames
 frames-units l ls k = rw (k, zero-add)
 
-ends-units : (l : Line) (ls : List Line) → kindOf l ≡ UNITS → endsIn (l ∷ ls) ≡ endsIn ls
+pub ends-units : (l : Line) (ls : List Line) → kindOf l ≡ UNITS → endsIn (l ∷ ls) ≡ endsIn ls
 unfolding endsIn
 ends-units l ls k = rw k
 
 -- some line follows the unit count
-stated-after : (l : Line) (ls : List Line) → inOrderAfter ls ≡ true → statedCount (l ∷ ls) ≡ statedCount ls
+pub stated-after : (l : Line) (ls : List Line) → inOrderAfter ls ≡ true → statedCount (l ∷ ls) ≡ statedCount ls
 unfolding inOrderAfter statedCount
 stated-after l [] h = absurd (false≢true h)
 stated-after l (m ∷ ls) h = refl
 
-units-first : (l : Line) (ls : List Line) → unitsIn (l ∷ ls) ≡ numberAt l 1
+pub units-first : (l : Line) (ls : List Line) → unitsIn (l ∷ ls) ≡ numberAt l 1
 unfolding unitsIn
 units-first l ls = refl
 

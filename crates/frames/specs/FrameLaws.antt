@@ -194,7 +194,7 @@ unfolding sumOf
 sum-append [] g = omega arith
 sum-append (b ∷ f) g = omega (arith, sum-append f g)
 
-sum-check : (f : List ℕ) (x : ℕ) → sumOf (f ++ x ∷ []) ≡ sumOf f + x
+pub sum-check : (f : List ℕ) (x : ℕ) → sumOf (f ++ x ∷ []) ≡ sumOf f + x
 unfolding sumOf
 sum-check f x = omega (arith, sum-append f (x ∷ []))
 

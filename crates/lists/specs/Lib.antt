@@ -6,3 +6,4 @@ pub mod Rests
 pub mod Puts
 pub mod Text
 pub mod Lent
+pub mod Listed
