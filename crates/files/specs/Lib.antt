@@ -7,3 +7,4 @@ pub mod ReadLaws
 pub mod WriteLaws
 pub mod WrittenLaws
 pub mod RewrittenLaws
+pub mod FileCauses
