@@ -8,3 +8,5 @@ pub mod WriteLaws
 pub mod WrittenLaws
 pub mod RewrittenLaws
 pub mod FileCauses
+pub mod RoundTrip
+pub mod TripLaws

@@ -18,7 +18,7 @@ use Rattle.files.specs.File.{Line, linesOf, kindOf, numberAt, whole, fau
 use Rattle.files.specs.LineLaws.{lines-more, Whole, says-whole}
 use Rattle.files.specs.OrderLaws.{after-link}
 use Rattle.files.specs.ShapeLaws.{frames-link, ends-link, frames-units, ends-units}
-use Rattle.files.specs.ReadLaws.{accepted}
+use Rattle.files.specs.ReadLaws.{accepted, refused-14}
 
 -- ---- the line of one frame
 
@@ -223,6 +223,7 @@ file-units u ls = refl
 -- what reading a written file finds
 pub record ReadBack (n : ℕ) (t : List ℕ) : Type 0 where
   pub unrefused : (places : ℕ) → length t ≤ places → readRefusal (linesOf (fileOf n t)) places ≡ 0
+  pub short : (places : ℕ) → places < length t → readRefusal (linesOf (fileOf n t)) places ≡ 14
   pub units : unitsIn (linesOf (fileOf n t)) ≡ n
   pub links : linkFrames (linesOf (fileOf n t)) ≡ linkCount t
   pub ends : endsIn (linesOf (fileOf n t)) ≡ t
@@ -248,6 +249,8 @@ written-read n t h =
     record {
       unrefused = λ (places : ℕ) (fits : length t ≤ places).
           rw (file-lines n t) (sym (accepted (u ∷ ls) places faults order (stated ∙ sym count) (omega arith) (omega (arith, p .even))));
+      short = λ (places : ℕ) (h : places < length t).
+          rw (file-lines n t) (sym (refused-14 (u ∷ ls) places faults order (stated ∙ sym count) (omega arith) (omega (arith, p .even))));
       units = rw (file-lines n t) (file-units u ls ∙ number-number UNITS n (omega arith) (omega arith));
       links = rw (file-lines n t) count;
       ends =

@@ -6,6 +6,7 @@ use frames::digits;
 
 mod lines;
 mod reader;
+pub mod trips;
 mod writer;
 
 // What reading a file replies: the unit count and the number of links, or the number of a refusal.
