@@ -3,25 +3,15 @@ use mathlib.Core.Bool.{Bool, true, false, cond, not, _&&_, _||_}
 use mathlib.Core.List.{List, [], _∷_, _++_}
 use Prim.Native.Nat.{ℕ, _+_, _*_, _-_, _/_, _%_}
 use lib.Dec.{leb, ltb, eqb}
-use lib.ListN.{length, getD, drop}
-use Rattle.table.specs.Refusals.{firstOf}
-use Rattle.table.specs.Table.{linkCount, maxLinks, tableRefusal}
+use lib.ListN.{length, getD}
+use Rattle.table.specs.Refusals.{firstOf, written}
+use Rattle.table.specs.Table.{linkCount, maxLinks, tableTests}
 use Rattle.frames.specs.Frame.{LF, wordBytes, wordOf, lineOf, allDigits, bytesOf, sumOf}
-
--- ---- kinds
-
-abbrev pub UNITS : ℕ
-UNITS = 0x01
-
-abbrev pub LINK : ℕ
-LINK = 0x02
-
-abbrev pub END : ℕ
-END = 0x0F
-
--- the bytes of a frame of a file kind, its kind and check byte included; 0: no kind of a file
-abbrev pub frameBytes : ℕ → ℕ
-frameBytes kind = cond (eqb kind UNITS) 4 (cond (eqb kind LINK) 6 (cond (eqb kind END) 4 0))
+use Rattle.frames.specs.Kinds.{UNITS, LINK, END, frameBytes}
+use Rattle.files.specs.declared.Reading.{Reading}
+use Rattle.files.specs.declared.Reading.the-variants.{Read}
+use Rattle.files.specs.declared.Writing.{Writing}
+use Rattle.files.specs.declared.Writing.the-variants.{Written}
 
 -- ---- written
 
@@ -40,8 +30,15 @@ fileLength m = 18 + 13 * m
 
 -- writing into a slice with this many places: 4 to 9, then 14
 unfoldable pub writeRefusal : ℕ → List ℕ → ℕ → ℕ
-writeRefusal n t places =
-    firstOf ((tableRefusal n t, not (eqb (tableRefusal n t) 0)) ∷ (14, ltb places (fileLength (linkCount t))) ∷ [])
+writeRefusal n t places = firstOf (tableTests n t ++ (14, ltb places (fileLength (linkCount t))) ∷ [])
+
+-- the reply, and the slice after the call
+unfoldable pub writeReply : ℕ → List ℕ → ℕ → Writing
+writeReply n t places =
+    cond (eqb (writeRefusal n t places) 0) (Written (fileLength (linkCount t))) (Writing.Refused (writeRefusal n t places))
+
+unfoldable pub writtenFile : ℕ → List ℕ → List ℕ → List ℕ
+writtenFile n t out = written (writeRefusal n t (length out)) (fileOf n t) out
 
 -- ---- read
 
@@ -122,3 +119,12 @@ readRefusal ls places =
     ∷ (6, ltb maxLinks (linkFrames ls))
     ∷ (14, ltb places (2 * linkFrames ls))
     ∷ [])
+
+-- the reply to reading characters into a slice with this many places, and the slice after the call
+unfoldable pub readReply : List ℕ → ℕ → Reading
+readReply s places =
+    cond (eqb (readRefusal (linesOf s) places) 0) (Read (unitsIn (linesOf s)) (linkFrames (linesOf s)))
+    (Reading.Refused (readRefusal (linesOf s) places))
+
+unfoldable pub readWords : List ℕ → List ℕ → List ℕ
+readWords s words = written (readRefusal (linesOf s) (length words)) (endsIn (linesOf s)) words

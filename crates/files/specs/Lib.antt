@@ -1,1 +1,12 @@
 pub mod File
+pub mod LineLaws
+pub mod OrderLaws
+pub mod ShapeLaws
+pub mod PlaceLaws
+pub mod ReadLaws
+pub mod WriteLaws
+pub mod WrittenLaws
+pub mod RewrittenLaws
+pub mod FileCauses
+pub mod RoundTrip
+pub mod TripLaws

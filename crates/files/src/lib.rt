@@ -1,1 +1,52 @@
 // Survey files: bytes to words and back.
+ghost use mathlib.Core.Path.{_≡_};
+ghost use lib.ListN.{length};
+ghost use Rattle.files.specs.File.{readReply, readWords, writeReply, writtenFile};
+use frames::digits;
+
+mod lines;
+mod reader;
+pub mod trips;
+mod writer;
+
+// What reading a file replies: the unit count and the number of links, or the number of a refusal.
+pub enum Reading {
+    Read { units: u16, links: u16 },
+    Refused(u8),
+}
+
+// What writing a file replies: the number of its characters, or the number of a refusal.
+pub enum Writing {
+    Written(u32),
+    Refused(u8),
+}
+
+// A file's ends into words: 1, 2, 3, 6, 14. On a refusal no word changes; words past the last end stay.
+pub fn read(file: &[u8], words: &mut [u16]) -> Reading
+    ensures reply { λ r. ⌜ r ≡ readReply (now (file .entry)) (length (now (words .entry))) ⌝ }
+    ensures lent { λ _. ⌜ now (words .exit) ≡ readWords (now (file .entry)) (now (words .entry)) ⌝ }
+{
+    let refused = reader::refusal(file, words.len());
+    if refused != 0 {
+        return Reading::Refused(refused);
+    }
+    let links = (file.len() - 18) / 13;
+    reader::fill(file, links, words);
+    Reading::Read {
+        units: digits::word_at(file, 2),
+        links: links as u16,
+    }
+}
+
+// The file of a unit count and a table: 4 to 9, 14. On a refusal no byte changes; bytes past the file stay.
+pub fn write(units: u16, words: &[u16], out: &mut [u8]) -> Writing
+    ensures reply { λ r. ⌜ r ≡ writeReply units (now (words .entry)) (length (now (out .entry))) ⌝ }
+    ensures lent { λ _. ⌜ now (out .exit) ≡ writtenFile units (now (words .entry)) (now (out .entry)) ⌝ }
+{
+    let refused = writer::refusal(units, words, out.len());
+    if refused != 0 {
+        return Writing::Refused(refused);
+    }
+    writer::lines(units, words, out);
+    Writing::Written((18 + 13 * (words.len() / 2)) as u32)
+}

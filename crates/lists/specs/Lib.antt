@@ -13,4 +13,7 @@ pub mod Rests
 pub mod Members
 pub mod Pigeonhole
 pub mod Parts
+pub mod Puts
 pub mod Text
+pub mod Lent
+pub mod Listed

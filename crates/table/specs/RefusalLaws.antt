@@ -3,7 +3,7 @@
 use mathlib.Core.Path.{_≡_, refl, sym, _∙_}
 use mathlib.Core.Bool.{Bool, true, false, cond, false≢true, true≢false}
 use mathlib.Core.Logic.{_⊎_, inl, inr, _↔_}
-use mathlib.Core.List.{List, [], _∷_}
+use mathlib.Core.List.{List, [], _∷_, _++_}
 use Prim.Native.Nat.{ℕ, zero, suc}
 use lib.Dec.{T, eqb, eqb-refl}
 use native.Mathlib.Omega.{arith}
@@ -67,3 +67,31 @@ pub some-cause : (rs : List Reason) → Numbered rs → (firstOf (tests rs) ≡ 
 some-cause [] h = (λ e. e refl, λ (b : ⊥). absurd b)
 some-cause (r ∷ rs) h =
     step-none (r .test) (r .cause) (r .exact) (r .number) (firstOf (tests rs)) (SomeCause rs) (h .0) (some-cause rs (h .1))
+
+-- where nothing is refused, each test in turn fails
+pub passed-test : (b : Bool) (n m : ℕ) → (n ≡ 0 → ⊥) → cond b n m ≡ 0 → (b ≡ false) × (m ≡ 0)
+passed-test true n m h e = absurd (h e)
+passed-test false n m h e = (refl, e)
+
+-- ---- tests after others
+
+-- no test has the number 0
+abbrev pub Counted : List (ℕ × Bool) → Type 0
+Counted [] = Unit
+Counted (t ∷ ts) = (t .0 ≡ 0 → ⊥) × Counted ts
+
+some-step : (b : Bool) (n m k : ℕ) → ((m ≡ 0 → ⊥) → k ≡ m) → (cond b n m ≡ 0 → ⊥) → cond b n k ≡ cond b n m
+some-step true n m k later h = refl
+some-step false n m k later h = later h
+
+-- where an earlier test holds, the later ones do not count
+pub first-some : (ts us : List (ℕ × Bool)) → (firstOf ts ≡ 0 → ⊥) → firstOf (ts ++ us) ≡ firstOf ts
+first-some [] us h = absurd (h refl)
+first-some (t ∷ ts) us h = some-step (t .1) (t .0) (firstOf ts) (firstOf (ts ++ us)) (first-some ts us) h
+
+-- where none does, only they count
+pub first-none : (ts us : List (ℕ × Bool)) → Counted ts → firstOf ts ≡ 0 → firstOf (ts ++ us) ≡ firstOf us
+first-none [] us c e = refl
+first-none (t ∷ ts) us c e =
+    let p = passed-test (t .1) (t .0) (firstOf ts) (c .0) e in
+    rw (p .0) (first-none ts us (c .1) (p .1))

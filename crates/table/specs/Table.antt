@@ -64,14 +64,17 @@ repeatedLink [] = false
 repeatedLink (a ∷ []) = false
 repeatedLink (a ∷ b ∷ t) = joinedIn a b t || repeatedLink t
 
--- the checks 4 to 9 in their order: the number of the first that fails, 0 where the table passes
-unfoldable pub tableRefusal : ℕ → List ℕ → ℕ
-tableRefusal n t =
-    firstOf
-    ((4, badUnitCount n)
+-- the checks 4 to 9 in their order
+abbrev pub tableTests : ℕ → List ℕ → List (ℕ × Bool)
+tableTests n t =
+    (4, badUnitCount n)
     ∷ (5, oddWords t)
     ∷ (6, tooManyLinks t)
     ∷ (7, endMissing n t)
     ∷ (8, equalEnds t)
     ∷ (9, repeatedLink t)
-    ∷ [])
+    ∷ []
+
+-- the number of the first that fails, 0 where the table passes
+unfoldable pub tableRefusal : ℕ → List ℕ → ℕ
+tableRefusal n t = firstOf (tableTests n t)

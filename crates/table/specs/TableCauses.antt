@@ -13,6 +13,7 @@ use borrow.Author.Tests.{leb-true, le-leb, ltb-true, lt-ltb, eqb-true, eq-eqb}
 use Rattle.lists.specs.Tests.{or-cases, or-left, or-right, and-left, and-right, and-true}
 use Rattle.table.specs.Refusals.{firstOf}
 use Rattle.table.specs.RefusalLaws.{Reason, FirstCause, SomeCause, first-cause, some-cause, tests}
+use Rattle.table.specs.TableLaws.{endA-later, endB-later}
 use Rattle.table.specs.Table.{maxUnits, maxLinks, linkCount, endA, endB, badUnitCount, oddWords, tooManyLinks, endMissing, equalEnds, sameEnds, joinedIn, repeatedLink, tableRefusal}
 
 -- ---- the causes
@@ -82,17 +83,6 @@ endMissing-back n (x ∷ t) (suc i) l h = or-right (leb n x) (endMissing n t) (e
 
 pub endMissing-exact : (n : ℕ) (t : List ℕ) → (endMissing n t ≡ true) ↔ EndMissing n t
 endMissing-exact n t = (endMissing-forth n t, λ c. endMissing-back n t (c .0) (c .1) (c .2))
-
--- ---- a link more at the front
-
-count-more : (a b : ℕ) (t : List ℕ) → linkCount (a ∷ b ∷ t) ≡ suc (linkCount t)
-count-more a b t = omega arith
-
-endA-later : (a b : ℕ) (t : List ℕ) (j : ℕ) → endA (a ∷ b ∷ t) (suc j) ≡ endA t j
-endA-later a b t j = let e : 2 * suc j ≡ suc (suc (2 * j)) = omega arith in rw e
-
-endB-later : (a b : ℕ) (t : List ℕ) (j : ℕ) → endB (a ∷ b ∷ t) (suc j) ≡ endB t j
-endB-later a b t j = let e : 2 * suc j + 1 ≡ suc (suc (2 * j + 1)) = omega arith in rw e
 
 -- ---- 8: equal ends
 

@@ -1,0 +1,69 @@
+-- A refusal leaves the bytes; a table that passes, in a slice that is long enough, is written line by line.
+use mathlib.Core.Path.{_≡_, sym, _∙_}
+use Prim.Native.Nat.{_≤_}
+use native.Mathlib.Omega.{arith}
+use lib.ListN.{length}
+use Rattle.table.specs.Table.{linkCount}
+use Rattle.table.specs.TableLaws.{passed-checks}
+use Rattle.files.specs.File.{writeRefusal}
+use Rattle.files.specs.WriteLaws.{write-refused, bytes-refused, written-table, written-fits, write-accepted, bytes-accepted}
+use borrow.Author.Needs.{needs}
+use Rattle.files.proofs.write.Statement.{statement}
+use Rattle.files.proofs.write.Tie as tie
+
+accepted : (c : tie.Else1) → writeRefusal (c .before .before .before .before .args .units) (c .before .before .before .before .args .words .now) (length (c .before .before .before .before .args .out .now)) ≡ 0
+accepted c = sym (c .before .refusal .ensures) ∙ c .if1 .left
+
+few : (c : tie.Else1) → linkCount (c .before .before .before .before .args .words .now) ≤ 1024
+few c =
+    let a = c .before .before .before .before .args in
+    passed-checks (a .units) (a .words .now) (written-table (a .units) (a .words .now) (length (a .out .now)) (accepted c)) .few
+
+refusal-requires : tie.Need-refusal-requires
+refusal-requires c κs = search needs
+
+returns : tie.Need-returns
+returns c =
+    let a = c .before .before .before .before .args in
+    let r = c .before .refusal in (
+      write-refused (a .units) (a .words .now) (length (a .out .now)) (r .result) (r .ensures) (c .if1 .taken),
+      bytes-refused (a .units) (a .words .now) (a .out .now) (r .result) (r .ensures) (c .if1 .taken),
+    )
+
+lines-requires : tie.Need-lines-requires
+lines-requires c κs =
+    let a = c .before .before .before .before .before .args in
+    (few (c .before), written-fits (a .units) (a .words .now) (length (a .out .now)) (accepted (c .before)))
+
+mul-t11 : tie.Need-mul-t11
+mul-t11 c = omega (arith, few (c .before .before .before .before))
+
+add-t12 : tie.Need-add-t12
+add-t12 c = omega (arith, few (c .before .before .before .before))
+
+cast-t13 : tie.Need-cast-t13
+cast-t13 c = omega (arith, few (c .before .before .before .before))
+
+same-length : tie.Need-same-length
+same-length c = search needs
+
+returns-2 : tie.Need-returns-2
+returns-2 c =
+    let a = c .before .before .before .before .before .before .before .before .args in
+    let e = accepted (c .before .before .before .before) in (
+      write-accepted (a .units) (a .words .now) (length (a .out .now)) e,
+      c .before .before .lines .ensures ∙ bytes-accepted (a .units) (a .words .now) (a .out .now) e,
+    )
+
+pub write-spec : {M : Type 1} → statement M
+write-spec =
+    tie.close
+    (tie.spec
+    refusal-requires
+    returns
+    lines-requires
+    mul-t11
+    add-t12
+    cast-t13
+    same-length
+    returns-2)

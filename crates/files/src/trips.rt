@@ -1,0 +1,39 @@
+// The round trips: what comes back is what was given.
+ghost use mathlib.Core.Path.{_≡_};
+ghost use lib.ListN.{length};
+ghost use Rattle.files.specs.File.{readWords, writtenFile};
+ghost use Rattle.files.specs.RoundTrip.{copyReply, copiedWords, rewriteReply, rewrittenFile};
+use super::Reading;
+use super::Writing;
+
+// A table written into `file` and read back into `copy`.
+pub fn write_then_read(units: u16, words: &[u16], file: &mut [u8], copy: &mut [u16]) -> Reading
+    ensures reply { λ r. ⌜ r ≡ copyReply units (now (words .entry)) (length (now (file .entry))) (length (now (copy .entry))) ⌝ }
+    ensures bytes { λ _. ⌜ now (file .exit) ≡ writtenFile units (now (words .entry)) (now (file .entry)) ⌝ }
+    ensures same { λ _. ⌜ now (copy .exit) ≡ copiedWords units (now (words .entry)) (length (now (file .entry))) (now (copy .entry)) ⌝ }
+{
+    let done = super::write(units, words, file);
+    match done {
+        Writing::Refused(number) => Reading::Refused(number),
+        Writing::Written(characters) => {
+            let end = characters as usize;
+            super::read(&file[..end], copy)
+        }
+    }
+}
+
+// A file read into `words` and written back into `copy`.
+pub fn read_then_write(file: &[u8], words: &mut [u16], copy: &mut [u8]) -> Writing
+    ensures reply { λ r. ⌜ r ≡ rewriteReply (now (file .entry)) (length (now (words .entry))) (length (now (copy .entry))) ⌝ }
+    ensures ends { λ _. ⌜ now (words .exit) ≡ readWords (now (file .entry)) (now (words .entry)) ⌝ }
+    ensures same { λ _. ⌜ now (copy .exit) ≡ rewrittenFile (now (file .entry)) (length (now (words .entry))) (now (copy .entry)) ⌝ }
+{
+    let found = super::read(file, words);
+    match found {
+        Reading::Refused(number) => Writing::Refused(number),
+        Reading::Read { units, links } => {
+            let end = 2 * (links as usize);
+            super::write(units, &words[..end], copy)
+        }
+    }
+}

@@ -1,0 +1,74 @@
+// Writing a file: why it is refused, and its lines, each over the front of what is left of the slice.
+ghost use mathlib.Core.Path.{_≡_};
+ghost use mathlib.Core.List.{_∷_, _++_};
+ghost use Prim.Native.Nat.{_*_, _≤_};
+ghost use lib.ListN.{length, drop};
+ghost use Rattle.table.specs.Table.{linkCount};
+ghost use Rattle.frames.specs.Frame.{wordBytes, lineOver};
+ghost use Rattle.frames.specs.Kinds.{LINK};
+ghost use Rattle.files.specs.File.{linkLines, fileOf, fileLength, writeRefusal};
+use frames::digits;
+use frames::line;
+
+// The number of the first cause among 4 to 9, 14; 0 where there is none.
+pub fn refusal(units: u16, words: &[u16], places: usize) -> u8
+    ensures { λ r. ⌜ r ≡ writeRefusal units (now (words .entry)) places ⌝ }
+{
+    let refused = table::refusal(units, words);
+    if refused != 0 {
+        return refused;
+    }
+    if places < 18 + 13 * (words.len() / 2) {
+        return 14;
+    }
+    0
+}
+
+// The line of a kind and one number.
+fn number_line(kind: u8, w: u16, out: &mut [u8])
+    ensures { λ _. ⌜ now (out .exit) ≡ lineOver (kind ∷ wordBytes w) (now (out .entry)) ⌝ }
+{
+    let body = [kind, digits::high_byte(w), digits::low_byte(w)];
+    line::write(&body, out);
+}
+
+// The line of a link.
+fn link_line(a: u16, b: u16, out: &mut [u8])
+    ensures { λ _. ⌜ now (out .exit) ≡ lineOver (LINK ∷ wordBytes a ++ wordBytes b) (now (out .entry)) ⌝ }
+{
+    let body = [
+        2,
+        digits::high_byte(a),
+        digits::low_byte(a),
+        digits::high_byte(b),
+        digits::low_byte(b),
+    ];
+    line::write(&body, out);
+}
+
+// The lines of all links, in order.
+fn link_lines(words: &[u16], out: &mut [u8])
+    requires { ⌜ (linkCount (now words) ≤ 1024) × (13 * linkCount (now words) ≤ length (now out)) ⌝ }
+    ensures { λ _. ⌜ now (out .exit) ≡ linkLines (now (words .entry)) ++ drop (13 * linkCount (now (words .entry))) (now (out .entry)) ⌝ }
+{
+    let mut j = 0;
+    while j < words.len() / 2 {
+        let at = 13 * j;
+        let a = slices::word(words, 2 * j);
+        let b = slices::word(words, 2 * j + 1);
+        link_line(a, b, &mut out[at..]);
+        j += 1;
+    }
+}
+
+// The lines of the whole file.
+pub fn lines(units: u16, words: &[u16], out: &mut [u8])
+    requires { ⌜ (linkCount (now words) ≤ 1024) × (fileLength (linkCount (now words)) ≤ length (now out)) ⌝ }
+    ensures { λ _. ⌜ now (out .exit) ≡ fileOf units (now (words .entry)) ++ drop (fileLength (linkCount (now (words .entry)))) (now (out .entry)) ⌝ }
+{
+    let links = words.len() / 2;
+    let end = 9 + 13 * links;
+    number_line(1, units, out);
+    link_lines(words, &mut out[9..]);
+    number_line(15, links as u16, &mut out[end..]);
+}

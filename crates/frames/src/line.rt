@@ -1,0 +1,45 @@
+// A frame's line, written over the front of a lent slice.
+ghost use mathlib.Core.Path.{_≡_};
+ghost use mathlib.Core.List.{_++_};
+ghost use Prim.Native.Nat.{_+_, _*_, _≤_, _/_, _%_};
+ghost use lib.ListN.{length, drop, set};
+ghost use Rattle.frames.specs.Frame.{digitOf, hexesOf, lineOver};
+use crate::check;
+use crate::digits;
+
+// The two characters of a byte, at `at`.
+fn put_byte(out: &mut [u8], at: usize, b: u8)
+    requires { ⌜ at + 2 ≤ length (now out) ⌝ }
+    ensures { λ _. ⌜ now (out .exit) ≡ set (set (now (out .entry)) at (digitOf (b / 16))) (at + 1) (digitOf (b % 16)) ⌝ }
+{
+    out[at] = digits::high_digit(b);
+    out[at + 1] = digits::low_digit(b);
+}
+
+// The characters of all bytes, two a byte, at the front.
+fn put_bytes(f: &[u8], out: &mut [u8])
+    requires { ⌜ 2 * length (now f) ≤ length (now out) ⌝ }
+    ensures { λ _. ⌜ now (out .exit) ≡ hexesOf (now (f .entry)) ++ drop (2 * length (now (f .entry))) (now (out .entry)) ⌝ }
+{
+    let mut i = 0;
+    while i < f.len() {
+        put_byte(out, 2 * i, f[i]);
+        i += 1;
+    }
+}
+
+// The line of the frame with this body; nothing where it does not fit.
+pub fn write(body: &[u8], out: &mut [u8])
+    ensures { λ _. ⌜ now (out .exit) ≡ lineOver (now (body .entry)) (now (out .entry)) ⌝ }
+{
+    if out.len() < 3 {
+        return;
+    }
+    if (out.len() - 3) / 2 < body.len() {
+        return;
+    }
+    let at = 2 * body.len();
+    put_bytes(body, out);
+    put_byte(out, at, check::check_byte(body));
+    out[at + 2] = 10;
+}
