@@ -1,6 +1,7 @@
 pub mod Tests
 pub mod Bools
 pub mod Tables
+pub mod Gathered
 pub mod Folds
 pub mod FoldLaws
 pub mod Sums

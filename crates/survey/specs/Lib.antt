@@ -9,6 +9,7 @@ pub mod StepLaws
 pub mod Run
 pub mod RunLaws
 pub mod Report
+pub mod ReportLaws
 pub mod Calls
 pub mod CallCauses
 pub mod Cases

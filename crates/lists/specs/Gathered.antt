@@ -1,0 +1,32 @@
+-- Pieces of one length, one after the other: their total length, and each piece at its place.
+use mathlib.Core.Path.{_≡_, refl, sym, ap, _∙_}
+use mathlib.Core.List.{List, [], _∷_, _++_, append-assoc}
+use Prim.Native.Nat.{ℕ, zero, suc, _+_, _*_, _≤_, _<_}
+use native.Mathlib.Decide.{decLt}
+use native.Mathlib.Nat.{le-refl, le-step, not-suc-le-zero}
+use native.Mathlib.Omega.{arith}
+use lib.ListN.{length, take, drop, length-append}
+use lib.Seq.{take-at, drop-at, drop-append-le, take-append-le}
+use Rattle.lists.specs.Tables.{gathered}
+
+module _ {A : Type 0} where
+  pub length-gathered : (n k : ℕ) (f : ℕ → List A) → ((i : ℕ) → i < n → length (f i) ≡ k) → length (gathered n f) ≡ k * n
+  length-gathered zero k f h = omega arith
+  length-gathered (suc n) k f h =
+      length-append (gathered n f) (f n) ∙ omega (arith, length-gathered n k f (λ (i : ℕ) (l : i < n). h i (le-step l)), h n (le-refl (suc n)))
+
+  -- piece i stands k · i places on
+  pub gathered-at : (n k : ℕ) (f : ℕ → List A) (rest : List A) → ((i : ℕ) → i < n → length (f i) ≡ k) → (i : ℕ) → i < n
+      → take k (drop (k * i) (gathered n f ++ rest)) ≡ f i
+  gathered-at zero k f rest h i l = absurd (not-suc-le-zero l)
+  gathered-at (suc n) k f rest h i l = go (decLt i n) (λ (m : i < n). gathered-at n k f (f n ++ rest) (λ (j : ℕ) (q : j < n). h j (le-step q)) i m)
+    where
+      last : i ≡ n → take k (drop (k * i) (gathered n f ++ f n ++ rest)) ≡ f i
+      last e =
+          let d : drop (k * n) (gathered n f ++ (f n ++ rest)) ≡ f n ++ rest =
+          drop-at (gathered n f) (f n ++ rest) (k * n) (length-gathered n k f (λ (j : ℕ) (q : j < n). h j (le-step q))) in
+          rw (e, append-assoc (gathered n f) (f n) rest, d) (take-at (f n) rest k (h n (le-refl (suc n))))
+
+      go : Dec (i < n) → (i < n → take k (drop (k * i) (gathered n f ++ (f n ++ rest))) ≡ f i) → take k (drop (k * i) (gathered n f ++ f n ++ rest)) ≡ f i
+      go (yes m) before = rw (append-assoc (gathered n f) (f n) rest) (before m)
+      go (no m) before = last (omega arith)
