@@ -1,12 +1,12 @@
 -- A survey file (document 01): kind 01 the unit count, a kind 02 for each link with its two ends, kind 0F the number of links.
 use mathlib.Core.Bool.{Bool, true, false, cond, not, _&&_, _||_}
 use mathlib.Core.List.{List, [], _∷_, _++_}
-use Prim.Native.Nat.{ℕ, _+_, _*_, _-_, _/_, _%_}
+use Prim.Native.Nat.{ℕ, zero, suc, _+_, _*_, _-_, _/_, _%_}
 use lib.Dec.{leb, ltb, eqb}
-use lib.ListN.{length, getD}
+use lib.ListN.{length, getD, drop}
 use Rattle.table.specs.Refusals.{firstOf, written}
 use Rattle.table.specs.Table.{linkCount, maxLinks, tableTests}
-use Rattle.frames.specs.Frame.{LF, wordBytes, wordOf, lineOf, allDigits, bytesOf, sumOf}
+use Rattle.frames.specs.Frame.{LF, wordBytes, wordOf, wordAt, lineOf, allDigits, bytesOf, sumOf}
 use Rattle.frames.specs.Kinds.{UNITS, LINK, END, frameBytes}
 use Rattle.files.specs.declared.Reading.{Reading}
 use Rattle.files.specs.declared.Reading.the-variants.{Read}
@@ -108,6 +108,11 @@ unitsIn (l ∷ ls) = numberAt l 1
 unfoldable pub endsIn : List Line → List ℕ
 endsIn [] = []
 endsIn (l ∷ ls) = let later = endsIn ls in cond (eqb (kindOf l) LINK) (numberAt l 1 ∷ numberAt l 3 ∷ later) later
+
+-- the ends in m lines of links, thirteen characters each
+unfoldable pub endsFrom : ℕ → List ℕ → List ℕ
+endsFrom zero s = []
+endsFrom (suc m) s = wordAt s 2 ∷ wordAt s 6 ∷ endsFrom m (drop 13 s)
 
 -- reading lines into a slice with this many places: 1, 2, 3, 6, 14, each judged over the whole input
 unfoldable pub readRefusal : List Line → ℕ → ℕ

@@ -12,11 +12,11 @@ use Rattle.lists.specs.Puts.{put-two}
 use Rattle.table.specs.RefusalLaws.{passed-test}
 use Rattle.table.specs.Table.{maxLinks}
 use Rattle.frames.specs.Frame.{wordAt}
-use Rattle.files.specs.File.{Line, linesOf, faultyLine, inOrder, linkFrames, statedCount, unitsIn, endsIn, readRefusal, readReply, readWords}
+use Rattle.files.specs.File.{Line, linesOf, faultyLine, inOrder, linkFrames, statedCount, unitsIn, endsIn, readRefusal, readReply, readWords, endsFrom}
 use Rattle.files.specs.declared.Reading.{Reading}
 use Rattle.files.specs.declared.Reading.the-variants.{Read}
 use Rattle.files.specs.OrderLaws.{wordAt-drop}
-use Rattle.files.specs.ShapeLaws.{Accepted, file-shape, endsFrom}
+use Rattle.files.specs.ShapeLaws.{Accepted, file-shape}
 
 -- ---- the reply, by the tests passed and the one that holds
 

@@ -15,14 +15,9 @@ use Rattle.lists.specs.Tests.{and-left, and-right}
 use Rattle.lists.specs.Bools.{or-false-right}
 use Rattle.frames.specs.Frame.{wordAt}
 use Rattle.frames.specs.Kinds.{UNITS, LINK, END, frameBytes, kindFront}
-use Rattle.files.specs.File.{Line, linesOf, kindOf, numberAt, whole, faultyLine, inOrderAfter, inOrder, linkFrames, statedCount, unitsIn, endsIn}
+use Rattle.files.specs.File.{Line, linesOf, kindOf, numberAt, whole, faultyLine, inOrderAfter, inOrder, linkFrames, statedCount, unitsIn, endsIn, endsFrom}
 use Rattle.files.specs.LineLaws.{some-lines, no-lines, frontLine, pastLine}
 use Rattle.files.specs.OrderLaws.{wordAt-drop, sound-lines, sound-later, sound-short, sound-kind, sound-number}
-
--- the ends in m lines of links, thirteen characters each
-unfoldable pub endsFrom : ℕ → List ℕ → List ℕ
-endsFrom zero s = []
-endsFrom (suc m) s = wordAt s 2 ∷ wordAt s 6 ∷ endsFrom m (drop 13 s)
 
 -- ---- past the unit count
 

@@ -4,7 +4,7 @@ use mathlib.Core.List.{List, _++_}
 use Prim.Native.Nat.{ℕ, _≤_, _-_, _*_}
 use native.Mathlib.Omega.{arith}
 use lib.ListN.{length, drop}
-use Rattle.files.specs.ShapeLaws.{endsFrom}
+use Rattle.files.specs.File.{endsFrom}
 use Rattle.files.specs.ReadLaws.{ends-more}
 use borrow.Author.Needs.{needs}
 use Rattle.files.proofs.reader.fill.Statement.{statement}
