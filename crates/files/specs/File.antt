@@ -37,6 +37,11 @@ unfoldable pub writeReply : ℕ → List ℕ → ℕ → Writing
 writeReply n t places =
     cond (eqb (writeRefusal n t places) 0) (Written (fileLength (linkCount t))) (Writing.Refused (writeRefusal n t places))
 
+-- document 01's number of a reply: 0 where the call was not refused
+abbrev pub writingNumber : Writing → ℕ
+writingNumber (Written characters) = 0
+writingNumber (Writing.Refused k) = k
+
 unfoldable pub writtenFile : ℕ → List ℕ → List ℕ → List ℕ
 writtenFile n t out = written (writeRefusal n t (length out)) (fileOf n t) out
 
@@ -130,6 +135,11 @@ unfoldable pub readReply : List ℕ → ℕ → Reading
 readReply s places =
     cond (eqb (readRefusal (linesOf s) places) 0) (Read (unitsIn (linesOf s)) (linkFrames (linesOf s)))
     (Reading.Refused (readRefusal (linesOf s) places))
+
+-- document 01's number of a reply: 0 where the call was not refused
+abbrev pub readingNumber : Reading → ℕ
+readingNumber (Read units links) = 0
+readingNumber (Reading.Refused k) = k
 
 unfoldable pub readWords : List ℕ → List ℕ → List ℕ
 readWords s words = written (readRefusal (linesOf s) (length words)) (endsIn (linesOf s)) words

@@ -139,13 +139,13 @@ feed-short s n e = go (decLt n (length s))
     go (no h) = let past : getD s n 0 ≡ 0 = List·getD-eq-default s 0 (omega arith) in absurd (omega arith)
 
 -- characters that begin with a file's frame: where its line ends
-pub record Front (s : List ℕ) : Type 0 where
+pub record Begins (s : List ℕ) : Type 0 where
   pub short : 2 * frameBytes (kindFront s) < length s
   pub split : s ≡ take (2 * frameBytes (kindFront s)) s ++ LF ∷ drop (2 * frameBytes (kindFront s) + 1) s
   pub body : Whole (take (2 * frameBytes (kindFront s)) s) (frameBytes (kindFront s))
   pub kind : getD (bytesOf (take (2 * frameBytes (kindFront s)) s)) 0 0 ≡ kindFront s
 
-pub front-says : (s : List ℕ) → fileFront s ≡ true → Front s
+pub front-says : (s : List ℕ) → fileFront s ≡ true → Begins s
 unfolding fileFront lineFront
 front-says s h =
     let k = frameBytes (kindFront s) in

@@ -4,6 +4,7 @@ use mathlib.Core.Bool.{Bool, true, false, cond, not}
 use mathlib.Core.List.{List, [], _∷_, _++_, append-assoc}
 use Prim.Native.Nat.{ℕ, zero, suc, _+_, _*_, _-_, _/_, _≤_, _<_}
 use native.Mathlib.Numerals.{add-one}
+use native.Mathlib.Decide.{ℕ-discrete}
 use native.Mathlib.Omega.{arith}
 use lib.Dec.{eqb, ltb}
 use lib.ListN.{length, drop, set, length-append}
@@ -12,7 +13,7 @@ use Rattle.lists.specs.Puts.{put-two}
 use Rattle.table.specs.RefusalLaws.{passed-test}
 use Rattle.table.specs.Table.{maxLinks}
 use Rattle.frames.specs.Frame.{wordAt}
-use Rattle.files.specs.File.{Line, linesOf, faultyLine, inOrder, linkFrames, statedCount, unitsIn, endsIn, readRefusal, readReply, readWords, endsFrom}
+use Rattle.files.specs.File.{Line, linesOf, faultyLine, inOrder, linkFrames, statedCount, unitsIn, endsIn, readRefusal, readReply, readingNumber, readWords, endsFrom}
 use Rattle.files.specs.declared.Reading.{Reading}
 use Rattle.files.specs.declared.Reading.the-variants.{Read}
 use Rattle.files.specs.OrderLaws.{wordAt-drop}
@@ -137,3 +138,15 @@ words-accepted s words e =
     let m = linkFrames (linesOf s) in
     let long : length (endsIn (linesOf s)) ≡ 2 * m = ap length (a .ends) ∙ length-ends m (drop 9 s) in
     rw (e, links-of s a, long, a .ends)
+
+-- the reply carries document 01's number
+read-number-of : (k n m : ℕ) → readingNumber (cond (eqb k 0) (Read n m) (Reading.Refused k)) ≡ k
+read-number-of k n m = go (ℕ-discrete k 0)
+  where
+    go : Dec (k ≡ 0) → readingNumber (cond (eqb k 0) (Read n m) (Reading.Refused k)) ≡ k
+    go (yes e) = rw e
+    go (no z) = rw (ne-eqb k 0 z)
+
+pub read-number : (s : List ℕ) (places : ℕ) → readingNumber (readReply s places) ≡ readRefusal (linesOf s) places
+unfolding readReply
+read-number s places = read-number-of (readRefusal (linesOf s) places) (unitsIn (linesOf s)) (linkFrames (linesOf s))

@@ -15,7 +15,7 @@ use Rattle.frames.specs.Frame.{LF, wordBytes, wordOf, hexesOf, checkByte, lineO
 use Rattle.frames.specs.FrameLaws.{Bytes, line-hexes, hexes-bytes, length-bytes, bytes-below, check-unique, sum-check}
 use Rattle.frames.specs.Kinds.{UNITS, LINK, END, frameBytes, kindFront}
 use Rattle.files.specs.File.{Line, linesOf, kindOf, numberAt, faultyLine, inOrderAfter, inOrder, linkFrames, statedCount, unitsIn, endsIn, linkLines, fileOf, readRefusal}
-use Rattle.files.specs.LineLaws.{Whole, Front, front-says, sound-front, frontLine, pastLine, no-lines}
+use Rattle.files.specs.LineLaws.{Whole, Begins, front-says, sound-front, frontLine, pastLine, no-lines}
 use Rattle.files.specs.OrderLaws.{sound-later, sound-kind}
 use Rattle.files.specs.ShapeLaws.{Accepted, some, head-line, later-lines, head-kind, ends-link, ends-units, stated-later, stated-after, units-first, first-units, no-order, frames-units}
 use Rattle.files.specs.ReadLaws.{Sound, accepted-sound, accepted-file, length-ends}
@@ -70,7 +70,7 @@ link-back p w =
 -- ---- the first line of sound characters
 
 module _ (s : List ℕ) (l : Line) (ls : List Line) (e : linesOf s ≡ l ∷ ls) (sound : faultyLine (linesOf s) ≡ false) where
-  front : Front s
+  front : Begins s
   front = front-says s (sound-front s sound (some s l ls e sound))
 
   first-split : s ≡ (frontLine s .0 ++ LF ∷ []) ++ pastLine s

@@ -19,7 +19,7 @@ use Rattle.frames.specs.Frame.{wordBytes, lineOf, lineOver, lineLength}
 use Rattle.frames.specs.FrameLaws.{length-line}
 use Rattle.frames.specs.FrameRests.{lineOver-fits, line-next}
 use Rattle.frames.specs.Kinds.{UNITS, LINK, END}
-use Rattle.files.specs.File.{linkLines, fileOf, fileLength, writeRefusal, writeReply, writtenFile}
+use Rattle.files.specs.File.{linkLines, fileOf, fileLength, writeRefusal, writeReply, writingNumber, writtenFile}
 use Rattle.files.specs.declared.Writing.{Writing}
 use Rattle.files.specs.declared.Writing.the-variants.{Written}
 
@@ -170,3 +170,15 @@ pub bytes-accepted : (n : ℕ) (t out : List ℕ) → writeRefusal n t (length o
     → fileOf n t ++ drop (fileLength (linkCount t)) out ≡ writtenFile n t out
 unfolding writtenFile
 bytes-accepted n t out e = rw (e, length-file n t)
+
+-- the reply carries document 01's number
+write-number-of : (k m : ℕ) → writingNumber (cond (eqb k 0) (Written m) (Writing.Refused k)) ≡ k
+write-number-of k m = go (ℕ-discrete k 0)
+  where
+    go : Dec (k ≡ 0) → writingNumber (cond (eqb k 0) (Written m) (Writing.Refused k)) ≡ k
+    go (yes e) = rw e
+    go (no z) = rw (ne-eqb k 0 z)
+
+pub write-number : (n : ℕ) (t : List ℕ) (places : ℕ) → writingNumber (writeReply n t places) ≡ writeRefusal n t places
+unfolding writeReply
+write-number n t places = write-number-of (writeRefusal n t places) (fileLength (linkCount t))
