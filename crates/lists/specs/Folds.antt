@@ -38,6 +38,7 @@ agree (suc n) (x ∷ s) [] = true
 agree (suc n) (x ∷ s) (y ∷ t) = eqb x y && agree n s t
 
 -- every entry of a list passes the test
-abbrev pub every : (ℕ → Bool) → List ℕ → Bool
-every p [] = true
-every p (x ∷ s) = p x && every p s
+module _ {A : Type 0} where
+  abbrev pub every : (A → Bool) → List A → Bool
+  every p [] = true
+  every p (x ∷ s) = p x && every p s

@@ -2,7 +2,17 @@ pub mod Tests
 pub mod Bools
 pub mod Tables
 pub mod Folds
+pub mod FoldLaws
+pub mod Sums
+pub mod All
+pub mod Counts
+pub mod CountOne
+pub mod Agreement
+pub mod Multiples
 pub mod Rests
+pub mod Members
+pub mod Pigeonhole
+pub mod Parts
 pub mod Puts
 pub mod Text
 pub mod Lent

@@ -60,6 +60,12 @@ module _ {ℓ} {A : Type ℓ} where
   set-over (suc n) f [] = refl
   set-over (suc n) f (x ∷ old) = ap {B = List A} (λ (l : List A). f zero ∷ l) (set-over n (λ (k : ℕ). f (suc k)) old)
 
+  -- made anew twice is made anew once
+  pub over-over : (n : ℕ) (f g : ℕ → A) (old : List A) → over n f (over n g old) ≡ over n f old
+  over-over zero f g old = refl
+  over-over (suc n) f g [] = refl
+  over-over (suc n) f g (x ∷ old) = ap {B = List A} (λ (l : List A). f zero ∷ l) (over-over n (λ (k : ℕ). f (suc k)) (λ (k : ℕ). g (suc k)) old)
+
   pub over-cong : (n : ℕ) (f g : ℕ → A) (old : List A) → ((i : ℕ) → i < n → f i ≡ g i) → over n f old ≡ over n g old
   over-cong zero f g old h = refl
   over-cong (suc n) f g [] h = refl

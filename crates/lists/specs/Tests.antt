@@ -48,3 +48,40 @@ cond-true false x y e = absurd (false≢true e)
 pub cond-false {ℓ} : {A : Type ℓ} (b : Bool) (x y : A) → b ≡ false → cond b x y ≡ y
 cond-false true x y e = absurd (true≢false e)
 cond-false false x y e = refl
+
+-- a joined test decides what its parts decide
+pub and-exact : {A B : Type 0} (a b : Bool) → (a ≡ true) ↔ A → (b ≡ true) ↔ B → ((a && b) ≡ true) ↔ (A × B)
+and-exact {A} {B} a b p q = (
+  λ (e : (a && b) ≡ true). (p .0 (and-left a b e), q .0 (and-right a b e)),
+  λ (w : A × B). and-true a b (p .1 (w .0)) (q .1 (w .1)),
+)
+
+pub or-exact : {A B : Type 0} (a b : Bool) → (a ≡ true) ↔ A → (b ≡ true) ↔ B → ((a || b) ≡ true) ↔ (A ⊎ B)
+or-exact {A} {B} a b p q = (λ (e : (a || b) ≡ true). to (or-cases a b e), from)
+  where
+    to : (a ≡ true) ⊎ (b ≡ true) → A ⊎ B
+    to (inl e) = inl (p .0 e)
+    to (inr e) = inr (q .0 e)
+
+    from : A ⊎ B → (a || b) ≡ true
+    from (inl x) = or-left a b (p .1 x)
+    from (inr y) = or-right a b (q .1 y)
+
+-- a choice between two tests
+pub cond-exact : {A B C : Type 0} (c a b : Bool) → (c ≡ true) ↔ C → (a ≡ true) ↔ A → (b ≡ true) ↔ B
+    → (cond c a b ≡ true) ↔ ((C × A) ⊎ ((C → ⊥) × B))
+cond-exact {A} {B} {C} true a b r p q = (λ (e : a ≡ true). inl (r .0 refl, p .0 e), from)
+  where
+    from : (C × A) ⊎ ((C → ⊥) × B) → a ≡ true
+    from (inl w) = p .1 (w .1)
+    from (inr w) = absurd (w .0 (r .0 refl))
+cond-exact {A} {B} {C} false a b r p q = (λ (e : b ≡ true). inr (λ (c : C). false≢true (r .1 c), q .0 e), from)
+  where
+    from : (C × A) ⊎ ((C → ⊥) × B) → b ≡ true
+    from (inl w) = absurd (false≢true (r .1 (w .0)))
+    from (inr w) = q .1 (w .1)
+
+-- the test turned round
+pub not-exact : {A : Type 0} (a : Bool) → (a ≡ true) ↔ A → (not a ≡ true) ↔ (A → ⊥)
+not-exact {A} true p = (λ (e : false ≡ true). absurd (false≢true e), λ (h : A → ⊥). absurd (h (p .0 refl)))
+not-exact {A} false p = (λ (e : true ≡ true). λ (x : A). false≢true (p .1 x), λ (h : A → ⊥). refl)

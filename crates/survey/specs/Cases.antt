@@ -23,7 +23,7 @@ use Rattle.rules.specs.Aux.{linkJoinsRound, joinsParent, parentJoinsRound, leas
 use Rattle.rules.specs.Labels.{namingUnit, classRound, labelOf, labelRound, lone, single}
 use Rattle.survey.specs.declared.state.Survey.{Survey}
 use Rattle.survey.specs.State.{units, links, finished}
-use Rattle.survey.specs.Load.{loaded, absents, zeros}
+use Rattle.survey.specs.Load.{loaded, begun, absents, zeros}
 use Rattle.survey.specs.Step
 use Rattle.survey.specs.Run.{ran}
 use Rattle.survey.specs.Report.{unitSingle, linkLone, report, headLine, unitLine, linkLine, tailLine}
@@ -154,5 +154,5 @@ cases =
     ∷ []
 
 pub cases-hold : holdAll cases ≡ true
-unfolding tableRefusal endMissing equalEnds joinedIn repeatedLink lg lgFrom lineOf hexesOf sumOf checkByte Ceilings.countdown leastHeard colorRound colorEnds chosenParent visits parentRound distRound treeEnds leastNeighbor greaterNeighbor neighborAfter follower isStart predecessor nextRound predRound firstSums firstJumps sumRound jumpRound requestsOf rankingEnds forwardRound descendants ndRound secondSums secondJumps placeOf preRound localOf unitAt localAt globalFirst rangeFirst littleFirst bigFirst withLittle withBig rangeLater littleLater bigLater globalLater rangeEnds linkJoinsRound joinsParent parentJoinsRound leastJoined auxRound auxEnds namingUnit classRound labelOf labelRound lone single loaded absents zeros Step.components Step.tree Step.tourNext Step.tourPred Step.tour Step.ranking Step.marksForward Step.marksDescendants Step.marks Step.places Step.rangeBegun Step.rangeDoubled Step.range Step.auxEdges Step.auxComponents Step.labelClasses Step.labelPositions Step.labels Step.ruleEnds Step.lastRound Step.roundTables Step.roundRequests Step.nextClock Step.step ran report headLine unitLine linkLine tailLine
+unfolding tableRefusal endMissing equalEnds joinedIn repeatedLink lg lgFrom lineOf hexesOf sumOf checkByte Ceilings.countdown leastHeard colorRound colorEnds chosenParent visits parentRound distRound treeEnds leastNeighbor greaterNeighbor neighborAfter follower isStart predecessor nextRound predRound firstSums firstJumps sumRound jumpRound requestsOf rankingEnds forwardRound descendants ndRound secondSums secondJumps placeOf preRound localOf unitAt localAt globalFirst rangeFirst littleFirst bigFirst withLittle withBig rangeLater littleLater bigLater globalLater rangeEnds linkJoinsRound joinsParent parentJoinsRound leastJoined auxRound auxEnds namingUnit classRound labelOf labelRound lone single loaded begun absents zeros Step.components Step.tree Step.tourNext Step.tourPred Step.tour Step.ranking Step.marksForward Step.marksDescendants Step.marks Step.places Step.rangeBegun Step.rangeDoubled Step.range Step.auxEdges Step.auxComponents Step.labelClasses Step.labelPositions Step.labels Step.ruleEnds Step.lastRound Step.roundTables Step.roundRequests Step.nextClock Step.step ran report headLine unitLine linkLine tailLine
 cases-hold = refl

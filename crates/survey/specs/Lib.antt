@@ -1,8 +1,14 @@
 pub mod State
 pub mod Load
 pub mod WellFormed
+pub mod Kept
 pub mod Step
+pub mod StageLaws
+pub mod StepKept
+pub mod StepLaws
 pub mod Run
+pub mod RunLaws
 pub mod Report
 pub mod Calls
+pub mod CallCauses
 pub mod Cases

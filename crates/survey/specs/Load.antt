@@ -5,6 +5,7 @@ use lib.ListN.{length, drop, replicate}
 use Rattle.table.specs.Table.{linkCount}
 use Rattle.rules.specs.Basics.{ABSENT}
 use Rattle.survey.specs.declared.state.Survey.{Survey}
+use Rattle.survey.specs.declared.state.Table.{Table}
 
 -- k entries absent; k entries 0. Shut, so that goals do not spell them out
 unfoldable pub absents : ℕ → List ℕ
@@ -17,11 +18,11 @@ zeros k = replicate k 0
 abbrev pub endsOf : List ℕ → List ℕ
 endsOf t = t ++ drop (length t) (absents 2048)
 
--- the state that a load of n units and the table t makes
-unfoldable pub loaded : ℕ → List ℕ → Survey
-loaded n t =
+-- the state before any round over a table of links
+unfoldable pub begun : Table → Survey
+begun table =
     record {
-      table = record { units = n; links = linkCount t; ends = endsOf t };
+      table = table;
       clock = record { stage = 1; made = 0; rounds = 0; requests = 0 };
       components = record { color = absents 256 };
       tree = record { parent = absents 256; dist = absents 256 };
@@ -33,3 +34,7 @@ loaded n t =
       aux = record { parents = zeros 256; links = zeros 1024; color = absents 256 };
       labels = record { class = absents 1024; label = absents 1024 };
     }
+
+-- the state that a load of n units and the table t makes
+unfoldable pub loaded : ℕ → List ℕ → Survey
+loaded n t = begun (record { units = n; links = linkCount t; ends = endsOf t })

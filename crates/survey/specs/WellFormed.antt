@@ -1,76 +1,76 @@
 -- A state is well formed (document 01: kept). Every entry of every array is judged, those past n, 2n and m too.
-use mathlib.Core.Bool.{Bool, cond, _&&_, _||_}
+use mathlib.Core.Bool.{Bool, cond, _&&_}
+use mathlib.Core.List.{List, [], _∷_}
 use Prim.Native.Nat.{ℕ, _*_}
 use lib.Dec.{eqb, leb, ltb}
 use Rattle.lists.specs.Folds.{every}
 use Rattle.table.specs.Table.{maxLinks, tableRefusal}
-use Rattle.rules.specs.Basics.{ABSENT, MAX-NUMBER}
+use Rattle.rules.specs.Bounds.{nameOk, numberOk, distOk}
 use Rattle.rules.specs.Ceilings.{ceiling}
 use Rattle.survey.specs.declared.state.Survey.{Survey}
 use Rattle.survey.specs.State.{units, links, words, FINISHED, MAX-ROUNDS, MAX-REQUESTS}
 
--- a stored name is absent or names one of k things that exist
-abbrev pub nameOk : ℕ → ℕ → Bool
-nameOk k x = ltb x k || eqb x ABSENT
+-- ---- the tables by what their entries are
 
--- no other stored number exceeds 2,048
-abbrev pub numberOk : ℕ → Bool
-numberOk x = leb x MAX-NUMBER
+-- units; the ends past the last link are judged as stored units alone
+abbrev pub unitTables : Survey → List (List ℕ)
+unitTables s = s .table .ends ∷ s .components .color ∷ s .tree .parent ∷ s .aux .color ∷ s .labels .class ∷ []
 
--- save that a distance may be absent
-abbrev pub distOk : ℕ → Bool
-distOk x = numberOk x || eqb x ABSENT
+-- list places
+abbrev pub arcTables : Survey → List (List ℕ)
+arcTables s = s .tour .next ∷ s .tour .pred ∷ s .ranking .jump ∷ []
 
--- n and links pass 4 to 9; the words past the last link name units or are absent
+-- links
+abbrev pub linkTables : Survey → List (List ℕ)
+linkTables s = s .labels .label ∷ []
+
+abbrev pub distTables : Survey → List (List ℕ)
+distTables s = s .tree .dist ∷ []
+
+abbrev pub numberTables : Survey → List (List ℕ)
+numberTables s =
+    s .ranking .sum
+    ∷ s .order .forward
+    ∷ s .order .nd
+    ∷ s .order .pre
+    ∷ s .range .low
+    ∷ s .range .high
+    ∷ s .range .little
+    ∷ s .range .big
+    ∷ s .global .low
+    ∷ s .global .high
+    ∷ s .aux .parents
+    ∷ s .aux .links
+    ∷ []
+
+-- ---- the clauses
+
+-- n and links pass 4 to 9
 unfoldable pub tableOk : Survey → Bool
-tableOk s =
-    leb (links s) maxLinks
-    && eqb (tableRefusal (units s) (words s)) 0
-    && every (nameOk (units s)) (s .table .ends)
+tableOk s = leb (links s) maxLinks && eqb (tableRefusal (units s) (words s)) 0
 
--- the stage is 1 to 11, its rounds below its ceiling (zero at stage 11), and all rounds and requests within their limits
+-- the rounds of the stage are below its ceiling, zero at stage 11
+unfoldable pub madeOk : Survey → Bool
+madeOk s =
+    cond (eqb (s .clock .stage) FINISHED) (eqb (s .clock .made) 0) (ltb (s .clock .made) (ceiling (units s) (s .clock .stage)))
+
+-- the stage is 1 to 11; all rounds and requests are within their limits
 unfoldable pub clockOk : Survey → Bool
 clockOk s =
     leb 1 (s .clock .stage)
     && leb (s .clock .stage) FINISHED
-    && cond (eqb (s .clock .stage) FINISHED) (eqb (s .clock .made) 0) (ltb (s .clock .made) (ceiling (units s) (s .clock .stage)))
+    && madeOk s
     && leb (s .clock .rounds) MAX-ROUNDS
     && leb (s .clock .requests) MAX-REQUESTS
 
--- every stored unit is absent or exists
-unfoldable pub unitsOk : Survey → Bool
-unitsOk s =
-    every (nameOk (units s)) (s .components .color)
-    && every (nameOk (units s)) (s .tree .parent)
-    && every (nameOk (units s)) (s .aux .color)
-    && every (nameOk (units s)) (s .labels .class)
-
--- every stored list place is absent or exists
-unfoldable pub arcsOk : Survey → Bool
-arcsOk s =
-    every (nameOk (2 * units s)) (s .tour .next)
-    && every (nameOk (2 * units s)) (s .tour .pred)
-    && every (nameOk (2 * units s)) (s .ranking .jump)
-
--- every stored link is absent or exists
-unfoldable pub linksOk : Survey → Bool
-linksOk s = every (nameOk (links s)) (s .labels .label)
-
-unfoldable pub numbersOk : Survey → Bool
-numbersOk s =
-    every distOk (s .tree .dist)
-    && every numberOk (s .ranking .sum)
-    && every numberOk (s .order .forward)
-    && every numberOk (s .order .nd)
-    && every numberOk (s .order .pre)
-    && every numberOk (s .range .low)
-    && every numberOk (s .range .high)
-    && every numberOk (s .range .little)
-    && every numberOk (s .range .big)
-    && every numberOk (s .global .low)
-    && every numberOk (s .global .high)
-    && every numberOk (s .aux .parents)
-    && every numberOk (s .aux .links)
+-- every stored unit, list place or link is absent or names one that exists; no other stored number exceeds 2,048, save that a distance may be absent
+unfoldable pub entriesOk : Survey → Bool
+entriesOk s =
+    every (every (nameOk (units s))) (unitTables s)
+    && every (every (nameOk (2 * units s))) (arcTables s)
+    && every (every (nameOk (links s))) (linkTables s)
+    && every (every distOk) (distTables s)
+    && every (every numberOk) (numberTables s)
 
 unfoldable pub wellFormed : Survey → Bool
-wellFormed s = tableOk s && clockOk s && unitsOk s && arcsOk s && linksOk s && numbersOk s
+wellFormed s = tableOk s && clockOk s && entriesOk s

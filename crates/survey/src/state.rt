@@ -1,6 +1,8 @@
 // The state of a survey: what document 01 says a state holds, in groups that follow the stages.
 // Arrays have their full length whatever the unit count is. Units index by their number, arcs by 2v (into v) and 2v + 1 (out of v), links by
 // position, segments by place.
+ghost use mathlib.Core.Path.{_≡_};
+ghost use Rattle.survey.specs.Load.{begun};
 
 // The table of links: the two ends of link j stand at 2j and 2j + 1.
 pub struct Table {
@@ -86,4 +88,65 @@ pub struct Survey {
     pub global: Global,
     pub aux: Aux,
     pub labels: Labels,
+}
+
+impl Survey {
+    // The limits of all rounds and of all requests.
+    pub const MAX_ROUNDS: u16 = 804;
+
+    pub const MAX_REQUESTS: u16 = 8158;
+
+    // The state before any round: names and distances absent, all else 0.
+    pub fn begun(table: Table) -> Survey
+        ensures { λ r. ⌜ r ≡ begun table ⌝ }
+    {
+        Survey {
+            table,
+            clock: Clock {
+                stage: 1,
+                made: 0,
+                rounds: 0,
+                requests: 0,
+            },
+            components: Components {
+                color: [65535; 256],
+            },
+            tree: Tree {
+                parent: [65535; 256],
+                dist: [65535; 256],
+            },
+            tour: Tour {
+                next: [65535; 512],
+                pred: [65535; 512],
+            },
+            ranking: Ranking {
+                jump: [65535; 512],
+                sum: [0; 512],
+            },
+            order: Order {
+                forward: [0; 512],
+                nd: [0; 256],
+                pre: [0; 256],
+            },
+            range: Range {
+                low: [0; 256],
+                high: [0; 256],
+                little: [0; 256],
+                big: [0; 256],
+            },
+            global: Global {
+                low: [0; 256],
+                high: [0; 256],
+            },
+            aux: Aux {
+                parents: [0; 256],
+                links: [0; 1024],
+                color: [65535; 256],
+            },
+            labels: Labels {
+                class: [65535; 1024],
+                label: [65535; 1024],
+            },
+        }
+    }
 }

@@ -1,0 +1,1 @@
+// A list of calls, and demand 3 about it.

@@ -1,0 +1,1 @@
+// Walks, cycles, trees, auxiliary classes, blocks: specs only.

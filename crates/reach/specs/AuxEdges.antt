@@ -1,0 +1,145 @@
+-- Stage 8: the marks are the auxiliary edges of the graph. A unit is marked exactly when some link off the tree leads from below it to outside its
+-- parent's descendants: such a place is below the parent's interval (low) or past it (high).
+use mathlib.Core.Path.{_≡_, refl, sym, _∙_}
+use mathlib.Core.Bool.{Bool, true, false, not, _&&_, _||_}
+use mathlib.Core.Logic.{_⊎_, inl, inr, _↔_}
+use mathlib.Core.List.{List}
+use Prim.Native.Nat.{ℕ, suc, _+_, _≤_, _<_, min, max}
+use native.Mathlib.Decide.{decLt}
+use native.Mathlib.Nat.{pos-of-ne-zero}
+use native.Mathlib.Omega.{arith}
+use lib.Dec.{eqb, ltb, leb}
+use borrow.Author.Tests.{ltb-true, lt-ltb, leb-true, le-leb}
+use Rattle.lists.specs.Tests.{and-exact, or-exact}
+use Rattle.rules.specs.Basics.{at, isRoot}
+use Rattle.rules.specs.Range.{localOf}
+use Rattle.rules.specs.Aux.{joinsParent}
+use Rattle.graph.specs.Forest.{Anc, self, up, OffTree}
+use Rattle.graph.specs.Ancestors.{anc-trans}
+use Rattle.reach.specs.Site.{Site, Link, link-below}
+use Rattle.reach.specs.Rooted.{Rooted}
+use Rattle.reach.specs.Ordered.{Ordered, Ranged}
+use Rattle.reach.specs.OffTheTree.{nonroot-exact, off-flip, Given, low-off, low-given, high-off, high-given}
+
+-- u joins its parent: that is no root, and a link off the tree leads from below u to outside the parent's descendants
+pub record JoinsUp (E : ℕ → ℕ → Type 0) (p d : ℕ → ℕ) (u : ℕ) : Type 0 where
+  pub child : 0 < d u
+  pub inner : 0 < d (p u)
+  pub x : ℕ
+  pub y : ℕ
+  pub off : OffTree E p d x y
+  pub inside : Anc p d u y
+  pub outside : Anc p d (p u) x → ⊥
+
+module _
+    {n m : ℕ} {ends color parent nd pre low high : List ℕ} {d : ℕ → ℕ}
+    (site : Site n m ends) (rooted : Rooted n m ends color parent d) (ordered : Ordered n parent nd pre d)
+    (ranged : Ranged n m ends parent pre d low high)
+  where
+    -- an edge that leaves the parent's interval, on either side
+    module _ (u : ℕ) (hu : u < n) (du : 0 < d u) (dp : 0 < d (at parent u)) where
+      hp : at parent u < n
+      hp = rooted .parentBelow u hu du
+
+      above : Anc (at parent) d (at parent u) u
+      above = up du (self refl)
+
+      -- a descendant of u is in the interval of u's parent
+      in-parent : (w : ℕ) → w < n → Anc (at parent) d u w → (at pre (at parent u) ≤ at pre w) × (at pre w < at pre (at parent u) + at nd (at parent u))
+      in-parent w hw a = ordered .interval (at parent u) w hp hw .0 (anc-trans above a)
+
+      by-low : at low u < at pre (at parent u) → JoinsUp (Link m ends) (at parent) d u
+      by-low l = go (ranged .lowTaken u hu)
+        where
+          go : (w : ℕ) × (w < n) × Anc (at parent) d u w × (at low u ≡ localOf min m ends parent pre w) → JoinsUp (Link m ends) (at parent) d u
+          go (w, hw, a, e) = by (low-given site rooted pre w)
+            where
+              by : Given site rooted pre w (localOf min m ends parent pre w) → JoinsUp (Link m ends) (at parent) d u
+              by (inl f) = absurd (omega (arith, in-parent w hw a, e, f))
+              by (inr (x, o, f)) =
+                  record {
+                    child = du;
+                    inner = dp;
+                    x = x;
+                    y = w;
+                    off = off-flip site rooted w x o;
+                    inside = a;
+                    outside = λ b. omega (arith, ordered .interval (at parent u) x hp (link-below site w x (o .link) .1) .0 b, e, f);
+                  }
+
+      by-high : at pre (at parent u) + at nd (at parent u) ≤ at high u → JoinsUp (Link m ends) (at parent) d u
+      by-high l = go (ranged .highTaken u hu)
+        where
+          go : (w : ℕ) × (w < n) × Anc (at parent) d u w × (at high u ≡ localOf max m ends parent pre w) → JoinsUp (Link m ends) (at parent) d u
+          go (w, hw, a, e) = by (high-given site rooted pre w)
+            where
+              by : Given site rooted pre w (localOf max m ends parent pre w) → JoinsUp (Link m ends) (at parent) d u
+              by (inl f) = absurd (omega (arith, in-parent w hw a, e, f))
+              by (inr (x, o, f)) =
+                  record {
+                    child = du;
+                    inner = dp;
+                    x = x;
+                    y = w;
+                    off = off-flip site rooted w x o;
+                    inside = a;
+                    outside = λ b. omega (arith, ordered .interval (at parent u) x hp (link-below site w x (o .link) .1) .0 b, e, f);
+                  }
+
+      -- the end outside lies before the interval or past it
+      leaves : (x y : ℕ) → OffTree (Link m ends) (at parent) d x y → Anc (at parent) d u y → (Anc (at parent) d (at parent u) x → ⊥)
+          → (at low u < at pre (at parent u)) ⊎ (at pre (at parent u) + at nd (at parent u) ≤ at high u)
+      leaves x y o a out = go (decLt (at pre x) (at pre (at parent u))) (decLt (at pre x) (at pre (at parent u) + at nd (at parent u)))
+        where
+          hx : x < n
+          hx = link-below site x y (o .link) .0
+
+          hy : y < n
+          hy = link-below site x y (o .link) .1
+
+          o′ : OffTree (Link m ends) (at parent) d y x
+          o′ = off-flip site rooted x y o
+
+          go : Dec (at pre x < at pre (at parent u)) → Dec (at pre x < at pre (at parent u) + at nd (at parent u))
+              → (at low u < at pre (at parent u)) ⊎ (at pre (at parent u) + at nd (at parent u) ≤ at high u)
+          go (yes l) k = inl (omega (arith, ranged .lowLeast u y hu hy a, low-off site rooted pre y x o′))
+          go (no l) (yes k) = absurd (out (ordered .interval (at parent u) x hp hx .1 (omega arith, k)))
+          go (no l) (no k) = inr (omega (arith, ranged .highGreatest u y hu hy a, high-off site rooted pre y x o′))
+
+    -- the mark of case 3 is exact
+    pub joins-exact : (u : ℕ) → u < n → (joinsParent parent nd pre low high u ≡ true) ↔ JoinsUp (Link m ends) (at parent) d u
+    unfolding joinsParent
+    joins-exact u hu = (there, back)
+      where
+        sides : ((ltb (at low u) (at pre (at parent u)) || leb (at pre (at parent u) + at nd (at parent u)) (at high u)) ≡ true)
+            ↔ ((at low u < at pre (at parent u)) ⊎ (at pre (at parent u) + at nd (at parent u) ≤ at high u))
+        sides =
+            or-exact (ltb (at low u) (at pre (at parent u))) (leb (at pre (at parent u) + at nd (at parent u)) (at high u))
+            (ltb-true (at low u) (at pre (at parent u)), lt-ltb (at low u) (at pre (at parent u)))
+            (leb-true (at pre (at parent u) + at nd (at parent u)) (at high u), le-leb (at pre (at parent u) + at nd (at parent u)) (at high u))
+
+        Parts : Type 0
+        Parts =
+            ((not (isRoot parent u) ≡ true) × (not (isRoot parent (at parent u)) ≡ true))
+            × ((at low u < at pre (at parent u)) ⊎ (at pre (at parent u) + at nd (at parent u) ≤ at high u))
+
+        parts : (joinsParent parent nd pre low high u ≡ true) ↔ Parts
+        parts = and-exact _ _ (and-exact _ _ (λ e. e, λ e. e) (λ e. e, λ e. e)) sides
+
+        chosen : (du : 0 < d u) (dp : 0 < d (at parent u)) → (at low u < at pre (at parent u)) ⊎ (at pre (at parent u) + at nd (at parent u) ≤ at high u)
+            → JoinsUp (Link m ends) (at parent) d u
+        chosen du dp (inl l) = by-low u hu du dp l
+        chosen du dp (inr l) = by-high u hu du dp l
+
+        there : joinsParent parent nd pre low high u ≡ true → JoinsUp (Link m ends) (at parent) d u
+        there e =
+            let q = parts .0 e in
+            let du : 0 < d u = nonroot-exact site rooted u hu .0 (q .0 .0) in
+            chosen du (nonroot-exact site rooted (at parent u) (rooted .parentBelow u hu du) .0 (q .0 .1)) (q .1)
+
+        back : JoinsUp (Link m ends) (at parent) d u → joinsParent parent nd pre low high u ≡ true
+        back j =
+            parts .1 (
+              (nonroot-exact site rooted u hu .1 (j .child), nonroot-exact site rooted (at parent u) (rooted .parentBelow u hu (j .child)) .1 (j .inner)),
+              leaves u hu (j .child) (j .inner) (j .x) (j .y) (j .off) (j .inside) (j .outside),
+            )

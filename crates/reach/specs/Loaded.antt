@@ -1,0 +1,57 @@
+-- From a load: the site that it draws, and that the loaded state is at the start of stage 1.
+use mathlib.Core.Path.{_≡_, refl, sym, ap, _∙_}
+use mathlib.Core.Logic.{_⊎_, inl, inr, _↔_}
+use mathlib.Core.List.{List, _++_}
+use Prim.Native.Nat.{ℕ, _+_, _*_, _≤_, _<_}
+use native.Mathlib.Omega.{arith}
+use lib.ListN.{length, drop, getD-replicate, List·getD-append}
+use Rattle.table.specs.Table.{linkCount, endA, endB, tableRefusal}
+use Rattle.table.specs.Passes.{Passes, passes}
+use Rattle.rules.specs.Basics.{ABSENT, at}
+use Rattle.graph.specs.Rings.{SameLink}
+use Rattle.survey.specs.declared.state.Survey.{Survey}
+use Rattle.survey.specs.State.{units, links}
+use Rattle.survey.specs.Load.{absents, zeros, endsOf, begun, loaded}
+use Rattle.reach.specs.Site.{Site, Link}
+use Rattle.reach.specs.Sized.{loaded-sized}
+use Rattle.reach.specs.Invariant.{Base, Fresh, In1, Reached, in1}
+
+module _ (n : ℕ) (t : List ℕ) (e : tableRefusal n t ≡ 0) where
+  p : Passes n t
+  p = passes n t e
+
+  -- the ends in the state's array are the table's
+  pub end-a : (j : ℕ) → j < linkCount t → endA (endsOf t) j ≡ endA t j
+  end-a j l = List·getD-append t (drop (length t) (absents 2048)) 0 (2 * j) (omega (arith, p .pairs))
+
+  pub end-b : (j : ℕ) → j < linkCount t → endB (endsOf t) j ≡ endB t j
+  end-b j l = List·getD-append t (drop (length t) (absents 2048)) 0 (2 * j + 1) (omega (arith, p .pairs))
+
+  -- so a link of the state is a link of the table
+  pub same-links : (u v : ℕ) → Link (linkCount t) (endsOf t) u v ↔ Link (linkCount t) t u v
+  same-links u v = (λ (j, l, s). (j, l, rw (end-a j l, end-b j l) at s), λ (j, l, s). (j, l, rw (end-a j l, end-b j l) s))
+
+  site-loaded : Site n (linkCount t) (endsOf t)
+  site-loaded =
+      record {
+        someUnit = p .someUnit;
+        fewUnits = p .fewUnits;
+        fewLinks = p .fewLinks;
+        belowA = λ j l. rw (end-a j l) (p .endsExist (2 * j) (omega (arith, p .pairs)));
+        belowB = λ j l. rw (end-b j l) (p .endsExist (2 * j + 1) (omega (arith, p .pairs)));
+        differ = λ j l q. p .endsDiffer j l (sym (end-a j l) ∙ q ∙ end-b j l);
+        once = λ j k d lj lk s. p .once j k d lj lk (rw (end-a j lj, end-b j lj, end-a k lk, end-b k lk) at s);
+      }
+
+  pub base-loaded : Base (loaded n t)
+  unfolding loaded begun
+  base-loaded = record { site = site-loaded; sized = loaded-sized n t }
+
+  absent-at : (v : ℕ) → v < n → at (absents 256) v ≡ ABSENT
+  unfolding absents
+  absent-at v l = getD-replicate 256 v ABSENT 0 (omega (arith, p .fewUnits))
+
+  pub reached-loaded : Reached (loaded n t)
+  unfolding loaded begun
+  reached-loaded =
+      in1 (record { stage = refl; quiet = refl; fresh = record { parents = absent-at; distances = absent-at }; colors = inl refl })

@@ -1,0 +1,171 @@
+-- Every state that a load reaches, and what the finished one says: the last theorem of this crate is `survey-right`.
+use mathlib.Core.Path.{_≡_, refl, sym, ap, _∙_}
+use mathlib.Core.Bool.{Bool, true, false, cond}
+use mathlib.Core.Logic.{_⊎_, inl, inr, _↔_}
+use mathlib.Core.List.{List}
+use Prim.Native.Nat.{ℕ, zero, suc, _+_, _≤_, _<_}
+use native.Mathlib.Decide.{decLt, ℕ-discrete}
+use native.Mathlib.Numerals.{add-one}
+use native.Mathlib.Omega.{arith}
+use borrow.Author.Tests.{eq-eqb, ne-eqb}
+use Rattle.table.specs.Table.{linkCount, endA, endB, tableRefusal}
+use Rattle.rules.specs.Basics.{at}
+use Rattle.rules.specs.Labels.{lone, single}
+use Rattle.graph.specs.Rings.{Ring, Holds, OnRing, Articulation}
+use Rattle.graph.specs.Same.{onRing-same, no-ring-same, articulation-same}
+use Rattle.survey.specs.declared.state.Survey.{Survey}
+use Rattle.survey.specs.State.{units, links, finished, FINISHED, MAX-ROUNDS, MAX-REQUESTS}
+use Rattle.survey.specs.WellFormed.{wellFormed}
+use Rattle.survey.specs.Load.{endsOf, begun, loaded}
+use Rattle.survey.specs.Step
+use Rattle.survey.specs.StageLaws.{step-table, step-going}
+use Rattle.survey.specs.StepLaws.{loaded-wellFormed, first-countdown}
+use Rattle.survey.specs.Report.{unitSingle, linkLabel, linkLone}
+use Rattle.survey.specs.RunLaws.{steps-suc, step-finished, Total, total, total-least, total-countdown, ended-exact, steps-wellFormed}
+use Rattle.reach.specs.Site.{Link}
+use Rattle.reach.specs.Sized.{step-sized}
+use Rattle.reach.specs.Invariant
+use Rattle.reach.specs.Invariant.{Base, Reached, in1, in2, in3, in4, in5, in6, in7, in8, in9, in10, in11}
+use Rattle.reach.specs.LabelsRight
+use Rattle.reach.specs.Ticks.{Goes}
+use Rattle.reach.specs.Rounds1and2.{goes-1, goes-2}
+use Rattle.reach.specs.Rounds3and4.{goes-3, goes-4}
+use Rattle.reach.specs.Rounds5and6.{goes-5, goes-6}
+use Rattle.reach.specs.Rounds7and8.{goes-7, goes-8}
+use Rattle.reach.specs.Rounds9and10.{goes-9, goes-10}
+use Rattle.reach.specs.Loaded.{end-a, end-b, same-links, base-loaded, reached-loaded}
+
+-- ---- a step of a reached state
+
+pub goes : (s : Survey) → Base s → Reached s → (s .clock .stage ≡ FINISHED → ⊥) → Goes s
+goes s b (in1 i) h = goes-1 s b i
+goes s b (in2 i) h = goes-2 s b i
+goes s b (in3 i) h = goes-3 s b i
+goes s b (in4 i) h = goes-4 s b i
+goes s b (in5 i) h = goes-5 s b i
+goes s b (in6 i) h = goes-6 s b i
+goes s b (in7 i) h = goes-7 s b i
+goes s b (in8 i) h = goes-8 s b i
+goes s b (in9 i) h = goes-9 s b i
+goes s b (in10 i) h = goes-10 s b i
+goes s b (in11 i) h = absurd (h (i .stage))
+
+base-step : (s : Survey) → Base s → Base (Step.step s)
+base-step s b = record { site = rw (step-table s) (b .site); sized = step-sized s (b .sized) }
+
+reached-step : (s : Survey) → Base s → Reached s → Dec (s .clock .stage ≡ FINISHED) → Reached (Step.step s)
+reached-step s b r (yes e) = rw (step-finished s (eq-eqb (s .clock .stage) FINISHED e)) r
+reached-step s b r (no h) = goes s b r h .after
+
+-- ---- every state from a load
+
+module _ (n : ℕ) (t : List ℕ) (accepted : tableRefusal n t ≡ 0) where
+  pub base-steps : (k : ℕ) → Base (Step.steps k (loaded n t))
+  unfolding Step.steps
+  base-steps zero = base-loaded n t accepted
+  base-steps (suc k) = rw (steps-suc k (loaded n t)) (base-step (Step.steps k (loaded n t)) (base-steps k))
+
+  pub reached-steps : (k : ℕ) → Reached (Step.steps k (loaded n t))
+  unfolding Step.steps
+  reached-steps zero = reached-loaded n t accepted
+  reached-steps (suc k) =
+      rw (steps-suc k (loaded n t))
+      (reached-step (Step.steps k (loaded n t)) (base-steps k) (reached-steps k) (ℕ-discrete (Step.steps k (loaded n t) .clock .stage) FINISHED))
+
+  pub table-steps : (k : ℕ) → Step.steps k (loaded n t) .table ≡ loaded n t .table
+  unfolding Step.steps
+  table-steps zero = refl
+  table-steps (suc k) = rw (steps-suc k (loaded n t)) (step-table (Step.steps k (loaded n t)) ∙ table-steps k)
+
+  well-formed : wellFormed (loaded n t) ≡ true
+  well-formed = loaded-wellFormed n t accepted
+
+  -- before the end each round is not cut short, and no number leaves its bound
+  pub goes-on : (k : ℕ) → k < total (loaded n t) → Goes (Step.steps k (loaded n t))
+  goes-on k l =
+      goes (Step.steps k (loaded n t)) (base-steps k) (reached-steps k) (total-least (loaded n t) well-formed .least k l)
+
+  -- all rounds are the steps made, and within their limit
+  pub rounds-steps : (k : ℕ) → k ≤ total (loaded n t) → Step.steps k (loaded n t) .clock .rounds ≡ k
+  unfolding Step.steps Step.nextClock loaded begun
+  rounds-steps zero l = refl
+  rounds-steps (suc k) l =
+      rw (steps-suc k (loaded n t), step-going (Step.steps k (loaded n t)) (total-least (loaded n t) well-formed .least k l))
+      (omega (arith, rounds-steps k (omega arith), total-countdown (loaded n t), first-countdown n t accepted))
+
+  -- requests are added up and never clamped
+  pub requests-steps : (k : ℕ) → k < total (loaded n t)
+      → Step.steps (suc k) (loaded n t) .clock .requests ≡ Step.steps k (loaded n t) .clock .requests + Step.roundRequests (Step.steps k (loaded n t))
+  unfolding Step.nextClock
+  requests-steps k l =
+      rw (steps-suc k (loaded n t), step-going (Step.steps k (loaded n t)) (total-least (loaded n t) well-formed .least k l))
+      (omega (arith, goes-on k l .unclamped))
+
+-- ---- what the finished survey says
+
+-- labels, lone links and single points of e are those of the graph that the table t of n units draws
+pub record SurveyRight (n : ℕ) (t : List ℕ) (e : Survey) : Type 0 where
+  -- two different links have one label exactly when a ring holds both
+  pub labels : (j k : ℕ) → j < linkCount t → k < linkCount t → (j ≡ k → ⊥)
+      → (linkLabel e j ≡ linkLabel e k) ↔ OnRing (Link (linkCount t) t) (endA t j) (endB t j) (endA t k) (endB t k)
+  -- a link is lone exactly when no ring holds it
+  pub lones : (j : ℕ) → j < linkCount t
+      → (linkLone e j ≡ true) ↔ ((r : List ℕ) → Ring (Link (linkCount t) t) r → Holds r (endA t j) (endB t j) → ⊥)
+  -- a unit is a single point exactly when two other units that are linked up with each other have no route that avoids it
+  pub singles : (u : ℕ) → u < n → (unitSingle e u ≡ true) ↔ Articulation (Link (linkCount t) t) u
+
+module _ (n : ℕ) (t : List ℕ) (accepted : tableRefusal n t ≡ 0) where
+  -- over the state's own array
+  finished-right : (s : Survey) → s .table ≡ loaded n t .table → Reached s → s .clock .stage ≡ FINISHED
+      → LabelsRight.Right n (linkCount t) (endsOf t) (s .labels .label)
+  unfolding loaded begun
+  finished-right s e (in1 i) f = absurd (omega (arith, i .stage))
+  finished-right s e (in2 i) f = absurd (omega (arith, i .stage))
+  finished-right s e (in3 i) f = absurd (omega (arith, i .stage))
+  finished-right s e (in4 i) f = absurd (omega (arith, i .stage))
+  finished-right s e (in5 i) f = absurd (omega (arith, i .stage))
+  finished-right s e (in6 i) f = absurd (omega (arith, i .stage))
+  finished-right s e (in7 i) f = absurd (omega (arith, i .stage))
+  finished-right s e (in8 i) f = absurd (omega (arith, i .stage))
+  finished-right s e (in9 i) f = absurd (omega (arith, i .stage))
+  finished-right s e (in10 i) f = absurd (omega (arith, i .stage))
+  finished-right s e (in11 i) f = rw e at (i .right)
+
+  -- in the words of the table
+  right-words : (s : Survey) → s .table ≡ loaded n t .table → LabelsRight.Right n (linkCount t) (endsOf t) (s .labels .label) → SurveyRight n t s
+  unfolding loaded begun
+  right-words s e r =
+      record {
+        labels =
+            λ j k lj lk d.
+            let w = r .together j k lj lk d in
+            let o = onRing-same (Link (linkCount t) (endsOf t)) (Link (linkCount t) t) (same-links n t accepted) (endA t j) (endB t j) (endA t k) (endB t k) in
+            let q : (at (s .labels .label) j ≡ at (s .labels .label) k) ↔ OnRing (Link (linkCount t) (endsOf t)) (endA t j) (endB t j) (endA t k) (endB t k) =
+            rw (end-a n t accepted j lj, end-b n t accepted j lj, end-a n t accepted k lk, end-b n t accepted k lk) at w in
+            (λ x. o .0 (q .0 x), λ x. q .1 (o .1 x));
+        lones =
+            λ j l.
+            let o = no-ring-same (Link (linkCount t) (endsOf t)) (Link (linkCount t) t) (same-links n t accepted) (endA t j) (endB t j) in
+            let q : (lone (linkCount t) (s .labels .label) j ≡ true) ↔ ((c : List ℕ) → Ring (Link (linkCount t) (endsOf t)) c → Holds c (endA t j) (endB t j) → ⊥) =
+            rw (end-a n t accepted j l, end-b n t accepted j l) at (r .bridges j l) in
+            rw e (λ x. o .0 (q .0 x), λ x. q .1 (o .1 x));
+        singles =
+            λ u l.
+            let o = articulation-same (Link (linkCount t) (endsOf t)) (Link (linkCount t) t) (same-links n t accepted) u in
+            rw e (λ x. o .0 (r .cuts u l .0 x), λ x. r .cuts u l .1 (o .1 x));
+      }
+
+  -- For every accepted table: the survey comes to the end after `total` rounds and no fewer, at most the first countdown; all rounds and requests stay
+  -- within their limits; and the finished survey is right.
+  pub survey-right : Total (loaded n t) (total (loaded n t))
+      × (total (loaded n t) ≤ Step.countdown (loaded n t))
+      × (Step.countdown (loaded n t) ≤ MAX-ROUNDS)
+      × SurveyRight n t (Step.steps (total (loaded n t)) (loaded n t))
+  survey-right = (
+    total-least (loaded n t) (loaded-wellFormed n t accepted),
+    total-countdown (loaded n t),
+    first-countdown n t accepted,
+    right-words (Step.steps (total (loaded n t)) (loaded n t)) (table-steps n t accepted (total (loaded n t)))
+        (finished-right (Step.steps (total (loaded n t)) (loaded n t)) (table-steps n t accepted (total (loaded n t))) (reached-steps n t accepted (total (loaded n t)))
+        (total-least (loaded n t) (loaded-wellFormed n t accepted) .ends)),
+  )

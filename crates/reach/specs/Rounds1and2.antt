@@ -1,0 +1,173 @@
+-- Rounds of stages 1 and 2.
+use mathlib.Core.Path.{_≡_, refl, sym, ap, _∙_}
+use mathlib.Core.Bool.{Bool, true, false, cond}
+use mathlib.Core.Logic.{_⊎_, inl, inr}
+use mathlib.Core.List.{List}
+use Prim.Native.Nat.{ℕ, suc, _+_, _≤_, _<_, max}
+use native.Mathlib.Numerals.{add-one}
+use native.Mathlib.Omega.{arith}
+use lib.ListN.{length}
+use Rattle.lists.specs.Tests.{either, not-both}
+use Rattle.rules.specs.Basics.{ABSENT, at}
+use Rattle.rules.specs.Ceilings.{ceiling}
+use Rattle.rules.specs.Components.{colorRound, colorEnds}
+use Rattle.rules.specs.Tree.{parentRound, distRound, treeEnds}
+use Rattle.survey.specs.declared.state.Survey.{Survey}
+use Rattle.survey.specs.State.{MAX-REQUESTS, units, links}
+use Rattle.survey.specs.Step
+use Rattle.survey.specs.StageLaws.{ticked, step-1, ends-1, requests-1, step-2, ends-2, requests-2}
+use Rattle.reach.specs.Site.{Site}
+use Rattle.reach.specs.Rooted.{Rooted}
+use Rattle.reach.specs.Sized.{Sized}
+use Rattle.reach.specs.Colors
+use Rattle.reach.specs.BreadthFirst
+use Rattle.reach.specs.Invariant.{Base, Fresh, Treed, In1, In2, In3, Reached, in1, in2, in3}
+use Rattle.reach.specs.Ticks.{Goes, uncut, stage-on, made-on, stage-over, made-over, requests-next}
+
+-- ---- stage 1
+
+module _ (s : Survey) (b : Base s) (i : In1 s) where
+  within-1 : s .clock .requests + Step.roundRequests s ≤ MAX-REQUESTS
+  within-1 = omega (arith, i .quiet, requests-1 s (i .stage))
+
+  color-room : units s ≤ length (s .components .color)
+  color-room = omega (arith, b .site .fewUnits, b .sized .byUnit .0)
+
+  rule-1 : Step.ruleEnds s ≡ colorEnds (units s) (s .clock .made) (s .components .color) (colorRound (units s) (links s) (s .clock .made) (s .table .ends) (s .components .color))
+  unfolding Step.components
+  rule-1 = ends-1 s (i .stage)
+
+  quiet-1 : (last : Bool) → Step.nextClock last (Step.roundRequests s) (s .clock) .requests ≡ 0
+  quiet-1 last =
+      requests-next last (Step.roundRequests s) (s .clock) (omega (arith, i .quiet, requests-1 s (i .stage)))
+      ∙ omega (arith, i .quiet, requests-1 s (i .stage))
+
+  fresh-1 : Fresh (ticked s (Step.components s))
+  unfolding Step.components
+  fresh-1 = record { parents = i .fresh .parents; distances = i .fresh .distances }
+
+  -- the stage goes on
+  on-1 : Step.lastRound s ≡ false → Colors.ColorsAt (units s) (links s) (s .table .ends) (colorRound (units s) (links s) (s .clock .made) (s .table .ends) (s .components .color)) (suc (s .clock .made))
+      → Reached (ticked s (Step.components s))
+  unfolding Step.components
+  on-1 e c =
+      in1
+      (record {
+        stage = stage-on (Step.lastRound s) (Step.roundRequests s) (s .clock) e ∙ i .stage;
+        quiet = quiet-1 (Step.lastRound s);
+        fresh = fresh-1;
+        colors = inr (rw (made-on (Step.lastRound s) (Step.roundRequests s) (s .clock) e) (omega arith, rw (add-one (s .clock .made)) c));
+      })
+
+  -- the stage is over
+  over-1 : Step.lastRound s ≡ true → Colors.Colored (units s) (links s) (s .table .ends) (colorRound (units s) (links s) (s .clock .made) (s .table .ends) (s .components .color))
+      → Reached (ticked s (Step.components s))
+  unfolding Step.components
+  over-1 e c =
+      in2
+      (record {
+        stage = stage-over (Step.lastRound s) (Step.roundRequests s) (s .clock) e ∙ omega (arith, i .stage);
+        quiet = quiet-1 (Step.lastRound s);
+        colored = c;
+        tree = inl (made-over (Step.lastRound s) (Step.roundRequests s) (s .clock) e, fresh-1);
+      })
+
+  pub goes-1 : Goes s
+  goes-1 = go (i .colors) (either (Step.ruleEnds s))
+    where
+      Later : Type 0
+      Later = (1 ≤ s .clock .made) × Colors.ColorsAt (units s) (links s) (s .table .ends) (s .components .color) (s .clock .made)
+
+      first : s .clock .made ≡ 0 → Goes s
+      first z =
+          let rule : Step.ruleEnds s ≡ false = rule-1 ∙ rw z (Colors.first-goes-on (b .site) (s .components .color) _) in
+          let u : Step.lastRound s ≡ Step.ruleEnds s = uncut s (λ e. rw (i .stage) (omega arith)) in
+          record { uncut = u; unclamped = within-1; after = rw (step-1 s (i .stage)) (on-1 (u ∙ rule) (rw z (Colors.first (b .site) (s .components .color) color-room))) }
+
+      go : (s .clock .made ≡ 0) ⊎ Later → (Step.ruleEnds s ≡ true) ⊎ (Step.ruleEnds s ≡ false) → Goes s
+      go (inl z) r = first z
+      go (inr (l, c)) (inr r) =
+          let u : Step.lastRound s ≡ Step.ruleEnds s = uncut s (λ e. rw (i .stage) (omega (arith, Colors.bound (b .site) c l (sym rule-1 ∙ r)))) in
+          record { uncut = u; unclamped = within-1; after = rw (step-1 s (i .stage)) (on-1 (u ∙ r) (Colors.next (b .site) c l)) }
+      go (inr (l, c)) (inl r) =
+          let u : Step.lastRound s ≡ Step.ruleEnds s = uncut s (λ e. absurd (not-both (Step.ruleEnds s) r e)) in
+          record { uncut = u; unclamped = within-1; after = rw (step-1 s (i .stage)) (over-1 (u ∙ r) (Colors.done (b .site) c l (sym rule-1 ∙ r))) }
+
+-- ---- stage 2
+
+module _ (s : Survey) (b : Base s) (i : In2 s) where
+  within-2 : s .clock .requests + Step.roundRequests s ≤ MAX-REQUESTS
+  within-2 = omega (arith, i .quiet, requests-2 s (i .stage))
+
+  parents′ : List ℕ
+  parents′ = parentRound (units s) (links s) (s .clock .made) (s .table .ends) (s .components .color) (s .tree .dist) (s .tree .parent)
+
+  dists′ : List ℕ
+  dists′ = distRound (units s) (links s) (s .clock .made) (s .table .ends) (s .components .color) (s .tree .dist)
+
+  quiet-2 : (last : Bool) → Step.nextClock last (Step.roundRequests s) (s .clock) .requests ≡ 0
+  quiet-2 last =
+      requests-next last (Step.roundRequests s) (s .clock) (omega (arith, i .quiet, requests-2 s (i .stage)))
+      ∙ omega (arith, i .quiet, requests-2 s (i .stage))
+
+  on-2 : Step.lastRound s ≡ false → BreadthFirst.TreeAt (units s) (links s) (s .table .ends) (s .components .color) parents′ dists′ (suc (s .clock .made))
+      → Reached (ticked s (Step.tree s))
+  unfolding Step.tree parents′ dists′
+  on-2 e t =
+      in2
+      (record {
+        stage = stage-on (Step.lastRound s) (Step.roundRequests s) (s .clock) e ∙ i .stage;
+        quiet = quiet-2 (Step.lastRound s);
+        colored = i .colored;
+        tree = inr (rw (made-on (Step.lastRound s) (Step.roundRequests s) (s .clock) e) (omega arith, rw (add-one (s .clock .made)) t));
+      })
+
+  over-2 : Step.lastRound s ≡ true
+      → Rooted (units s) (links s) (s .table .ends) (s .components .color) parents′ (BreadthFirst.depthOf (units s) dists′)
+      × BreadthFirst.Leveled (links s) (s .table .ends) (BreadthFirst.depthOf (units s) dists′)
+      → Reached (ticked s (Step.tree s))
+  unfolding Step.tree parents′ dists′
+  over-2 e (rooted, leveled) =
+      in3
+      (record {
+        stage = stage-over (Step.lastRound s) (Step.roundRequests s) (s .clock) e ∙ omega (arith, i .stage);
+        quiet = quiet-2 (Step.lastRound s);
+        treed =
+            record {
+              depth = BreadthFirst.depthOf (units s) dists′;
+              rooted = rooted;
+              unrelated = λ u v o. BreadthFirst.off-unrelated (b .site) leveled rooted o;
+            };
+        tour = inl (made-over (Step.lastRound s) (Step.roundRequests s) (s .clock) e);
+      })
+
+  pub goes-2 : Goes s
+  unfolding parents′ dists′
+  goes-2 = go (i .tree) (either (Step.ruleEnds s))
+    where
+      rule : Step.ruleEnds s ≡ treeEnds (units s) (links s) (s .clock .made) (s .table .ends) (s .components .color) (s .tree .dist)
+      rule = ends-2 s (i .stage)
+
+      Later : Type 0
+      Later = (1 ≤ s .clock .made) × BreadthFirst.TreeAt (units s) (links s) (s .table .ends) (s .components .color) (s .tree .parent) (s .tree .dist) (s .clock .made)
+
+      go : ((s .clock .made ≡ 0) × Fresh s) ⊎ Later → (Step.ruleEnds s ≡ true) ⊎ (Step.ruleEnds s ≡ false) → Goes s
+      go (inl (z, f)) r =
+          let e : Step.ruleEnds s ≡ false = rule ∙ rw z (BreadthFirst.first-goes-on (b .site) (i .colored) (s .tree .dist)) in
+          let u : Step.lastRound s ≡ Step.ruleEnds s = uncut s (λ q. rw (i .stage) (omega (arith, b .site .someUnit))) in
+          record {
+            uncut = u;
+            unclamped = within-2;
+            after =
+                rw (step-2 s (i .stage))
+                (on-2 (u ∙ e)
+                (rw z
+                (BreadthFirst.first (b .site) (i .colored) (s .tree .parent) (s .tree .dist) (omega (arith, b .site .fewUnits, b .sized .byUnit .1 .0))
+                (omega (arith, b .site .fewUnits, b .sized .byUnit .1 .1 .0)) (f .parents) (f .distances))));
+          }
+      go (inr (l, t)) (inr r) =
+          let u : Step.lastRound s ≡ Step.ruleEnds s = uncut s (λ q. rw (i .stage) (omega (arith, BreadthFirst.bound (b .site) (i .colored) t l (sym rule ∙ r)))) in
+          record { uncut = u; unclamped = within-2; after = rw (step-2 s (i .stage)) (on-2 (u ∙ r) (BreadthFirst.next (b .site) (i .colored) t l)) }
+      go (inr (l, t)) (inl r) =
+          let u : Step.lastRound s ≡ Step.ruleEnds s = uncut s (λ q. absurd (not-both (Step.ruleEnds s) r q)) in
+          record { uncut = u; unclamped = within-2; after = rw (step-2 s (i .stage)) (over-2 (u ∙ r) (BreadthFirst.done (b .site) (i .colored) t l (sym rule ∙ r))) }

@@ -1,0 +1,219 @@
+-- The tables of a state have the lengths of their arrays, and a step keeps them.
+use mathlib.Core.Path.{_≡_, refl, _∙_}
+use mathlib.Core.Bool.{Bool, cond}
+use mathlib.Core.List.{List, [], _∷_}
+use Prim.Native.Nat.{ℕ, _-_}
+use lib.Dec.{eqb}
+use lib.ListN.{length, length-replicate}
+use Rattle.lists.specs.All.{All, cond-keeps}
+use Rattle.lists.specs.Tables.{length-over}
+use Rattle.rules.specs.Components.{colorRound}
+use Rattle.rules.specs.Tree.{parentRound, distRound}
+use Rattle.rules.specs.Tour.{nextRound, predRound, firstSums, firstJumps}
+use Rattle.rules.specs.Ranking.{sumRound, jumpRound}
+use Rattle.rules.specs.Order.{forwardRound, ndRound, secondSums, secondJumps, preRound}
+use Rattle.rules.specs.Range.{globalFirst, rangeFirst, littleFirst, bigFirst, rangeLater, littleLater, bigLater, globalLater}
+use Rattle.rules.specs.Aux.{linkJoinsRound, parentJoinsRound, auxRound}
+use Rattle.rules.specs.Labels.{classRound, labelRound}
+use Rattle.survey.specs.declared.state.Survey.{Survey}
+use Rattle.survey.specs.State.{finished}
+use Rattle.survey.specs.Load.{absents, zeros, begun, loaded}
+use Rattle.survey.specs.Step
+
+-- the tables by what indexes them
+abbrev pub unitIndexed : Survey → List (List ℕ)
+unitIndexed s =
+    s .components .color
+    ∷ s .tree .parent
+    ∷ s .tree .dist
+    ∷ s .order .nd
+    ∷ s .order .pre
+    ∷ s .range .low
+    ∷ s .range .high
+    ∷ s .range .little
+    ∷ s .range .big
+    ∷ s .global .low
+    ∷ s .global .high
+    ∷ s .aux .parents
+    ∷ s .aux .color
+    ∷ []
+
+abbrev pub arcIndexed : Survey → List (List ℕ)
+arcIndexed s = s .tour .next ∷ s .tour .pred ∷ s .ranking .jump ∷ s .ranking .sum ∷ s .order .forward ∷ []
+
+abbrev pub linkIndexed : Survey → List (List ℕ)
+linkIndexed s = s .aux .links ∷ s .labels .class ∷ s .labels .label ∷ []
+
+abbrev pub Long : ℕ → List ℕ → Type 0
+Long k t = length t ≡ k
+
+pub record Sized (s : Survey) : Type 0 where
+  pub byUnit : All (Long 256) (unitIndexed s)
+  pub byArc : All (Long 512) (arcIndexed s)
+  pub byLink : All (Long 1024) (linkIndexed s)
+
+absents-long : (k : ℕ) → length (absents k) ≡ k
+unfolding absents
+absents-long k = length-replicate k _
+
+zeros-long : (k : ℕ) → length (zeros k) ≡ k
+unfolding zeros
+zeros-long k = length-replicate k 0
+
+pub loaded-sized : (n : ℕ) (t : List ℕ) → Sized (loaded n t)
+unfolding loaded begun
+loaded-sized n t =
+    record {
+      byUnit = (absents-long 256, (absents-long 256, (absents-long 256, (zeros-long 256, (zeros-long 256, (zeros-long 256, (zeros-long 256, (zeros-long 256, (zeros-long 256, (zeros-long 256, (zeros-long 256, (zeros-long 256, (absents-long 256, tt)))))))))))));
+      byArc = (absents-long 512, (absents-long 512, (absents-long 512, (zeros-long 512, (zeros-long 512, tt)))));
+      byLink = (zeros-long 1024, (absents-long 1024, (absents-long 1024, tt)));
+    }
+
+module _ (s : Survey) (z : Sized s) where
+  components-sized : Sized (Step.components s)
+  unfolding Step.components colorRound
+  components-sized =
+      record {
+        byUnit = (rw length-over (z .byUnit .0), z .byUnit .1);
+        byArc = z .byArc;
+        byLink = z .byLink;
+      }
+
+  tree-sized : Sized (Step.tree s)
+  unfolding Step.tree parentRound distRound
+  tree-sized =
+      record {
+        byUnit = (z .byUnit .0, (rw length-over (z .byUnit .1 .0), (rw length-over (z .byUnit .1 .1 .0), z .byUnit .1 .1 .1)));
+        byArc = z .byArc;
+        byLink = z .byLink;
+      }
+
+  tourNext-sized : Sized (Step.tourNext s)
+  unfolding Step.tourNext nextRound
+  tourNext-sized =
+      record {
+        byUnit = z .byUnit;
+        byArc = (rw length-over (z .byArc .0), z .byArc .1);
+        byLink = z .byLink;
+      }
+
+  tourPred-sized : Sized (Step.tourPred s)
+  unfolding Step.tourPred predRound firstJumps firstSums
+  tourPred-sized =
+      record {
+        byUnit = z .byUnit;
+        byArc = (z .byArc .0, (rw length-over (z .byArc .1 .0), (rw length-over (z .byArc .1 .1 .0), (rw length-over (z .byArc .1 .1 .1 .0), z .byArc .1 .1 .1 .1))));
+        byLink = z .byLink;
+      }
+
+  ranking-sized : Sized (Step.ranking s)
+  unfolding Step.ranking jumpRound sumRound
+  ranking-sized =
+      record {
+        byUnit = z .byUnit;
+        byArc = (z .byArc .0, (z .byArc .1 .0, (rw length-over (z .byArc .1 .1 .0), (rw length-over (z .byArc .1 .1 .1 .0), z .byArc .1 .1 .1 .1))));
+        byLink = z .byLink;
+      }
+
+  marksForward-sized : Sized (Step.marksForward s)
+  unfolding Step.marksForward forwardRound
+  marksForward-sized =
+      record {
+        byUnit = z .byUnit;
+        byArc = (z .byArc .0, (z .byArc .1 .0, (z .byArc .1 .1 .0, (z .byArc .1 .1 .1 .0, (rw length-over (z .byArc .1 .1 .1 .1 .0), z .byArc .1 .1 .1 .1 .1)))));
+        byLink = z .byLink;
+      }
+
+  marksDescendants-sized : Sized (Step.marksDescendants s)
+  unfolding Step.marksDescendants ndRound secondJumps secondSums
+  marksDescendants-sized =
+      record {
+        byUnit = (z .byUnit .0, (z .byUnit .1 .0, (z .byUnit .1 .1 .0, (rw length-over (z .byUnit .1 .1 .1 .0), z .byUnit .1 .1 .1 .1))));
+        byArc = (z .byArc .0, (z .byArc .1 .0, (rw length-over (z .byArc .1 .1 .0), (rw length-over (z .byArc .1 .1 .1 .0), z .byArc .1 .1 .1 .1))));
+        byLink = z .byLink;
+      }
+
+  places-sized : Sized (Step.places s)
+  unfolding Step.places Step.ranking preRound jumpRound sumRound
+  places-sized =
+      record {
+        byUnit = (z .byUnit .0, (z .byUnit .1 .0, (z .byUnit .1 .1 .0, (z .byUnit .1 .1 .1 .0, (rw length-over (z .byUnit .1 .1 .1 .1 .0), z .byUnit .1 .1 .1 .1 .1)))));
+        byArc = (z .byArc .0, (z .byArc .1 .0, (rw length-over (z .byArc .1 .1 .0), (rw length-over (z .byArc .1 .1 .1 .0), z .byArc .1 .1 .1 .1))));
+        byLink = z .byLink;
+      }
+
+  rangeBegun-sized : Sized (Step.rangeBegun s)
+  unfolding Step.rangeBegun rangeFirst littleFirst bigFirst globalFirst
+  rangeBegun-sized =
+      record {
+        byUnit = (z .byUnit .0, (z .byUnit .1 .0, (z .byUnit .1 .1 .0, (z .byUnit .1 .1 .1 .0, (z .byUnit .1 .1 .1 .1 .0, (rw length-over (z .byUnit .1 .1 .1 .1 .1 .0), (rw length-over (z .byUnit .1 .1 .1 .1 .1 .1 .0), (rw length-over (z .byUnit .1 .1 .1 .1 .1 .1 .1 .0), (rw length-over (z .byUnit .1 .1 .1 .1 .1 .1 .1 .1 .0), (rw length-over (z .byUnit .1 .1 .1 .1 .1 .1 .1 .1 .1 .0), (rw length-over (z .byUnit .1 .1 .1 .1 .1 .1 .1 .1 .1 .1 .0), z .byUnit .1 .1 .1 .1 .1 .1 .1 .1 .1 .1 .1)))))))))));
+        byArc = z .byArc;
+        byLink = z .byLink;
+      }
+
+  rangeDoubled-sized : (i : ℕ) → Sized (Step.rangeDoubled i s)
+  unfolding Step.rangeDoubled rangeLater littleLater bigLater globalLater
+  rangeDoubled-sized i =
+      record {
+        byUnit = (z .byUnit .0, (z .byUnit .1 .0, (z .byUnit .1 .1 .0, (z .byUnit .1 .1 .1 .0, (z .byUnit .1 .1 .1 .1 .0, (rw length-over (z .byUnit .1 .1 .1 .1 .1 .0), (rw length-over (z .byUnit .1 .1 .1 .1 .1 .1 .0), (rw length-over (z .byUnit .1 .1 .1 .1 .1 .1 .1 .0), (rw length-over (z .byUnit .1 .1 .1 .1 .1 .1 .1 .1 .0), (rw length-over (z .byUnit .1 .1 .1 .1 .1 .1 .1 .1 .1 .0), (rw length-over (z .byUnit .1 .1 .1 .1 .1 .1 .1 .1 .1 .1 .0), z .byUnit .1 .1 .1 .1 .1 .1 .1 .1 .1 .1 .1)))))))))));
+        byArc = z .byArc;
+        byLink = z .byLink;
+      }
+
+  auxEdges-sized : Sized (Step.auxEdges s)
+  unfolding Step.auxEdges parentJoinsRound linkJoinsRound
+  auxEdges-sized =
+      record {
+        byUnit = (z .byUnit .0, (z .byUnit .1 .0, (z .byUnit .1 .1 .0, (z .byUnit .1 .1 .1 .0, (z .byUnit .1 .1 .1 .1 .0, (z .byUnit .1 .1 .1 .1 .1 .0, (z .byUnit .1 .1 .1 .1 .1 .1 .0, (z .byUnit .1 .1 .1 .1 .1 .1 .1 .0, (z .byUnit .1 .1 .1 .1 .1 .1 .1 .1 .0, (z .byUnit .1 .1 .1 .1 .1 .1 .1 .1 .1 .0, (z .byUnit .1 .1 .1 .1 .1 .1 .1 .1 .1 .1 .0, (rw length-over (z .byUnit .1 .1 .1 .1 .1 .1 .1 .1 .1 .1 .1 .0), z .byUnit .1 .1 .1 .1 .1 .1 .1 .1 .1 .1 .1 .1))))))))))));
+        byArc = z .byArc;
+        byLink = (rw length-over (z .byLink .0), z .byLink .1);
+      }
+
+  auxComponents-sized : Sized (Step.auxComponents s)
+  unfolding Step.auxComponents auxRound
+  auxComponents-sized =
+      record {
+        byUnit = (z .byUnit .0, (z .byUnit .1 .0, (z .byUnit .1 .1 .0, (z .byUnit .1 .1 .1 .0, (z .byUnit .1 .1 .1 .1 .0, (z .byUnit .1 .1 .1 .1 .1 .0, (z .byUnit .1 .1 .1 .1 .1 .1 .0, (z .byUnit .1 .1 .1 .1 .1 .1 .1 .0, (z .byUnit .1 .1 .1 .1 .1 .1 .1 .1 .0, (z .byUnit .1 .1 .1 .1 .1 .1 .1 .1 .1 .0, (z .byUnit .1 .1 .1 .1 .1 .1 .1 .1 .1 .1 .0, (z .byUnit .1 .1 .1 .1 .1 .1 .1 .1 .1 .1 .1 .0, (rw length-over (z .byUnit .1 .1 .1 .1 .1 .1 .1 .1 .1 .1 .1 .1 .0), z .byUnit .1 .1 .1 .1 .1 .1 .1 .1 .1 .1 .1 .1 .1)))))))))))));
+        byArc = z .byArc;
+        byLink = z .byLink;
+      }
+
+  labelClasses-sized : Sized (Step.labelClasses s)
+  unfolding Step.labelClasses classRound
+  labelClasses-sized =
+      record {
+        byUnit = z .byUnit;
+        byArc = z .byArc;
+        byLink = (z .byLink .0, (rw length-over (z .byLink .1 .0), z .byLink .1 .1));
+      }
+
+  labelPositions-sized : Sized (Step.labelPositions s)
+  unfolding Step.labelPositions labelRound
+  labelPositions-sized =
+      record {
+        byUnit = z .byUnit;
+        byArc = z .byArc;
+        byLink = (z .byLink .0, (z .byLink .1 .0, (rw length-over (z .byLink .1 .1 .0), z .byLink .1 .1 .1)));
+      }
+
+  tables-sized : Sized (Step.roundTables s)
+  unfolding Step.roundTables Step.tour Step.marks Step.range Step.labels
+  tables-sized =
+      choose (eqb (s .clock .stage) 1) components-sized
+      (choose (eqb (s .clock .stage) 2) tree-sized
+      (choose (eqb (s .clock .stage) 3) (choose (eqb (s .clock .made) 0) tourNext-sized tourPred-sized)
+      (choose (eqb (s .clock .stage) 4) ranking-sized
+      (choose (eqb (s .clock .stage) 5) (choose (eqb (s .clock .made) 0) marksForward-sized marksDescendants-sized)
+      (choose (eqb (s .clock .stage) 6) (choose (Step.lastRound s) places-sized ranking-sized)
+      (choose (eqb (s .clock .stage) 7) (choose (eqb (s .clock .made) 0) rangeBegun-sized (rangeDoubled-sized (s .clock .made - 1)))
+      (choose (eqb (s .clock .stage) 8) auxEdges-sized
+      (choose (eqb (s .clock .stage) 9) auxComponents-sized
+      (choose (eqb (s .clock .made) 0) labelClasses-sized labelPositions-sized)))))))))
+    where
+      choose : (b : Bool) {x y : Survey} → Sized x → Sized y → Sized (cond b x y)
+      choose b {x} {y} p q = cond-keeps Sized b x y p q
+
+  pub step-sized : Sized (Step.step s)
+  unfolding Step.step
+  step-sized =
+      cond-keeps Sized (finished s) s _ z (record { byUnit = tables-sized .byUnit; byArc = tables-sized .byArc; byLink = tables-sized .byLink })

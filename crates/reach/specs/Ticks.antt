@@ -1,0 +1,53 @@
+-- The clock after a round, and that a stage's own rule ends it: the ceiling never does before.
+use mathlib.Core.Path.{_≡_, refl, ap, _∙_}
+use mathlib.Core.Bool.{Bool, true, false, cond, _||_}
+use mathlib.Core.Logic.{_⊎_, inl, inr}
+use Prim.Native.Nat.{ℕ, suc, _+_, _≤_, _<_, min}
+use native.Mathlib.Omega.{arith}
+use lib.Dec.{leb}
+use borrow.Author.Tests.{lt-leb}
+use Rattle.lists.specs.Tests.{either}
+use Rattle.rules.specs.Ceilings.{ceiling}
+use Rattle.survey.specs.declared.state.Survey.{Survey}
+use Rattle.survey.specs.declared.state.Clock.{Clock}
+use Rattle.survey.specs.State.{units, MAX-REQUESTS}
+use Rattle.survey.specs.Step
+use Rattle.reach.specs.Invariant.{Reached}
+
+-- a round of a reached state: not cut short by the ceiling, its requests within their limit, and it leaves a reached state
+pub record Goes (s : Survey) : Type 0 where
+  pub uncut : Step.lastRound s ≡ Step.ruleEnds s
+  pub unclamped : s .clock .requests + Step.roundRequests s ≤ MAX-REQUESTS
+  pub after : Reached (Step.step s)
+
+-- where a round that does not end the stage leaves room below the ceiling, the rule alone decides
+pub uncut : (s : Survey) → (Step.ruleEnds s ≡ false → s .clock .made + 1 < ceiling (units s) (s .clock .stage)) → Step.lastRound s ≡ Step.ruleEnds s
+unfolding Step.lastRound
+uncut s h = go (either (Step.ruleEnds s))
+  where
+    go : (Step.ruleEnds s ≡ true) ⊎ (Step.ruleEnds s ≡ false) → Step.lastRound s ≡ Step.ruleEnds s
+    go (inl e) = rw e refl
+    go (inr e) = rw (e, lt-leb (ceiling (units s) (s .clock .stage)) (s .clock .made + 1) (h e)) refl
+
+-- ---- the clock within a stage, and over its end
+
+pub stage-on : (last : Bool) (r : ℕ) (c : Clock) → last ≡ false → Step.nextClock last r c .stage ≡ c .stage
+unfolding Step.nextClock
+stage-on last r c e = rw e refl
+
+pub made-on : (last : Bool) (r : ℕ) (c : Clock) → last ≡ false → Step.nextClock last r c .made ≡ c .made + 1
+unfolding Step.nextClock
+made-on last r c e = rw e refl
+
+pub stage-over : (last : Bool) (r : ℕ) (c : Clock) → last ≡ true → Step.nextClock last r c .stage ≡ c .stage + 1
+unfolding Step.nextClock
+stage-over last r c e = rw e refl
+
+pub made-over : (last : Bool) (r : ℕ) (c : Clock) → last ≡ true → Step.nextClock last r c .made ≡ 0
+unfolding Step.nextClock
+made-over last r c e = rw e refl
+
+-- requests within their limit are added up
+pub requests-next : (last : Bool) (r : ℕ) (c : Clock) → c .requests + r ≤ MAX-REQUESTS → Step.nextClock last r c .requests ≡ c .requests + r
+unfolding Step.nextClock
+requests-next last r c h = omega arith

@@ -1,0 +1,1 @@
+// What holds of every state that a load reaches: specs only.
