@@ -102,35 +102,3 @@ endMissing-more n k [] l e = refl
 endMissing-more n k (x ∷ t) l e =
     let below : x < n = leb-false n x (or-false-left (leb n x) (endMissing n t) e) in
     rw (lt-leb k x (omega arith)) (endMissing-more n k t l (or-false-right (leb n x) (endMissing n t) e))
-
--- ---- a table that passes the checks
-
-pub record Passed (n : ℕ) (t : List ℕ) : Type 0 where
-  pub some : 0 < n
-  pub units : n ≤ maxUnits
-  pub even : length t ≡ 2 * linkCount t
-  pub few : linkCount t ≤ maxLinks
-  pub ends : endMissing n t ≡ false
-  pub different : equalEnds t ≡ false
-  pub once : repeatedLink t ≡ false
-
-pub passed-checks : (n : ℕ) (t : List ℕ) → tableRefusal n t ≡ 0 → Passed n t
-unfolding tableRefusal
-passed-checks n t e =
-    let t4 = passed-test (badUnitCount n) 4 _ (omega arith) e in
-    let t5 = passed-test (oddWords t) 5 _ (omega arith) (t4 .1) in
-    let t6 = passed-test (tooManyLinks t) 6 _ (omega arith) (t5 .1) in
-    let t7 = passed-test (endMissing n t) 7 _ (omega arith) (t6 .1) in
-    let t8 = passed-test (equalEnds t) 8 _ (omega arith) (t7 .1) in
-    let t9 = passed-test (repeatedLink t) 9 _ (omega arith) (t8 .1) in
-    let none : n ≡ 0 → ⊥ = eqb-false n 0 (or-false-left (eqb n 0) (ltb maxUnits n) (t4 .0)) in
-    let odd : length t % 2 ≡ 1 → ⊥ = eqb-false (length t % 2) 1 (t5 .0) in
-    record {
-      some = omega arith;
-      units = ltb-false maxUnits n (or-false-right (eqb n 0) (ltb maxUnits n) (t4 .0));
-      even = omega arith;
-      few = ltb-false maxLinks (linkCount t) (t6 .0);
-      ends = t7 .0;
-      different = t8 .0;
-      once = t9 .0;
-    }
