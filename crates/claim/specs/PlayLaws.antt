@@ -65,7 +65,7 @@ round-spent s w = go (either (finished s))
     go (inr f) = rw (w, f) (single s f)
 
 run-spent : (budget : ℕ) (s : Survey) → wellFormed s ≡ true
-  → Spent budget s (runAnswer budget s .survey) (usedBy (run budget) (runAnswer budget s .reply))
+    → Spent budget s (runAnswer budget s .survey) (usedBy (run budget) (runAnswer budget s .reply))
 unfolding runAnswer roundRefusal
 run-spent budget s w = go (either (finished s))
   where
@@ -90,20 +90,22 @@ call-spent (report out) s w = rw (unmoved (reportRefusal s (length out)) s _) (i
 -- one stretch after another
 joined : (a b : ℕ) (s s′ s″ : Survey) (u v : ℕ) → Spent a s s′ u → Spent b s′ s″ v → Spent (a + b) s s″ (u + v)
 joined a b s s′ s″ u v p q =
-    record
-      { state = q .state ∙ ap (steps v) (p .state) ∙ sym (steps-add u v s)
-      ; going = λ i l. before i l (decLt i u)
-      ; stops = stop (p .stops) (q .stops)
-      }
+    record {
+      state = q .state ∙ ap (steps v) (p .state) ∙ sym (steps-add u v s);
+      going = λ i l. before i l (decLt i u);
+      stops = stop (p .stops) (q .stops);
+    }
   where
     at-end : finished s′ ≡ true → finished s″ ≡ true
     at-end f = rw (q .state ∙ steps-finished v s′ f) f
+
     before : (i : ℕ) → i < u + v → Dec (i < u) → finished (steps i s) ≡ false
     before i l (yes h) = p .going i h
     before i l (no h) =
         let e : i ≡ u + (i - u) = omega arith in
         let g : steps i s ≡ steps (i - u) s′ = ap (λ (k : ℕ). steps k s) e ∙ steps-add u (i - u) s ∙ ap (steps (i - u)) (sym (p .state)) in
         rw g (q .going (i - u) (omega arith))
+
     stop : (u ≡ a) ⊎ (finished s′ ≡ true) → (v ≡ b) ⊎ (finished s″ ≡ true) → (u + v ≡ a + b) ⊎ (finished s″ ≡ true)
     stop x (inr f) = inr f
     stop (inl e) (inl g) = inl (omega arith)

@@ -1,8 +1,8 @@
 -- A survey file (document 01): kind 01 the unit count, a kind 02 for each link with its two ends, kind 0F the number of links.
 use mathlib.Core.Bool.{Bool, true, false, cond, not, _&&_, _||_}
 use mathlib.Core.List.{List, [], _∷_, _++_}
-use Prim.Native.Nat.{ℕ, zero, suc, _+_, _*_, _-_, _/_, _%_}
-use lib.Dec.{leb, ltb, eqb}
+use Prim.Native.Nat.{ℕ, zero, suc, _+_, _*_, _%_}
+use lib.Dec.{ltb, eqb}
 use lib.ListN.{length, getD, drop}
 use Rattle.table.specs.Refusals.{firstOf, written}
 use Rattle.table.specs.Table.{linkCount, maxLinks, tableTests}

@@ -1,21 +1,20 @@
 -- Writing: the reply by its tests, and the lines of the links laid down one after the other.
 use mathlib.Core.Path.{_≡_, refl, sym, ap, _∙_}
-use mathlib.Core.Bool.{Bool, true, false, cond}
+use mathlib.Core.Bool.{cond}
 use mathlib.Core.List.{List, [], _∷_, _++_, append-assoc, append-nil}
-use Prim.Native.Nat.{ℕ, zero, suc, _+_, _*_, _-_, _/_, _%_, _≤_, _<_}
-use native.Mathlib.Numerals.{add-one}
+use Prim.Native.Nat.{ℕ, zero, suc, _+_, _*_, _/_, _≤_, _<_}
 use native.Mathlib.Decide.{ℕ-discrete, decLt}
 use native.Mathlib.Omega.{arith}
 use lib.Dec.{eqb, ltb}
-use lib.ListN.{length, take, drop, length-append, length-drop}
-use borrow.Author.Tests.{eq-eqb, ne-eqb, lt-ltb, le-ltb, ltb-false}
+use lib.ListN.{length, take, drop, length-append}
+use borrow.Author.Tests.{ne-eqb, lt-ltb, le-ltb}
 use lib.Seq.{length-take-le}
 use Rattle.lists.specs.Lent.{lent, back, back-next}
 use Rattle.table.specs.Refusals.{firstOf}
 use Rattle.table.specs.RefusalLaws.{first-some, first-none}
 use Rattle.table.specs.Table.{linkCount, endA, endB, tableTests, tableRefusal}
 use Rattle.table.specs.TableLaws.{endA-later, endB-later}
-use Rattle.frames.specs.Frame.{wordBytes, lineOf, lineOver, lineLength}
+use Rattle.frames.specs.Frame.{wordBytes, lineOf, lineOver}
 use Rattle.frames.specs.FrameLaws.{length-line}
 use Rattle.frames.specs.FrameRests.{lineOver-fits, line-next}
 use Rattle.frames.specs.Kinds.{UNITS, LINK, END}

@@ -1,22 +1,19 @@
 -- What is written is read back: the lines of a file that was written, and what is read from them.
-use mathlib.Core.Path.{_≡_, refl, sym, ap, ap₂, _∙_}
-use mathlib.Core.Bool.{Bool, true, false, cond, not, _&&_, _||_}
+use mathlib.Core.Path.{_≡_, refl, sym, ap, _∙_}
+use mathlib.Core.Bool.{true, false}
 use mathlib.Core.List.{List, [], _∷_, _++_, append-assoc, append-nil}
-use Prim.Native.Nat.{ℕ, zero, suc, _+_, _*_, _-_, _/_, _%_, _≤_, _<_}
-use native.Mathlib.Nat.{zero-add}
+use Prim.Native.Nat.{ℕ, zero, suc, _+_, _*_, _/_, _%_, _≤_, _<_}
 use native.Mathlib.Decide.{decLt}
 use native.Mathlib.Omega.{arith}
-use lib.Dec.{leb, eqb, ltb}
 use lib.ListN.{length, getD, length-append, List·getD-eq-default}
-use borrow.Author.Tests.{eq-eqb, leb-false}
-use Rattle.lists.specs.Bools.{or-false-left, or-false-right}
-use Rattle.table.specs.Table.{linkCount, maxLinks, endMissing, tableRefusal}
+use borrow.Author.Tests.{eq-eqb}
+use Rattle.table.specs.Table.{linkCount, tableRefusal}
 use Rattle.table.specs.Passes.{Passes, passes}
-use Rattle.frames.specs.Frame.{LF, wordBytes, wordOf, hexesOf, checkByte, lineOf, bytesOf, allDigits, sumOf}
+use Rattle.frames.specs.Frame.{LF, wordBytes, hexesOf, checkByte, lineOf, bytesOf}
 use Rattle.frames.specs.FrameLaws.{Bytes, line-hexes, hexes-digits, bytes-hexes, length-hexes, check-below, check-sum}
 use Rattle.frames.specs.Kinds.{UNITS, LINK, END, frameBytes}
 use Rattle.files.specs.File.{Line, linesOf, kindOf, numberAt, whole, faultyLine, inOrderAfter, inOrder, linkFrames, statedCount, unitsIn, endsIn, linkLines, fileOf, readRefusal}
-use Rattle.files.specs.LineLaws.{lines-more, Whole, says-whole}
+use Rattle.files.specs.LineLaws.{lines-more, says-whole}
 use Rattle.files.specs.OrderLaws.{after-link}
 use Rattle.files.specs.ShapeLaws.{frames-link, ends-link, frames-units, ends-units}
 use Rattle.files.specs.ReadLaws.{accepted, refused-14}

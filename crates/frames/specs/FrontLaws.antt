@@ -1,11 +1,10 @@
 -- What recognising a line replies, by its tests.
 use mathlib.Core.Path.{_≡_, refl, sym, ap, _∙_}
-use mathlib.Core.Bool.{Bool, true, false, cond, not, _&&_}
+use mathlib.Core.Bool.{Bool, true, false, cond}
 use mathlib.Core.List.{List}
 use Prim.Native.Nat.{ℕ}
 use native.Mathlib.Omega.{arith}
-use lib.Dec.{eqb}
-use borrow.Author.Tests.{eq-eqb, ne-eqb}
+use borrow.Author.Tests.{ne-eqb}
 use Rattle.frames.specs.Frame.{lineFront}
 use Rattle.frames.specs.Kinds.{frameBytes, kindFront, fileFront, frontOf, frontNumber}
 use Rattle.frames.specs.declared.front.Front.{Front}

@@ -1,17 +1,16 @@
 -- The tests of a table from a place on, as a loop along the table meets them.
-use mathlib.Core.Path.{_≡_, refl, _∙_}
-use mathlib.Core.Bool.{Bool, true, false, _||_}
+use mathlib.Core.Path.{_≡_, refl}
+use mathlib.Core.Bool.{true, false}
 use mathlib.Core.Logic.{_⊎_, inl, inr}
 use mathlib.Core.List.{List, [], _∷_}
-use Prim.Native.Nat.{ℕ, zero, suc, _+_, _*_, _%_, _≤_, _<_}
+use Prim.Native.Nat.{ℕ, suc, _+_, _*_, _≤_, _<_}
 use native.Mathlib.Omega.{arith}
-use lib.Dec.{leb, ltb, eqb}
+use lib.Dec.{leb, eqb}
 use lib.ListN.{length, getD, drop, drop-of-length-le, length-drop}
-use borrow.Author.Tests.{le-leb, lt-leb, leb-false, lt-ltb, le-ltb, ltb-false, eq-eqb, ne-eqb, eqb-false}
+use borrow.Author.Tests.{le-leb, lt-leb, leb-false, lt-ltb, le-ltb, eq-eqb, ne-eqb}
 use Rattle.lists.specs.Rests.{rest-one, rest-two}
 use Rattle.lists.specs.Bools.{or-all, or-false-left, or-false-right}
-use Rattle.table.specs.RefusalLaws.{passed-test}
-use Rattle.table.specs.Table.{maxUnits, maxLinks, linkCount, endA, endB, badUnitCount, oddWords, tooManyLinks, endMissing, equalEnds, repeatedLink, tableRefusal}
+use Rattle.table.specs.Table.{maxUnits, endA, endB, badUnitCount, oddWords, tooManyLinks, endMissing, equalEnds, repeatedLink, tableRefusal}
 
 -- ---- a link more at the front
 
