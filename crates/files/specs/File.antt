@@ -1,12 +1,12 @@
 -- A survey file (document 01): kind 01 the unit count, a kind 02 for each link with its two ends, kind 0F the number of links.
 use mathlib.Core.Bool.{Bool, true, false, cond, not, _&&_, _||_}
 use mathlib.Core.List.{List, [], _∷_, _++_}
-use Prim.Native.Nat.{ℕ, _+_, _*_, _-_, _/_, _%_}
-use lib.Dec.{leb, ltb, eqb}
-use lib.ListN.{length, getD}
+use Prim.Native.Nat.{ℕ, zero, suc, _+_, _*_, _%_}
+use lib.Dec.{ltb, eqb}
+use lib.ListN.{length, getD, drop}
 use Rattle.table.specs.Refusals.{firstOf, written}
 use Rattle.table.specs.Table.{linkCount, maxLinks, tableTests}
-use Rattle.frames.specs.Frame.{LF, wordBytes, wordOf, lineOf, allDigits, bytesOf, sumOf}
+use Rattle.frames.specs.Frame.{LF, wordBytes, wordOf, wordAt, lineOf, allDigits, bytesOf, sumOf}
 use Rattle.frames.specs.Kinds.{UNITS, LINK, END, frameBytes}
 use Rattle.files.specs.declared.Reading.{Reading}
 use Rattle.files.specs.declared.Reading.the-variants.{Read}
@@ -36,6 +36,11 @@ writeRefusal n t places = firstOf (tableTests n t ++ (14, ltb places (fileLength
 unfoldable pub writeReply : ℕ → List ℕ → ℕ → Writing
 writeReply n t places =
     cond (eqb (writeRefusal n t places) 0) (Written (fileLength (linkCount t))) (Writing.Refused (writeRefusal n t places))
+
+-- document 01's number of a reply: 0 where the call was not refused
+abbrev pub writingNumber : Writing → ℕ
+writingNumber (Written characters) = 0
+writingNumber (Writing.Refused k) = k
 
 unfoldable pub writtenFile : ℕ → List ℕ → List ℕ → List ℕ
 writtenFile n t out = written (writeRefusal n t (length out)) (fileOf n t) out
@@ -109,6 +114,11 @@ unfoldable pub endsIn : List Line → List ℕ
 endsIn [] = []
 endsIn (l ∷ ls) = let later = endsIn ls in cond (eqb (kindOf l) LINK) (numberAt l 1 ∷ numberAt l 3 ∷ later) later
 
+-- the ends in m lines of links, thirteen characters each
+unfoldable pub endsFrom : ℕ → List ℕ → List ℕ
+endsFrom zero s = []
+endsFrom (suc m) s = wordAt s 2 ∷ wordAt s 6 ∷ endsFrom m (drop 13 s)
+
 -- reading lines into a slice with this many places: 1, 2, 3, 6, 14, each judged over the whole input
 unfoldable pub readRefusal : List Line → ℕ → ℕ
 readRefusal ls places =
@@ -125,6 +135,11 @@ unfoldable pub readReply : List ℕ → ℕ → Reading
 readReply s places =
     cond (eqb (readRefusal (linesOf s) places) 0) (Read (unitsIn (linesOf s)) (linkFrames (linesOf s)))
     (Reading.Refused (readRefusal (linesOf s) places))
+
+-- document 01's number of a reply: 0 where the call was not refused
+abbrev pub readingNumber : Reading → ℕ
+readingNumber (Read units links) = 0
+readingNumber (Reading.Refused k) = k
 
 unfoldable pub readWords : List ℕ → List ℕ → List ℕ
 readWords s words = written (readRefusal (linesOf s) (length words)) (endsIn (linesOf s)) words

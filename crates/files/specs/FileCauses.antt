@@ -1,10 +1,10 @@
 -- Why reading or writing a file is refused, in the words of document 01, and that each test decides its cause. So a reply is number k exactly
 -- when cause k holds and no earlier one does, and a call is refused exactly when some cause holds.
 use mathlib.Core.Path.{_≡_, refl, sym, ap, _∙_}
-use mathlib.Core.Bool.{Bool, true, false, cond, not, _&&_, _||_, false≢true, true≢false}
+use mathlib.Core.Bool.{Bool, true, false, not, _&&_, false≢true, true≢false}
 use mathlib.Core.Logic.{_⊎_, inl, inr, _↔_}
 use mathlib.Core.List.{List, [], _∷_, _++_}
-use Prim.Native.Nat.{ℕ, zero, suc, _+_, _*_, _%_, _≤_, _<_, zero-le, suc-le-suc}
+use Prim.Native.Nat.{ℕ, zero, suc, _+_, _*_, _%_, _<_, suc-le-suc}
 use native.Mathlib.Nat.{le-of-suc-le-suc, not-suc-le-zero}
 use native.Mathlib.Numerals.{add-one}
 use native.Mathlib.Omega.{arith}
@@ -14,7 +14,7 @@ use borrow.Author.Tests.{eq-eqb, ne-eqb, eqb-true, eqb-false, ltb-true, lt-ltb, 
 use Rattle.lists.specs.Tests.{either, or-cases, or-left, or-right, and-left, and-right, and-true, not-both, refuted}
 use Rattle.table.specs.Refusals.{firstOf}
 use Rattle.table.specs.RefusalLaws.{Reason, FirstCause, SomeCause, tests, first-cause, some-cause}
-use Rattle.table.specs.Table.{linkCount, maxLinks, tableTests}
+use Rattle.table.specs.Table.{linkCount, maxLinks}
 use Rattle.table.specs.TableCauses.{tableReasons}
 use Rattle.frames.specs.Frame.{digitValue, allDigits, bytesOf, sumOf}
 use Rattle.frames.specs.FrameLaws.{IsDigit, digit-exact}

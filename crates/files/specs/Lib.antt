@@ -10,3 +10,4 @@ pub mod RewrittenLaws
 pub mod FileCauses
 pub mod RoundTrip
 pub mod TripLaws
+pub mod Example

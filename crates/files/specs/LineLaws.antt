@@ -1,22 +1,21 @@
 -- The first line of characters: it is whole exactly when the characters begin with the line of a frame of a file kind.
-use mathlib.Core.Path.{_≡_, refl, sym, ap, ap₂, _∙_}
-use mathlib.Core.Bool.{Bool, true, false, cond, not, _&&_, _||_, false≢true, true≢false}
+use mathlib.Core.Path.{_≡_, refl, sym, ap, _∙_}
+use mathlib.Core.Bool.{true, false, not, _&&_, _||_}
 use mathlib.Core.Logic.{_⊎_, inl, inr}
 use mathlib.Core.List.{List, [], _∷_, _++_}
-use Prim.Native.Nat.{ℕ, zero, suc, _+_, _*_, _-_, _/_, _%_, _≤_, _<_}
+use Prim.Native.Nat.{ℕ, _+_, _*_, _%_, _≤_, _<_}
 use native.Mathlib.Decide.{ℕ-discrete, decLt}
-use native.Mathlib.Numerals.{add-one}
 use native.Mathlib.Omega.{arith}
 use lib.Dec.{ltb, eqb}
-use lib.ListN.{length, getD, take, drop, take-append-drop, length-append, List·getD-append, List·getD-eq-default}
-use lib.Seq.{drop-cons, take-at, getD-at, length-take-le, getD-take}
+use lib.ListN.{length, getD, take, drop, take-append-drop, List·getD-append, List·getD-eq-default}
+use lib.Seq.{take-at, getD-at, length-take-le, getD-take}
 use borrow.Author.Tests.{eq-eqb, ne-eqb, eqb-true, eqb-false, not-true}
-use Rattle.lists.specs.Tests.{either, and-left, and-right, and-true, not-both}
+use Rattle.lists.specs.Tests.{either, and-left, and-right, not-both}
 use Rattle.lists.specs.Rests.{rest-one}
-use Rattle.frames.specs.Frame.{LF, digitValue, byteOf, byteAt, allDigits, bytesOf, sumOf, lineFront}
+use Rattle.frames.specs.Frame.{LF, digitValue, allDigits, bytesOf, sumOf, lineFront}
 use Rattle.frames.specs.FrameLaws.{digit-no-feed, bytes-at}
 use Rattle.frames.specs.Kinds.{frameBytes, kindFront, fileFront}
-use Rattle.files.specs.File.{Line, prepend, linesOf, kindOf, whole, faultyLine}
+use Rattle.files.specs.File.{Line, prepend, linesOf, whole, faultyLine}
 
 -- ---- the first line
 
@@ -139,13 +138,13 @@ feed-short s n e = go (decLt n (length s))
     go (no h) = let past : getD s n 0 ≡ 0 = List·getD-eq-default s 0 (omega arith) in absurd (omega arith)
 
 -- characters that begin with a file's frame: where its line ends
-pub record Front (s : List ℕ) : Type 0 where
+pub record Begins (s : List ℕ) : Type 0 where
   pub short : 2 * frameBytes (kindFront s) < length s
   pub split : s ≡ take (2 * frameBytes (kindFront s)) s ++ LF ∷ drop (2 * frameBytes (kindFront s) + 1) s
   pub body : Whole (take (2 * frameBytes (kindFront s)) s) (frameBytes (kindFront s))
   pub kind : getD (bytesOf (take (2 * frameBytes (kindFront s)) s)) 0 0 ≡ kindFront s
 
-pub front-says : (s : List ℕ) → fileFront s ≡ true → Front s
+pub front-says : (s : List ℕ) → fileFront s ≡ true → Begins s
 unfolding fileFront lineFront
 front-says s h =
     let k = frameBytes (kindFront s) in

@@ -1,17 +1,17 @@
 -- The order of the frames, along characters without a faulty line.
 use mathlib.Core.Path.{_≡_, refl, sym, ap, _∙_}
-use mathlib.Core.Bool.{Bool, true, false, cond, not, _&&_, false≢true}
+use mathlib.Core.Bool.{false}
 use mathlib.Core.List.{List, [], _∷_}
-use Prim.Native.Nat.{ℕ, zero, suc, _+_, _*_, _-_, _≤_, _<_}
+use Prim.Native.Nat.{ℕ, suc, _+_, _*_, _-_, _≤_, _<_}
 use native.Mathlib.Decide.{ℕ-discrete}
 use native.Mathlib.Omega.{arith}
 use lib.Dec.{eqb}
 use lib.ListN.{length, getD, take, drop, length-drop}
 use lib.Seq.{getD-drop, getD-take, length-take-le}
 use borrow.Author.Tests.{eq-eqb, ne-eqb}
-use Rattle.frames.specs.Frame.{byteOf, byteAt, wordAt, wordOf, bytesOf}
-use Rattle.frames.specs.FrameLaws.{bytes-at, byteAt-past}
-use Rattle.frames.specs.Kinds.{UNITS, LINK, END, frameBytes, kindFront, fileFront}
+use Rattle.frames.specs.Frame.{byteAt, wordAt, bytesOf}
+use Rattle.frames.specs.FrameLaws.{bytes-at}
+use Rattle.frames.specs.Kinds.{UNITS, LINK, END, frameBytes, kindFront}
 use Rattle.files.specs.File.{Line, linesOf, kindOf, numberAt, faultyLine, inOrderAfter, inOrder}
 use Rattle.files.specs.LineLaws.{none-lines, no-lines, front-lines, front-says, faulty-later, sound-front, frontLine, pastLine}
 

@@ -1,5 +1,5 @@
 -- Lines from a place on, as a loop along the characters meets them.
-use mathlib.Core.Path.{_≡_, refl, sym, ap, _∙_}
+use mathlib.Core.Path.{_≡_, sym, ap, _∙_}
 use mathlib.Core.Bool.{true, false}
 use mathlib.Core.List.{List, [], _∷_}
 use Prim.Native.Nat.{ℕ, _+_, _*_, _-_, _≤_, _<_}
@@ -12,7 +12,6 @@ use Rattle.lists.specs.Lent.{lent, lent-rest}
 use Rattle.frames.specs.Frame.{byteAt}
 use Rattle.frames.specs.Kinds.{UNITS, LINK, END, frameBytes, kindFront, fileFront, frontOf}
 use Rattle.frames.specs.FrontLaws.{front-is-frame, front-is-refused}
-use Rattle.frames.specs.declared.front.Front.{Front}
 use Rattle.frames.specs.declared.front.Front.the-variants.{Frame, Refused}
 use Rattle.files.specs.File.{linesOf, faultyLine, inOrderAfter}
 use Rattle.files.specs.LineLaws.{front-says, faulty-here, faulty-later, faulty-none, pastLine}

@@ -1,22 +1,23 @@
 -- Reading: the reply by its tests, and what an accepted file holds.
-use mathlib.Core.Path.{_≡_, refl, sym, ap, ap₂, _∙_}
-use mathlib.Core.Bool.{Bool, true, false, cond, not}
-use mathlib.Core.List.{List, [], _∷_, _++_, append-assoc}
+use mathlib.Core.Path.{_≡_, refl, ap, _∙_}
+use mathlib.Core.Bool.{true, false, cond, not}
+use mathlib.Core.List.{List, [], _∷_, _++_}
 use Prim.Native.Nat.{ℕ, zero, suc, _+_, _*_, _-_, _/_, _≤_, _<_}
 use native.Mathlib.Numerals.{add-one}
+use native.Mathlib.Decide.{ℕ-discrete}
 use native.Mathlib.Omega.{arith}
 use lib.Dec.{eqb, ltb}
-use lib.ListN.{length, drop, set, length-append}
-use borrow.Author.Tests.{eq-eqb, ne-eqb, eqb-true, eqb-false, lt-ltb, le-ltb, ltb-false, not-false}
+use lib.ListN.{length, drop, set}
+use borrow.Author.Tests.{eq-eqb, ne-eqb, eqb-true, lt-ltb, le-ltb, ltb-false, not-false}
 use Rattle.lists.specs.Puts.{put-two}
 use Rattle.table.specs.RefusalLaws.{passed-test}
 use Rattle.table.specs.Table.{maxLinks}
 use Rattle.frames.specs.Frame.{wordAt}
-use Rattle.files.specs.File.{Line, linesOf, faultyLine, inOrder, linkFrames, statedCount, unitsIn, endsIn, readRefusal, readReply, readWords}
+use Rattle.files.specs.File.{Line, linesOf, faultyLine, inOrder, linkFrames, statedCount, unitsIn, endsIn, readRefusal, readReply, readingNumber, readWords, endsFrom}
 use Rattle.files.specs.declared.Reading.{Reading}
 use Rattle.files.specs.declared.Reading.the-variants.{Read}
 use Rattle.files.specs.OrderLaws.{wordAt-drop}
-use Rattle.files.specs.ShapeLaws.{Accepted, file-shape, endsFrom}
+use Rattle.files.specs.ShapeLaws.{Accepted, file-shape}
 
 -- ---- the reply, by the tests passed and the one that holds
 
@@ -137,3 +138,15 @@ words-accepted s words e =
     let m = linkFrames (linesOf s) in
     let long : length (endsIn (linesOf s)) ≡ 2 * m = ap length (a .ends) ∙ length-ends m (drop 9 s) in
     rw (e, links-of s a, long, a .ends)
+
+-- the reply carries document 01's number
+read-number-of : (k n m : ℕ) → readingNumber (cond (eqb k 0) (Read n m) (Reading.Refused k)) ≡ k
+read-number-of k n m = go (ℕ-discrete k 0)
+  where
+    go : Dec (k ≡ 0) → readingNumber (cond (eqb k 0) (Read n m) (Reading.Refused k)) ≡ k
+    go (yes e) = rw e
+    go (no z) = rw (ne-eqb k 0 z)
+
+pub read-number : (s : List ℕ) (places : ℕ) → readingNumber (readReply s places) ≡ readRefusal (linesOf s) places
+unfolding readReply
+read-number s places = read-number-of (readRefusal (linesOf s) places) (unitsIn (linesOf s)) (linkFrames (linesOf s))

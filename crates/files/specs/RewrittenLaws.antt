@@ -1,23 +1,23 @@
 -- What was read is written back: the file made of what an accepted file holds is that file.
 use mathlib.Core.Path.{_≡_, refl, sym, ap, ap₂, subst, _∙_}
-use mathlib.Core.Bool.{true, false, _&&_, false≢true}
+use mathlib.Core.Bool.{true, false, false≢true}
 use mathlib.Core.List.{List, [], _∷_, _++_, append-assoc, append-nil}
-use Prim.Native.Nat.{ℕ, zero, suc, _+_, _*_, _-_, _/_, _%_, _≤_, _<_}
+use Prim.Native.Nat.{ℕ, _+_, _*_, _/_, _%_, _<_}
 use native.Mathlib.Omega.{arith}
 use lib.Dec.{eqb}
-use lib.ListN.{length, getD, take, drop, length-drop}
+use lib.ListN.{length, getD, drop}
 use lib.Seq.{append-snoc}
 use borrow.Author.Tests.{eqb-true}
 use Rattle.lists.specs.Tests.{and-left, and-right}
 use Rattle.lists.specs.Listed.{listed-as}
 use Rattle.table.specs.Table.{linkCount}
 use Rattle.frames.specs.Frame.{LF, wordBytes, wordOf, hexesOf, checkByte, lineOf, bytesOf, sumOf}
-use Rattle.frames.specs.FrameLaws.{Bytes, line-hexes, hexes-bytes, length-bytes, bytes-below, check-unique, sum-check}
+use Rattle.frames.specs.FrameLaws.{line-hexes, hexes-bytes, length-bytes, bytes-below, check-unique, sum-check}
 use Rattle.frames.specs.Kinds.{UNITS, LINK, END, frameBytes, kindFront}
 use Rattle.files.specs.File.{Line, linesOf, kindOf, numberAt, faultyLine, inOrderAfter, inOrder, linkFrames, statedCount, unitsIn, endsIn, linkLines, fileOf, readRefusal}
-use Rattle.files.specs.LineLaws.{Whole, Front, front-says, sound-front, frontLine, pastLine, no-lines}
-use Rattle.files.specs.OrderLaws.{sound-later, sound-kind}
-use Rattle.files.specs.ShapeLaws.{Accepted, some, head-line, later-lines, head-kind, ends-link, ends-units, stated-later, stated-after, units-first, first-units, no-order, frames-units}
+use Rattle.files.specs.LineLaws.{Whole, Begins, front-says, sound-front, frontLine, pastLine, no-lines}
+use Rattle.files.specs.OrderLaws.{sound-later}
+use Rattle.files.specs.ShapeLaws.{Accepted, some, head-line, later-lines, head-kind, ends-link, ends-units, stated-later, stated-after, units-first, first-units, no-order}
 use Rattle.files.specs.ReadLaws.{Sound, accepted-sound, accepted-file, length-ends}
 
 -- ---- one line
@@ -70,7 +70,7 @@ link-back p w =
 -- ---- the first line of sound characters
 
 module _ (s : List ℕ) (l : Line) (ls : List Line) (e : linesOf s ≡ l ∷ ls) (sound : faultyLine (linesOf s) ≡ false) where
-  front : Front s
+  front : Begins s
   front = front-says s (sound-front s sound (some s l ls e sound))
 
   first-split : s ≡ (frontLine s .0 ++ LF ∷ []) ++ pastLine s

@@ -1,5 +1,5 @@
 -- The two round trips as calls: a table written and read back, and a file read and written back. What comes back is what was given.
-use mathlib.Core.Bool.{Bool, cond, _||_}
+use mathlib.Core.Bool.{cond, _||_}
 use mathlib.Core.List.{List, [], _∷_, _++_}
 use Prim.Native.Nat.{ℕ}
 use lib.Dec.{eqb, ltb}

@@ -1,28 +1,21 @@
 -- The shape of an accepted file: nine characters of unit count, thirteen a link, nine of the number of links. So each number stands at a
 -- place that the file's length gives.
-use mathlib.Core.Path.{_≡_, refl, sym, ap, ap₂, _∙_}
-use mathlib.Core.Bool.{Bool, true, false, cond, _&&_, _||_, false≢true}
-use mathlib.Core.List.{List, [], _∷_, _++_}
-use Prim.Native.Nat.{ℕ, zero, suc, _+_, _*_, _-_, _≤_, _<_}
-use native.Mathlib.Nat.{suc-add, zero-add}
-use native.Mathlib.Numerals.{add-one, one-add}
+use mathlib.Core.Path.{_≡_, refl, sym, ap, _∙_}
+use mathlib.Core.Bool.{true, false, false≢true}
+use mathlib.Core.List.{List, [], _∷_}
+use Prim.Native.Nat.{ℕ, suc, _+_, _*_, _-_, _<_}
+use native.Mathlib.Nat.{zero-add}
+use native.Mathlib.Numerals.{one-add}
 use native.Mathlib.Omega.{arith}
 use lib.Dec.{eqb}
-use lib.ListN.{length, getD, take, drop, length-drop}
-use lib.Seq.{drop-drop}
-use borrow.Author.Tests.{eqb-true, eq-eqb, ne-eqb}
+use lib.ListN.{length, drop, length-drop}
+use borrow.Author.Tests.{eqb-true}
 use Rattle.lists.specs.Tests.{and-left, and-right}
-use Rattle.lists.specs.Bools.{or-false-right}
 use Rattle.frames.specs.Frame.{wordAt}
 use Rattle.frames.specs.Kinds.{UNITS, LINK, END, frameBytes, kindFront}
-use Rattle.files.specs.File.{Line, linesOf, kindOf, numberAt, whole, faultyLine, inOrderAfter, inOrder, linkFrames, statedCount, unitsIn, endsIn}
+use Rattle.files.specs.File.{Line, linesOf, kindOf, numberAt, faultyLine, inOrderAfter, inOrder, linkFrames, statedCount, unitsIn, endsIn, endsFrom}
 use Rattle.files.specs.LineLaws.{some-lines, no-lines, frontLine, pastLine}
 use Rattle.files.specs.OrderLaws.{wordAt-drop, sound-lines, sound-later, sound-short, sound-kind, sound-number}
-
--- the ends in m lines of links, thirteen characters each
-unfoldable pub endsFrom : ℕ → List ℕ → List ℕ
-endsFrom zero s = []
-endsFrom (suc m) s = wordAt s 2 ∷ wordAt s 6 ∷ endsFrom m (drop 13 s)
 
 -- ---- past the unit count
 

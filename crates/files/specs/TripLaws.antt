@@ -1,23 +1,21 @@
 -- The round trips call by call: what the first call replies, and what the second then finds.
-use mathlib.Core.Path.{_≡_, refl, sym, ap, ap₂, _∙_}
+use mathlib.Core.Path.{_≡_, refl, sym, ap, _∙_}
 use mathlib.Core.Bool.{Bool, true, false, cond, _||_}
-use mathlib.Core.List.{List, [], _∷_, _++_}
-use Prim.Native.Nat.{ℕ, _+_, _*_, _≤_, _<_}
+use mathlib.Core.List.{List, [], _∷_}
+use Prim.Native.Nat.{ℕ, _*_, _≤_, _<_}
 use native.Mathlib.Decide.{ℕ-discrete, decLt}
 use native.Mathlib.Omega.{arith}
 use lib.Dec.{eqb, ltb}
-use lib.ListN.{length, take, drop, length-append, length-drop}
+use lib.ListN.{length, take, drop}
 use lib.Seq.{take-at}
-use borrow.Author.Tests.{eqb-true, eqb-false, eq-eqb, ne-eqb, lt-ltb, le-ltb, ltb-false}
-use Rattle.lists.specs.Bools.{or-all}
-use Rattle.table.specs.Refusals.{firstOf}
+use borrow.Author.Tests.{eqb-true, eqb-false, ne-eqb, lt-ltb, le-ltb}
 use Rattle.table.specs.RefusalLaws.{first-some, first-none}
 use Rattle.table.specs.Table.{linkCount, tableTests, tableRefusal}
 use Rattle.files.specs.File.{linesOf, unitsIn, endsIn, linkFrames, fileOf, fileLength, readRefusal, readReply, readWords, writeRefusal, writeReply, writtenFile}
 use Rattle.files.specs.RoundTrip.{copyRefusal, copyReply, copiedWords, rewriteRefusal, rewriteReply, rewrittenFile}
 use Rattle.files.specs.ReadLaws.{accepted-file, length-ends, accepted-sound}
 use Rattle.files.specs.WriteLaws.{write-table, write-14, write-0, length-file, written-table, written-fits}
-use Rattle.files.specs.WrittenLaws.{ReadBack, written-read}
+use Rattle.files.specs.WrittenLaws.{written-read}
 use Rattle.files.specs.RewrittenLaws.{read-written}
 use Rattle.files.specs.declared.Reading.{Reading}
 use Rattle.files.specs.declared.Reading.the-variants.{Read}

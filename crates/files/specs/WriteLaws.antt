@@ -1,25 +1,24 @@
 -- Writing: the reply by its tests, and the lines of the links laid down one after the other.
 use mathlib.Core.Path.{_≡_, refl, sym, ap, _∙_}
-use mathlib.Core.Bool.{Bool, true, false, cond}
+use mathlib.Core.Bool.{cond}
 use mathlib.Core.List.{List, [], _∷_, _++_, append-assoc, append-nil}
-use Prim.Native.Nat.{ℕ, zero, suc, _+_, _*_, _-_, _/_, _%_, _≤_, _<_}
-use native.Mathlib.Numerals.{add-one}
+use Prim.Native.Nat.{ℕ, zero, suc, _+_, _*_, _/_, _≤_, _<_}
 use native.Mathlib.Decide.{ℕ-discrete, decLt}
 use native.Mathlib.Omega.{arith}
 use lib.Dec.{eqb, ltb}
-use lib.ListN.{length, take, drop, length-append, length-drop}
-use borrow.Author.Tests.{eq-eqb, ne-eqb, lt-ltb, le-ltb, ltb-false}
+use lib.ListN.{length, take, drop, length-append}
+use borrow.Author.Tests.{ne-eqb, lt-ltb, le-ltb}
 use lib.Seq.{length-take-le}
 use Rattle.lists.specs.Lent.{lent, back, back-next}
 use Rattle.table.specs.Refusals.{firstOf}
 use Rattle.table.specs.RefusalLaws.{first-some, first-none}
 use Rattle.table.specs.Table.{linkCount, endA, endB, tableTests, tableRefusal}
 use Rattle.table.specs.TableLaws.{endA-later, endB-later}
-use Rattle.frames.specs.Frame.{wordBytes, lineOf, lineOver, lineLength}
+use Rattle.frames.specs.Frame.{wordBytes, lineOf, lineOver}
 use Rattle.frames.specs.FrameLaws.{length-line}
 use Rattle.frames.specs.FrameRests.{lineOver-fits, line-next}
 use Rattle.frames.specs.Kinds.{UNITS, LINK, END}
-use Rattle.files.specs.File.{linkLines, fileOf, fileLength, writeRefusal, writeReply, writtenFile}
+use Rattle.files.specs.File.{linkLines, fileOf, fileLength, writeRefusal, writeReply, writingNumber, writtenFile}
 use Rattle.files.specs.declared.Writing.{Writing}
 use Rattle.files.specs.declared.Writing.the-variants.{Written}
 
@@ -170,3 +169,15 @@ pub bytes-accepted : (n : ℕ) (t out : List ℕ) → writeRefusal n t (length o
     → fileOf n t ++ drop (fileLength (linkCount t)) out ≡ writtenFile n t out
 unfolding writtenFile
 bytes-accepted n t out e = rw (e, length-file n t)
+
+-- the reply carries document 01's number
+write-number-of : (k m : ℕ) → writingNumber (cond (eqb k 0) (Written m) (Writing.Refused k)) ≡ k
+write-number-of k m = go (ℕ-discrete k 0)
+  where
+    go : Dec (k ≡ 0) → writingNumber (cond (eqb k 0) (Written m) (Writing.Refused k)) ≡ k
+    go (yes e) = rw e
+    go (no z) = rw (ne-eqb k 0 z)
+
+pub write-number : (n : ℕ) (t : List ℕ) (places : ℕ) → writingNumber (writeReply n t places) ≡ writeRefusal n t places
+unfolding writeReply
+write-number n t places = write-number-of (writeRefusal n t places) (fileLength (linkCount t))

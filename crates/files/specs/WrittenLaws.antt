@@ -1,21 +1,19 @@
 -- What is written is read back: the lines of a file that was written, and what is read from them.
-use mathlib.Core.Path.{_≡_, refl, sym, ap, ap₂, _∙_}
-use mathlib.Core.Bool.{Bool, true, false, cond, not, _&&_, _||_}
+use mathlib.Core.Path.{_≡_, refl, sym, ap, _∙_}
+use mathlib.Core.Bool.{true, false}
 use mathlib.Core.List.{List, [], _∷_, _++_, append-assoc, append-nil}
-use Prim.Native.Nat.{ℕ, zero, suc, _+_, _*_, _-_, _/_, _%_, _≤_, _<_}
-use native.Mathlib.Nat.{zero-add}
+use Prim.Native.Nat.{ℕ, zero, suc, _+_, _*_, _/_, _%_, _≤_, _<_}
+use native.Mathlib.Decide.{decLt}
 use native.Mathlib.Omega.{arith}
-use lib.Dec.{leb, eqb, ltb}
-use lib.ListN.{length, getD, length-append}
-use borrow.Author.Tests.{eq-eqb, leb-false}
-use Rattle.lists.specs.Bools.{or-false-left, or-false-right}
-use Rattle.table.specs.Table.{linkCount, maxLinks, endMissing, tableRefusal}
-use Rattle.table.specs.TableLaws.{Passed, passed-checks, endMissing-more}
-use Rattle.frames.specs.Frame.{LF, wordBytes, wordOf, hexesOf, checkByte, lineOf, bytesOf, allDigits, sumOf}
+use lib.ListN.{length, getD, length-append, List·getD-eq-default}
+use borrow.Author.Tests.{eq-eqb}
+use Rattle.table.specs.Table.{linkCount, tableRefusal}
+use Rattle.table.specs.Passes.{Passes, passes}
+use Rattle.frames.specs.Frame.{LF, wordBytes, hexesOf, checkByte, lineOf, bytesOf}
 use Rattle.frames.specs.FrameLaws.{Bytes, line-hexes, hexes-digits, bytes-hexes, length-hexes, check-below, check-sum}
 use Rattle.frames.specs.Kinds.{UNITS, LINK, END, frameBytes}
 use Rattle.files.specs.File.{Line, linesOf, kindOf, numberAt, whole, faultyLine, inOrderAfter, inOrder, linkFrames, statedCount, unitsIn, endsIn, linkLines, fileOf, readRefusal}
-use Rattle.files.specs.LineLaws.{lines-more, Whole, says-whole}
+use Rattle.files.specs.LineLaws.{lines-more, says-whole}
 use Rattle.files.specs.OrderLaws.{after-link}
 use Rattle.files.specs.ShapeLaws.{frames-link, ends-link, frames-units, ends-units}
 use Rattle.files.specs.ReadLaws.{accepted, refused-14}
@@ -202,11 +200,12 @@ module _ (e : Line) (isEnd : kindOf e ≡ END) (isWhole : whole e ≡ true) wher
 -- ---- the whole file
 
 -- the words of a table that passes are numbers of two bytes
-words-small : (n : ℕ) (t : List ℕ) → n ≤ 65536 → endMissing n t ≡ false → (i : ℕ) → getD t i 0 < 65536
-unfolding endMissing
-words-small n [] l h i = omega arith
-words-small n (x ∷ t) l h zero = omega (arith, leb-false n x (or-false-left (leb n x) (endMissing n t) h))
-words-small n (x ∷ t) l h (suc i) = words-small n t l (or-false-right (leb n x) (endMissing n t) h) i
+words-small : (n : ℕ) (t : List ℕ) → Passes n t → (i : ℕ) → getD t i 0 < 65536
+words-small n t p i = go (decLt i (length t))
+  where
+    go : Dec (i < length t) → getD t i 0 < 65536
+    go (yes h) = omega (arith, p .endsExist i h, p .fewUnits)
+    go (no h) = let past : getD t i 0 ≡ 0 = List·getD-eq-default t 0 (omega arith) in omega arith
 
 file-faults : (u : Line) (ls : List Line) → whole u ≡ true → faultyLine ls ≡ false → faultyLine (u ∷ ls) ≡ false
 unfolding faultyLine
@@ -231,10 +230,10 @@ pub record ReadBack (n : ℕ) (t : List ℕ) : Type 0 where
 -- every table that passes the checks is read back from its file
 pub written-read : (n : ℕ) (t : List ℕ) → tableRefusal n t ≡ 0 → ReadBack n t
 written-read n t h =
-    let p = passed-checks n t h in
+    let p = passes n t h in
     let m = linkCount t in
-    let few : m ≤ 1024 = p .few in
-    let some : n ≤ 256 = p .units in
+    let few : m ≤ 1024 = p .fewLinks in
+    let some : n ≤ 256 = p .fewUnits in
     let u = numberLine UNITS n in
     let e = numberLine END m in
     let ls = linkFramesOf t ++ e ∷ [] in
@@ -248,12 +247,12 @@ written-read n t h =
     let order = file-order u ls k (tail-order e end endWhole t) in
     record {
       unrefused = λ (places : ℕ) (fits : length t ≤ places).
-          rw (file-lines n t) (sym (accepted (u ∷ ls) places faults order (stated ∙ sym count) (omega arith) (omega (arith, p .even))));
+          rw (file-lines n t) (sym (accepted (u ∷ ls) places faults order (stated ∙ sym count) (omega arith) (omega (arith, p .pairs))));
       short = λ (places : ℕ) (h : places < length t).
-          rw (file-lines n t) (sym (refused-14 (u ∷ ls) places faults order (stated ∙ sym count) (omega arith) (omega (arith, p .even))));
+          rw (file-lines n t) (sym (refused-14 (u ∷ ls) places faults order (stated ∙ sym count) (omega arith) (omega (arith, p .pairs))));
       units = rw (file-lines n t) (file-units u ls ∙ number-number UNITS n (omega arith) (omega arith));
       links = rw (file-lines n t) count;
       ends =
           rw (file-lines n t)
-          (ends-units u ls k ∙ tail-ends e end endWhole t (words-small n t (omega arith) (p .ends)) (p .even));
+          (ends-units u ls k ∙ tail-ends e end endWhole t (words-small n t p) (p .pairs));
     }

@@ -7,7 +7,7 @@ use frames::front;
 use frames::front::Front;
 
 // Whether some line is not whole.
-pub fn faulty(s: &[u8]) -> bool
+pub(crate) fn faulty(s: &[u8]) -> bool
     ensures { λ r. ⌜ r ≡ faultyLine (linesOf (now (s .entry))) ⌝ }
 {
     let mut at = 0;
@@ -22,20 +22,20 @@ pub fn faulty(s: &[u8]) -> bool
 }
 
 // Whether the frames are, in this order, one 01, any number of 02, one 0F; for characters without a faulty line.
-pub fn in_order(s: &[u8]) -> bool
+pub(crate) fn in_order(s: &[u8]) -> bool
     requires { ⌜ faultyLine (linesOf (now s)) ≡ false ⌝ }
     ensures { λ r. ⌜ r ≡ inOrder (linesOf (now (s .entry))) ⌝ }
 {
-    if digits::byte_at(s, 0) != 1 {
+    if digits::byte_at(s, 0) != front::UNITS {
         return false;
     }
     let mut at = 9;
     while at < s.len() {
         let kind = digits::byte_at(s, at);
-        if kind == 15 {
+        if kind == front::END {
             return s.len() - at == 9;
         }
-        if kind != 2 {
+        if kind != front::LINK {
             return false;
         }
         at += 13;

@@ -8,10 +8,11 @@ ghost use Rattle.frames.specs.Frame.{wordBytes, lineOver};
 ghost use Rattle.frames.specs.Kinds.{LINK};
 ghost use Rattle.files.specs.File.{linkLines, fileOf, fileLength, writeRefusal};
 use frames::digits;
+use frames::front;
 use frames::line;
 
 // The number of the first cause among 4 to 9, 14; 0 where there is none.
-pub fn refusal(units: u16, words: &[u16], places: usize) -> u8
+pub(crate) fn refusal(units: u16, words: &[u16], places: usize) -> u8
     ensures { λ r. ⌜ r ≡ writeRefusal units (now (words .entry)) places ⌝ }
 {
     let refused = table::refusal(units, words);
@@ -37,7 +38,7 @@ fn link_line(a: u16, b: u16, out: &mut [u8])
     ensures { λ _. ⌜ now (out .exit) ≡ lineOver (LINK ∷ wordBytes a ++ wordBytes b) (now (out .entry)) ⌝ }
 {
     let body = [
-        2,
+        front::LINK,
         digits::high_byte(a),
         digits::low_byte(a),
         digits::high_byte(b),
@@ -62,13 +63,13 @@ fn link_lines(words: &[u16], out: &mut [u8])
 }
 
 // The lines of the whole file.
-pub fn lines(units: u16, words: &[u16], out: &mut [u8])
+pub(crate) fn lines(units: u16, words: &[u16], out: &mut [u8])
     requires { ⌜ (linkCount (now words) ≤ 1024) × (fileLength (linkCount (now words)) ≤ length (now out)) ⌝ }
     ensures { λ _. ⌜ now (out .exit) ≡ fileOf units (now (words .entry)) ++ drop (fileLength (linkCount (now (words .entry)))) (now (out .entry)) ⌝ }
 {
     let links = words.len() / 2;
     let end = 9 + 13 * links;
-    number_line(1, units, out);
+    number_line(front::UNITS, units, out);
     link_lines(words, &mut out[9..]);
-    number_line(15, links as u16, &mut out[end..]);
+    number_line(front::END, links as u16, &mut out[end..]);
 }

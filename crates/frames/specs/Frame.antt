@@ -1,6 +1,6 @@
 -- A frame, one a line (document 01): upper-case hexadecimal digits, two a byte, then a line feed. The first byte is the kind; the last makes
 -- the sum of all bytes wrap to 0 in eight bits. Here a frame's body is its bytes without that check byte.
-use mathlib.Core.Bool.{Bool, true, false, cond, _&&_}
+use mathlib.Core.Bool.{Bool, true, cond, _&&_}
 use mathlib.Core.List.{List, [], _∷_, _++_}
 use Prim.Native.Nat.{ℕ, _+_, _*_, _-_, _/_, _%_}
 use lib.Dec.{leb, ltb, eqb}

@@ -1,16 +1,15 @@
 -- Frames there and back: digits and bytes, the check byte, lengths.
-use mathlib.Core.Path.{_≡_, refl, sym, ap, ap₂, _∙_}
-use mathlib.Core.Bool.{Bool, true, false, cond, _&&_, false≢true}
+use mathlib.Core.Path.{_≡_, refl, ap, ap₂}
+use mathlib.Core.Bool.{true, _&&_}
 use mathlib.Core.Logic.{_⊎_, inl, inr, _↔_}
-use mathlib.Core.List.{List, [], _∷_, _++_, append-assoc}
+use mathlib.Core.List.{List, [], _∷_, _++_}
 use Prim.Native.Nat.{ℕ, zero, suc, _+_, _*_, _-_, _/_, _%_, _≤_, _<_}
 use native.Mathlib.Decide.{decLt}
 use native.Mathlib.Omega.{arith}
-use lib.Dec.{leb, ltb, eqb}
-use lib.ListN.{length, getD, drop, take, length-append, List·getD-eq-default}
-use borrow.Author.Tests.{le-leb, lt-leb, leb-true, leb-false, lt-ltb, le-ltb, ltb-true}
-use Rattle.lists.specs.Tests.{and-left, and-right, and-true, either}
-use Rattle.lists.specs.Rests.{rest-two}
+use lib.Dec.{ltb}
+use lib.ListN.{length, getD, length-append, List·getD-eq-default}
+use borrow.Author.Tests.{le-leb, lt-leb, lt-ltb, le-ltb, ltb-true}
+use Rattle.lists.specs.Tests.{and-left, and-right}
 use Rattle.frames.specs.Frame.{LF, digitOf, digitValue, byteOf, byteAt, hexOf, hexesOf, sumOf, checkByte, lineOf, lineLength, allDigits, bytesOf}
 
 -- every number of the list is a byte

@@ -1,13 +1,12 @@
 -- What recognising a line replies, by its tests.
 use mathlib.Core.Path.{_≡_, refl, sym, ap, _∙_}
-use mathlib.Core.Bool.{Bool, true, false, cond, not, _&&_}
+use mathlib.Core.Bool.{Bool, true, false, cond}
 use mathlib.Core.List.{List}
 use Prim.Native.Nat.{ℕ}
 use native.Mathlib.Omega.{arith}
-use lib.Dec.{eqb}
-use borrow.Author.Tests.{eq-eqb, ne-eqb}
+use borrow.Author.Tests.{ne-eqb}
 use Rattle.frames.specs.Frame.{lineFront}
-use Rattle.frames.specs.Kinds.{frameBytes, kindFront, fileFront, frontOf}
+use Rattle.frames.specs.Kinds.{frameBytes, kindFront, fileFront, frontOf, frontNumber}
 use Rattle.frames.specs.declared.front.Front.{Front}
 use Rattle.frames.specs.declared.front.Front.the-variants.{Frame, Refused}
 
@@ -46,3 +45,12 @@ pub front-is-refused : (s : List ℕ) → frontOf s ≡ Refused → fileFront s 
 unfolding frontOf
 front-is-refused s e =
     refused-says (fileFront s) (Frame (kindFront s) (frameBytes (kindFront s))) (λ q. let z : _≡_ {A = ℕ} 0 1 = cc in omega arith) e
+
+number-says : (t : Bool) (kind bytes : ℕ) → frontNumber (cond t (Frame kind bytes) Refused) ≡ cond t 0 1
+number-says true kind bytes = refl
+number-says false kind bytes = refl
+
+-- the number is 1 exactly where the characters begin with no line of a file's frame
+pub front-number : (s : List ℕ) → frontNumber (frontOf s) ≡ cond (fileFront s) 0 1
+unfolding frontOf
+front-number s = number-says (fileFront s) (kindFront s) (frameBytes (kindFront s))

@@ -34,3 +34,8 @@ fileFront s = not (eqb (frameBytes (kindFront s)) 0) && lineFront (frameBytes (k
 -- the frame's kind and number of bytes, or refused: the line has fault 1 of document 01's list
 unfoldable pub frontOf : List ℕ → Front
 frontOf s = cond (fileFront s) (Frame (kindFront s) (frameBytes (kindFront s))) Refused
+
+-- document 01's number of that reply: 0 where the line is not refused
+abbrev pub frontNumber : Front → ℕ
+frontNumber (Frame kind bytes) = 0
+frontNumber Refused = 1

@@ -4,6 +4,14 @@ ghost use Prim.Native.Nat.{_%_};
 ghost use Rattle.frames.specs.Frame.{allDigits, bytesOf, sumOf, lineFront};
 ghost use Rattle.frames.specs.Kinds.{frameBytes, frontOf};
 use crate::digits;
+use crate::line::LF;
+
+// The kinds of a file's frames: the unit count, the two ends of a link, the number of links.
+pub const UNITS: u8 = 0x01;
+
+pub const LINK: u8 = 0x02;
+
+pub const END: u8 = 0x0F;
 
 // What characters begin with: the line of a frame of a file kind, with its bytes (kind and check byte included), or none.
 pub enum Front {
@@ -46,7 +54,7 @@ pub fn is_line(bytes: u8, s: &[u8]) -> bool
     if s.len() <= end {
         return false;
     }
-    if s[end] != 10 {
+    if s[end] != LF {
         return false;
     }
     if !all_digits(&s[..end]) {
@@ -60,9 +68,9 @@ pub fn frame_bytes(kind: u8) -> u8
     ensures { λ r. ⌜ r ≡ frameBytes kind ⌝ }
 {
     match kind {
-        1 => 4,
-        2 => 6,
-        15 => 4,
+        UNITS => 4,
+        LINK => 6,
+        END => 4,
         _ => 0,
     }
 }

@@ -7,6 +7,9 @@ ghost use Rattle.frames.specs.Frame.{digitOf, hexesOf, lineOver};
 use crate::check;
 use crate::digits;
 
+// The line feed that ends a line.
+pub const LF: u8 = 10;
+
 // The two characters of a byte, at `at`.
 fn put_byte(out: &mut [u8], at: usize, b: u8)
     requires { ⌜ at + 2 ≤ length (now out) ⌝ }
@@ -41,5 +44,5 @@ pub fn write(body: &[u8], out: &mut [u8])
     let at = 2 * body.len();
     put_bytes(body, out);
     put_byte(out, at, check::check_byte(body));
-    out[at + 2] = 10;
+    out[at + 2] = LF;
 }

@@ -1,12 +1,10 @@
 -- Each refusal is bound to its cause, and only that: for tests that decide their causes, the reply is number k exactly when cause k holds
 -- and no earlier one does, and some number comes back exactly when some cause holds.
-use mathlib.Core.Path.{_≡_, refl, sym, _∙_}
-use mathlib.Core.Bool.{Bool, true, false, cond, false≢true, true≢false}
+use mathlib.Core.Path.{_≡_, refl, sym}
+use mathlib.Core.Bool.{Bool, true, false, cond, false≢true}
 use mathlib.Core.Logic.{_⊎_, inl, inr, _↔_}
 use mathlib.Core.List.{List, [], _∷_, _++_}
-use Prim.Native.Nat.{ℕ, zero, suc}
-use lib.Dec.{T, eqb, eqb-refl}
-use native.Mathlib.Omega.{arith}
+use Prim.Native.Nat.{ℕ}
 use Rattle.table.specs.Refusals.{firstOf}
 
 -- a number, the test that computes it, the cause in words, and that the test decides the cause

@@ -1,6 +1,6 @@
 -- The table of links (document 01): 16-bit words, two a link, its two ends in either order. A link's position is its number from 0.
 -- Each check is its own definition; their order is the list at the end.
-use mathlib.Core.Bool.{Bool, true, false, cond, _&&_, _||_}
+use mathlib.Core.Bool.{Bool, false, _&&_, _||_}
 use mathlib.Core.List.{List, [], _∷_}
 use Prim.Native.Nat.{ℕ, _+_, _*_, _/_, _%_}
 use lib.Dec.{leb, ltb, eqb}

@@ -1,17 +1,16 @@
 -- The tests of a table from a place on, as a loop along the table meets them.
-use mathlib.Core.Path.{_≡_, refl, _∙_}
-use mathlib.Core.Bool.{Bool, true, false, _||_}
+use mathlib.Core.Path.{_≡_, refl}
+use mathlib.Core.Bool.{true, false}
 use mathlib.Core.Logic.{_⊎_, inl, inr}
 use mathlib.Core.List.{List, [], _∷_}
-use Prim.Native.Nat.{ℕ, zero, suc, _+_, _*_, _%_, _≤_, _<_}
+use Prim.Native.Nat.{ℕ, suc, _+_, _*_, _≤_, _<_}
 use native.Mathlib.Omega.{arith}
-use lib.Dec.{leb, ltb, eqb}
+use lib.Dec.{leb, eqb}
 use lib.ListN.{length, getD, drop, drop-of-length-le, length-drop}
-use borrow.Author.Tests.{le-leb, lt-leb, leb-false, lt-ltb, le-ltb, ltb-false, eq-eqb, ne-eqb, eqb-false}
+use borrow.Author.Tests.{le-leb, lt-leb, leb-false, lt-ltb, le-ltb, eq-eqb, ne-eqb}
 use Rattle.lists.specs.Rests.{rest-one, rest-two}
 use Rattle.lists.specs.Bools.{or-all, or-false-left, or-false-right}
-use Rattle.table.specs.RefusalLaws.{passed-test}
-use Rattle.table.specs.Table.{maxUnits, maxLinks, linkCount, endA, endB, badUnitCount, oddWords, tooManyLinks, endMissing, equalEnds, repeatedLink, tableRefusal}
+use Rattle.table.specs.Table.{maxUnits, endA, endB, badUnitCount, oddWords, tooManyLinks, endMissing, equalEnds, repeatedLink, tableRefusal}
 
 -- ---- a link more at the front
 
@@ -102,35 +101,3 @@ endMissing-more n k [] l e = refl
 endMissing-more n k (x ∷ t) l e =
     let below : x < n = leb-false n x (or-false-left (leb n x) (endMissing n t) e) in
     rw (lt-leb k x (omega arith)) (endMissing-more n k t l (or-false-right (leb n x) (endMissing n t) e))
-
--- ---- a table that passes the checks
-
-pub record Passed (n : ℕ) (t : List ℕ) : Type 0 where
-  pub some : 0 < n
-  pub units : n ≤ maxUnits
-  pub even : length t ≡ 2 * linkCount t
-  pub few : linkCount t ≤ maxLinks
-  pub ends : endMissing n t ≡ false
-  pub different : equalEnds t ≡ false
-  pub once : repeatedLink t ≡ false
-
-pub passed-checks : (n : ℕ) (t : List ℕ) → tableRefusal n t ≡ 0 → Passed n t
-unfolding tableRefusal
-passed-checks n t e =
-    let t4 = passed-test (badUnitCount n) 4 _ (omega arith) e in
-    let t5 = passed-test (oddWords t) 5 _ (omega arith) (t4 .1) in
-    let t6 = passed-test (tooManyLinks t) 6 _ (omega arith) (t5 .1) in
-    let t7 = passed-test (endMissing n t) 7 _ (omega arith) (t6 .1) in
-    let t8 = passed-test (equalEnds t) 8 _ (omega arith) (t7 .1) in
-    let t9 = passed-test (repeatedLink t) 9 _ (omega arith) (t8 .1) in
-    let none : n ≡ 0 → ⊥ = eqb-false n 0 (or-false-left (eqb n 0) (ltb maxUnits n) (t4 .0)) in
-    let odd : length t % 2 ≡ 1 → ⊥ = eqb-false (length t % 2) 1 (t5 .0) in
-    record {
-      some = omega arith;
-      units = ltb-false maxUnits n (or-false-right (eqb n 0) (ltb maxUnits n) (t4 .0));
-      even = omega arith;
-      few = ltb-false maxLinks (linkCount t) (t6 .0);
-      ends = t7 .0;
-      different = t8 .0;
-      once = t9 .0;
-    }

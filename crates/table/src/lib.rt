@@ -5,6 +5,11 @@ ghost use Rattle.table.specs.Table.{endMissing, equalEnds, repeatedLink,
 
 mod marks;
 
+// The limits of a site.
+pub const MAX_UNITS: u16 = 256;
+
+pub const MAX_LINKS: usize = 1024;
+
 // The number of the first check that fails, 0 where the table passes.
 pub fn refusal(units: u16, table: &[u16]) -> u8
     ensures { λ r. ⌜ r ≡ tableRefusal units (now (table .entry)) ⌝ }
@@ -12,13 +17,13 @@ pub fn refusal(units: u16, table: &[u16]) -> u8
     if units == 0 {
         return 4;
     }
-    if 256 < units {
+    if MAX_UNITS < units {
         return 4;
     }
     if table.len() % 2 == 1 {
         return 5;
     }
-    if 1024 < table.len() / 2 {
+    if MAX_LINKS < table.len() / 2 {
         return 6;
     }
     if end_missing(units, table) {

@@ -18,7 +18,7 @@ fn set_mark(marks: &mut [u8], a: u16, b: u16)
 }
 
 // Whether some link is marked when its turn comes; leaves at the first.
-pub fn found(table: &[u16], marks: &mut [u8]) -> bool
+pub(crate) fn found(table: &[u16], marks: &mut [u8]) -> bool
     ensures { λ r. ⌜ r ≡ foundFrom (now (marks .entry)) (now (table .entry)) ⌝ }
 {
     let mut i = 0;

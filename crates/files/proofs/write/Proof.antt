@@ -4,7 +4,7 @@ use Prim.Native.Nat.{_≤_}
 use native.Mathlib.Omega.{arith}
 use lib.ListN.{length}
 use Rattle.table.specs.Table.{linkCount}
-use Rattle.table.specs.TableLaws.{passed-checks}
+use Rattle.table.specs.Passes.{passes}
 use Rattle.files.specs.File.{writeRefusal}
 use Rattle.files.specs.WriteLaws.{write-refused, bytes-refused, written-table, written-fits, write-accepted, bytes-accepted}
 use borrow.Author.Needs.{needs}
@@ -17,7 +17,7 @@ accepted c = sym (c .before .refusal .ensures) ∙ c .if1 .left
 few : (c : tie.Else1) → linkCount (c .before .before .before .before .args .words .now) ≤ 1024
 few c =
     let a = c .before .before .before .before .args in
-    passed-checks (a .units) (a .words .now) (written-table (a .units) (a .words .now) (length (a .out .now)) (accepted c)) .few
+    passes (a .units) (a .words .now) (written-table (a .units) (a .words .now) (length (a .out .now)) (accepted c)) .fewLinks
 
 refusal-requires : tie.Need-refusal-requires
 refusal-requires c κs = search needs

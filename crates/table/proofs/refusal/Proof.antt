@@ -7,7 +7,7 @@ use Prim.Native.Nat.{ℕ, _/_, _%_}
 use lib.ListN.{length}
 use borrow.Author.Needs.{needs}
 use borrow.Author.Tests.{eq-eqb, ne-eqb, lt-ltb, le-ltb}
-use Rattle.table.specs.Table.{maxLinks, badUnitCount, oddWords, tooManyLinks, endMissing, equalEnds, repeatedLink}
+use Rattle.table.specs.Table.{maxLinks, badUnitCount, oddWords, tooManyLinks, endMissing, equalEnds}
 use Rattle.table.specs.TableLaws.{unitCount-bad, unitCount-good, refused-4, refused-5, refused-6, refused-7, refused-8, refused-9, passed, endMissing-more}
 use Rattle.table.proofs.refusal.Statement.{statement}
 use Rattle.table.proofs.refusal.Tie as tie

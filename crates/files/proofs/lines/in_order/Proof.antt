@@ -1,8 +1,7 @@
 -- The order from `at` on is the order of all: each frame passed is a link.
-use mathlib.Core.Path.{_≡_, refl, sym, ap, _∙_}
+use mathlib.Core.Path.{_≡_, sym, _∙_}
 use mathlib.Core.Bool.{false}
 use Prim.Native.Nat.{_≤_, _-_}
-use native.Mathlib.Omega.{arith}
 use lib.ListN.{length, drop}
 use Rattle.files.specs.File.{linesOf, faultyLine, inOrder, inOrderAfter}
 use Rattle.files.specs.OrderLaws.{order-first, order-no-first}

@@ -1,10 +1,10 @@
 -- The ends of the links passed are laid down, and the rest is as it was.
-use mathlib.Core.Path.{_≡_, refl, sym, _∙_}
+use mathlib.Core.Path.{_≡_, refl, _∙_}
 use mathlib.Core.List.{List, _++_}
 use Prim.Native.Nat.{ℕ, _≤_, _-_, _*_}
 use native.Mathlib.Omega.{arith}
 use lib.ListN.{length, drop}
-use Rattle.files.specs.ShapeLaws.{endsFrom}
+use Rattle.files.specs.File.{endsFrom}
 use Rattle.files.specs.ReadLaws.{ends-more}
 use borrow.Author.Needs.{needs}
 use Rattle.files.proofs.reader.fill.Statement.{statement}

@@ -2,7 +2,7 @@
 use mathlib.Core.Path.{_≡_, sym, _∙_}
 use native.Mathlib.Omega.{arith}
 use Rattle.table.specs.Table.{tableRefusal}
-use Rattle.table.specs.TableLaws.{Passed, passed-checks}
+use Rattle.table.specs.Passes.{Passes, passes}
 use Rattle.files.specs.WriteLaws.{write-table, write-14, write-0}
 use borrow.Author.Needs.{needs}
 use Rattle.files.proofs.writer.refusal.Statement.{statement}
@@ -11,8 +11,8 @@ use Rattle.files.proofs.writer.refusal.Tie as tie
 none : (c : tie.Else1) → tableRefusal (c .before .before .before .args .units) (c .before .before .before .args .words .now) ≡ 0
 none c = sym (c .before .refusal .ensures) ∙ c .if1 .left
 
-passed : (c : tie.Else1) → Passed (c .before .before .before .args .units) (c .before .before .before .args .words .now)
-passed c = passed-checks (c .before .before .before .args .units) (c .before .before .before .args .words .now) (none c)
+passed : (c : tie.Else1) → Passes (c .before .before .before .args .units) (c .before .before .before .args .words .now)
+passed c = passes (c .before .before .before .args .units) (c .before .before .before .args .words .now) (none c)
 
 refusal-requires : tie.Need-refusal-requires
 refusal-requires c κs = search needs
@@ -24,10 +24,10 @@ returns c =
     r ∙ write-table (a .units) (a .words .now) (a .places) (λ z. c .if1 .taken (r ∙ z))
 
 mul-if2 : tie.Need-mul-if2
-mul-if2 c = omega (arith, passed c .few)
+mul-if2 c = omega (arith, passed c .fewLinks)
 
 add-if2 : tie.Need-add-if2
-add-if2 c = omega (arith, passed c .few)
+add-if2 c = omega (arith, passed c .fewLinks)
 
 returns-2 : tie.Need-returns-2
 returns-2 c =

@@ -1,8 +1,8 @@
 -- The sum so far, with what the bytes from `i` on add, is the sum of all.
-use mathlib.Core.Path.{_≡_, refl, sym, _∙_}
+use mathlib.Core.Path.{_≡_}
 use Prim.Native.Nat.{_+_, _≤_, _<_, _-_, _%_}
 use native.Mathlib.Omega.{arith}
-use lib.ListN.{length, drop, getD}
+use lib.ListN.{length, drop}
 use Rattle.frames.specs.Frame.{sumOf}
 use Rattle.frames.specs.FrameRests.{sum-later, sum-end}
 use borrow.Author.Needs.{needs}

@@ -1,9 +1,9 @@
 -- The sum so far, with what the digits from `i` on add, is the sum of all.
-use mathlib.Core.Path.{_≡_, refl, sym, _∙_}
+use mathlib.Core.Path.{_≡_}
 use Prim.Native.Nat.{_+_, _≤_, _<_, _-_, _%_}
 use native.Mathlib.Omega.{arith}
-use lib.ListN.{length, drop, getD}
-use Rattle.frames.specs.Frame.{sumOf, bytesOf, byteAt}
+use lib.ListN.{length, drop}
+use Rattle.frames.specs.Frame.{sumOf, bytesOf}
 use Rattle.frames.specs.FrameRests.{digitSum-later, digitSum-end}
 use borrow.Author.Needs.{needs}
 use Rattle.frames.proofs.front.digit_sum.Statement.{statement}
