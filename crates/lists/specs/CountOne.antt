@@ -6,7 +6,7 @@ use Prim.Native.Nat.{ℕ, zero, suc, _+_, _≤_, _<_}
 use native.Mathlib.Decide.{decLt, ℕ-discrete}
 use native.Mathlib.Nat.{le-refl, le-step, not-suc-le-zero}
 use native.Mathlib.Omega.{arith}
-use Rattle.lists.specs.Counts.{count-none, count-positive}
+use Rattle.lists.specs.CountLaws.{count-none, count-positive}
 use Rattle.lists.specs.Folds.{count}
 use Rattle.lists.specs.Tests.{not-both, refuted}
 

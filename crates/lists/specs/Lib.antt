@@ -3,10 +3,10 @@ pub mod Bools
 pub mod Tables
 pub mod Gathered
 pub mod Folds
-pub mod FoldLaws
+pub mod LeastLaws
 pub mod Sums
 pub mod All
-pub mod Counts
+pub mod CountLaws
 pub mod CountOne
 pub mod Agreement
 pub mod Multiples

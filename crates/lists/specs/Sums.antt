@@ -7,7 +7,7 @@ use native.Mathlib.Nat.{le-refl, le-step, not-suc-le-zero}
 use native.Mathlib.Decide.{ℕ-discrete}
 use native.Mathlib.Omega.{arith}
 use Rattle.lists.specs.Folds.{sum, count}
-use Rattle.lists.specs.FoldLaws.{fold-cong}
+use Rattle.lists.specs.LeastLaws.{fold-cong}
 
 pub sum-cong : (n : ℕ) (f g : ℕ → ℕ) → ((i : ℕ) → i < n → f i ≡ g i) → sum n f ≡ sum n g
 sum-cong n f g h = fold-cong _+_ n f g 0 h

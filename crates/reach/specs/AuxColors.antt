@@ -12,7 +12,7 @@ use borrow.Author.Tests.{eqb-true, eqb-false, eq-eqb, ne-eqb, lt-ltb, not-true, 
 use Rattle.lists.specs.Tests.{either, not-exact, and-left, and-right, and-true, cond-true, cond-false}
 use Rattle.lists.specs.Tables.{over, length-over, getD-over, over-over}
 use Rattle.lists.specs.Folds.{least, agree}
-use Rattle.lists.specs.FoldLaws.{least-le, least-start, least-is}
+use Rattle.lists.specs.LeastLaws.{least-le, least-start, least-is}
 use Rattle.lists.specs.Agreement.{agree-at, agree-differ}
 use Rattle.lists.specs.Pigeonhole.{picks, Picked, picks-fewer}
 use Rattle.table.specs.Table.{endA, endB}

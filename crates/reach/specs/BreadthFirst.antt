@@ -12,7 +12,7 @@ use lib.Dec.{eqb, ltb}
 use lib.ListN.{length}
 use borrow.Author.Tests.{eqb-true, eqb-false, eq-eqb, ne-eqb, lt-ltb, le-ltb, not-true, not-false}
 use Rattle.lists.specs.Folds.{some}
-use Rattle.lists.specs.FoldLaws.{some-exact, some-none}
+use Rattle.lists.specs.LeastLaws.{some-exact, some-none}
 use Rattle.lists.specs.Members.{Mem, Distinct}
 use Rattle.lists.specs.Pigeonhole.{Picked, pigeonhole, picks-le}
 use Rattle.lists.specs.Tables.{over, length-over, getD-over}

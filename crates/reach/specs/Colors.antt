@@ -12,7 +12,7 @@ use lib.ListN.{length}
 use borrow.Author.Tests.{eqb-true, eq-eqb, ne-eqb}
 use Rattle.lists.specs.Agreement.{agree-at, agree-differ}
 use Rattle.lists.specs.Folds.{least, agree}
-use Rattle.lists.specs.FoldLaws.{fold-cong, least-start, least-le, least-is}
+use Rattle.lists.specs.LeastLaws.{fold-cong, least-start, least-le, least-is}
 use Rattle.lists.specs.Pigeonhole.{Picked, picks-le}
 use Rattle.lists.specs.Tables.{over, length-over, getD-over}
 use Rattle.lists.specs.Tests.{either}

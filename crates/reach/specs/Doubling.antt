@@ -13,7 +13,7 @@ use lib.Pow.{pow-pos, pow-mono}
 use borrow.Author.Tests.{eqb-true, eq-eqb, ne-eqb, leb-true, le-leb, lt-leb, ltb-true, lt-ltb, le-ltb}
 use Rattle.lists.specs.Folds.{sum as total, count}
 use Rattle.lists.specs.Tests.{and-left, and-right, and-true, not-both}
-use Rattle.lists.specs.Counts.{sum-le, sum-further, count-cong, count-none, count-some, count-positive, count-both}
+use Rattle.lists.specs.CountLaws.{sum-le, sum-further, count-cong, count-none, count-some, count-positive, count-both}
 use Rattle.numbers.specs.Lg.{lg, lgFrom}
 use Rattle.numbers.specs.LgLaws.{lg-reaches, lg-least}
 use Rattle.rules.specs.Basics.{ABSENT, MAX-NUMBER, at, bounded}

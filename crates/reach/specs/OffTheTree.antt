@@ -9,7 +9,7 @@ use native.Mathlib.Omega.{arith}
 use lib.Dec.{eqb}
 use borrow.Author.Tests.{eqb-true, eqb-false, eq-eqb, ne-eqb}
 use Rattle.lists.specs.Tests.{either, and-exact, not-exact}
-use Rattle.lists.specs.FoldLaws.{least-le, least-start, least-is, greatest-ge, greatest-start, greatest-is}
+use Rattle.lists.specs.LeastLaws.{least-le, least-start, least-is, greatest-ge, greatest-start, greatest-is}
 use Rattle.table.specs.Table.{endA, endB}
 use Rattle.rules.specs.Basics.{ABSENT, at, isRoot, offTree, heard}
 use Rattle.rules.specs.Range.{placeHeard, localOf}

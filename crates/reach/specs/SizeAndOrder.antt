@@ -10,11 +10,11 @@ use native.Mathlib.Omega.{arith}
 use lib.Dec.{eqb, ltb}
 use borrow.Author.Tests.{eqb-true, eq-eqb, ne-eqb, ltb-true, lt-ltb, le-ltb}
 use Rattle.lists.specs.Folds.{sum, count}
-use Rattle.lists.specs.FoldLaws.{count-le}
+use Rattle.lists.specs.LeastLaws.{count-le}
 use Rattle.lists.specs.Sums.{sum-cong, sum-zero, sum-add, sum-swap, sum-le, sum-more, sum-one}
 use Rattle.lists.specs.Tests.{either, or-cases, or-left, or-right, and-left, and-right, and-true, cond-true, cond-false, refuted}
 use Rattle.rules.specs.Basics.{at}
-use Rattle.rules.specs.TourLaws.{turned, turned-low, turned-cases, turned-below, turned-one}
+use Rattle.rules.specs.CyclicOrder.{turned, turned-low, turned-cases, turned-below, turned-one}
 use Rattle.graph.specs.Forest.{Anc, self, up}
 use Rattle.graph.specs.Ancestors.{anc-trans, anc-depth, anc-level, anc-order, anc-child, anc?, anc-of, top-anc, root-up}
 use Rattle.reach.specs.Rooted.{Rooted, rootOf}

@@ -14,7 +14,7 @@ use Rattle.lists.specs.Sums.{count-mono, count-less, count-all}
 use Rattle.lists.specs.Tests.{either, and-left, and-right, and-true, or-cases, or-left, or-right, or-exact, cond-true, cond-false, not-both, refuted}
 use Rattle.rules.specs.Basics.{ABSENT, at, isRoot}
 use Rattle.rules.specs.Tour.{arcUnit, isInto, isArc, treeNeighbor, leastNeighbor, neighborAfter, arcFrom, arcAfter, follower, isStart, predecessor}
-use Rattle.rules.specs.TourLaws.{leastPassing, passing-least, passing-found, Next, greater, wrapped, next-onto, after-next, after-is, turned-high, turned-first, turned-next}
+use Rattle.rules.specs.CyclicOrder.{leastPassing, passing-least, passing-found, Next, greater, wrapped, next-onto, after-next, after-is, turned-high, turned-first, turned-next}
 use Rattle.graph.specs.Ancestors.{root-anc}
 use Rattle.reach.specs.Site.{Site}
 use Rattle.reach.specs.Rooted.{Rooted, rootOf}

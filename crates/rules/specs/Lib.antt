@@ -7,12 +7,12 @@ pub mod Components
 pub mod Tree
 pub mod ParentChoice
 pub mod Tour
-pub mod TourLaws
+pub mod CyclicOrder
 pub mod Ranking
 pub mod RankingLaws
 pub mod Order
 pub mod Range
-pub mod RangeLaws
+pub mod RangeEntries
 pub mod ChoiceLaws
 pub mod Aux
 pub mod Labels

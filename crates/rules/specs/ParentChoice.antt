@@ -10,7 +10,7 @@ use native.Mathlib.Omega.{arith}
 use lib.Dec.{eqb}
 use borrow.Author.Tests.{eqb-true, eq-eqb, ne-eqb}
 use Rattle.lists.specs.Folds.{least}
-use Rattle.lists.specs.FoldLaws.{least-le, least-is}
+use Rattle.lists.specs.LeastLaws.{least-le, least-is}
 use Rattle.lists.specs.Tests.{either, and-left, and-right, and-true, not-both}
 use Rattle.table.specs.Table.{endA, endB}
 use Rattle.rules.specs.Basics.{ABSENT, at}

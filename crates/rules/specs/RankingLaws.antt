@@ -7,7 +7,7 @@ use native.Mathlib.Omega.{arith}
 use lib.ListN.{length}
 use borrow.Author.Tests.{eq-eqb, ne-eqb}
 use Rattle.lists.specs.Tables.{length-over, getD-over}
-use Rattle.lists.specs.Counts.{over-same}
+use Rattle.lists.specs.CountLaws.{over-same}
 use Rattle.rules.specs.Basics.{ABSENT, at, bounded}
 use Rattle.rules.specs.Ranking.{asks, sumRound, jumpRound}
 

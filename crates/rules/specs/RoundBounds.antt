@@ -9,7 +9,7 @@ use lib.Dec.{eqb, leb, ltb}
 use borrow.Author.Tests.{eqb-false, eqb-true, eq-eqb}
 use Rattle.lists.specs.All.{All, all-at, all-over, cond-keeps}
 use Rattle.lists.specs.Folds.{fold, least, count}
-use Rattle.lists.specs.FoldLaws.{least-le, count-le}
+use Rattle.lists.specs.LeastLaws.{least-le, count-le}
 use Rattle.lists.specs.Tables.{over}
 use Rattle.lists.specs.Tests.{either, or-left, or-right, cond-true, cond-false}
 use Rattle.table.specs.Table.{endA, endB}

@@ -9,7 +9,7 @@ use native.Mathlib.Decide.{decLt}
 use native.Mathlib.Omega.{arith}
 use lib.ListN.{getD}
 use Rattle.lists.specs.Folds.{sum, count}
-use Rattle.lists.specs.FoldLaws.{fold-cong}
+use Rattle.lists.specs.LeastLaws.{fold-cong}
 use Rattle.lists.specs.Tables.{over}
 use Rattle.lists.specs.Tests.{either}
 

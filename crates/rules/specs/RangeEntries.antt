@@ -9,7 +9,7 @@ use lib.Dec.{eqb}
 use lib.ListN.{length}
 use borrow.Author.Tests.{eqb-true, eqb-false, not-true, not-false, eq-eqb, ne-eqb, lt-ltb, le-ltb, le-leb}
 use Rattle.lists.specs.Folds.{least}
-use Rattle.lists.specs.FoldLaws.{least-le, least-greatest}
+use Rattle.lists.specs.LeastLaws.{least-le, least-greatest}
 use Rattle.lists.specs.Tables.{length-over, getD-over}
 use Rattle.lists.specs.Tests.{either, cond-true, cond-false}
 use Rattle.rules.specs.Basics.{ABSENT, MAX-NUMBER, at, bounded}

@@ -11,7 +11,7 @@ use native.Mathlib.Omega.{arith}
 use lib.Dec.{eqb, ltb}
 use borrow.Author.Tests.{eqb-false, eqb-true, ltb-true, lt-ltb, le-ltb}
 use Rattle.lists.specs.Folds.{least}
-use Rattle.lists.specs.FoldLaws.{least-le, least-is}
+use Rattle.lists.specs.LeastLaws.{least-le, least-is}
 use Rattle.lists.specs.Tests.{either, and-left, and-right, and-true, cond-true, cond-false, not-both}
 use Rattle.rules.specs.Basics.{ABSENT, at}
 use Rattle.rules.specs.Tour.{treeNeighbor, leastNeighbor, greaterNeighbor, neighborAfter}
