@@ -4,3 +4,5 @@ pub mod Tables
 pub mod Folds
 pub mod Rests
 pub mod Text
+pub mod Rounds
+pub mod Counts

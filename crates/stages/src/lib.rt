@@ -1,0 +1,2 @@
+// The ten stages as code: a function for each table that a round leaves, equal to its rule for every input.
+pub mod ranking;

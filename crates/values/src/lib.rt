@@ -1,0 +1,46 @@
+// Small value functions: inside a loop they stand for branches, so that what a turn does is one equation.
+ghost use mathlib.Core.Path.{_≡_};
+ghost use mathlib.Core.Bool.{cond};
+ghost use Prim.Native.Nat.{min, max};
+
+// `x` where the test holds, else `y`.
+pub fn choose(test: bool, x: u16, y: u16) -> u16
+    ensures { λ r. ⌜ r ≡ cond test x y ⌝ }
+{
+    if test { x } else { y }
+}
+
+// The lesser of two.
+pub fn least_of(x: u16, y: u16) -> u16
+    ensures { λ r. ⌜ r ≡ min x y ⌝ }
+{
+    if x < y { x } else { y }
+}
+
+// The greater of two.
+pub fn greatest_of(x: u16, y: u16) -> u16
+    ensures { λ r. ⌜ r ≡ max x y ⌝ }
+{
+    if x < y { y } else { x }
+}
+
+// A number stored: one that would exceed 2,048 is stored as 2,048.
+pub fn bounded(x: u32) -> u16
+    ensures { λ r. ⌜ r ≡ min x 2048 ⌝ }
+{
+    if x < 2048 { x as u16 } else { 2048 }
+}
+
+// A word as an index.
+pub fn index(x: u16) -> usize
+    ensures { λ r. ⌜ r ≡ x ⌝ }
+{
+    x as usize
+}
+
+// 1 where the test holds, else 0: one more to a count.
+pub fn one_if(test: bool) -> usize
+    ensures { λ r. ⌜ r ≡ cond test 1 0 ⌝ }
+{
+    if test { 1 } else { 0 }
+}
