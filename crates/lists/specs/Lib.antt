@@ -6,3 +6,5 @@ pub mod Rests
 pub mod Text
 pub mod Rounds
 pub mod Counts
+pub mod Scatter
+pub mod Agree

@@ -8,3 +8,5 @@ pub mod Order
 pub mod Range
 pub mod Aux
 pub mod Labels
+pub mod HeardLaws
+pub mod ComponentsLaws

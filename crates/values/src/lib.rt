@@ -2,6 +2,9 @@
 ghost use mathlib.Core.Path.{_≡_};
 ghost use mathlib.Core.Bool.{cond};
 ghost use Prim.Native.Nat.{min, max};
+ghost use Rattle.lists.specs.Scatter.{opOf};
+
+pub mod tables;
 
 // `x` where the test holds, else `y`.
 pub fn choose(test: bool, x: u16, y: u16) -> u16
@@ -22,6 +25,17 @@ pub fn greatest_of(x: u16, y: u16) -> u16
     ensures { λ r. ⌜ r ≡ max x y ⌝ }
 {
     if x < y { y } else { x }
+}
+
+// The greater of two, or the lesser.
+pub fn op_of(greatest: bool, x: u16, y: u16) -> u16
+    ensures { λ r. ⌜ r ≡ opOf greatest x y ⌝ }
+{
+    if greatest {
+        greatest_of(x, y)
+    } else {
+        least_of(x, y)
+    }
 }
 
 // A number stored: one that would exceed 2,048 is stored as 2,048.

@@ -1,0 +1,55 @@
+// Reads and stores of tables by a word: units, places and links as they stand in other tables.
+ghost use mathlib.Core.Path.{_≡_};
+ghost use mathlib.Core.Bool.{cond};
+ghost use lib.ListN.{getD, set};
+ghost use Rattle.lists.specs.Scatter.{opOf, takesIn};
+ghost use Rattle.table.specs.Table.{endA, endB};
+ghost use Rattle.rules.specs.HeardLaws.{hears};
+
+// The entry at `i`.
+pub fn at(t: &[u16], i: u16) -> u16
+    ensures { λ r. ⌜ r ≡ getD (now (t .entry)) i 0 ⌝ }
+{
+    slices::word(t, i as usize)
+}
+
+// `x` at `i`.
+pub fn store(t: &mut [u16], i: u16, x: u16)
+    ensures { λ _. ⌜ now (t .exit) ≡ set (now (t .entry)) i x ⌝ }
+{
+    slices::put(t, i as usize, x)
+}
+
+// The first end of link `j`.
+pub fn end_a(ends: &[u16], j: u16) -> u16
+    ensures { λ r. ⌜ r ≡ endA (now (ends .entry)) j ⌝ }
+{
+    slices::word(ends, 2 * (j as usize))
+}
+
+// The second end of link `j`.
+pub fn end_b(ends: &[u16], j: u16) -> u16
+    ensures { λ r. ⌜ r ≡ endB (now (ends .entry)) j ⌝ }
+{
+    slices::word(ends, 2 * (j as usize) + 1)
+}
+
+// The entry at `a`, below `n`, takes in `x`.
+pub fn take_in(greatest: bool, n: u16, t: &mut [u16], a: u16, x: u16)
+    ensures { λ _. ⌜ now (t .exit) ≡ takesIn (opOf greatest) n (now (t .entry)) a x ⌝ }
+{
+    if a < n {
+        let y = super::op_of(greatest, at(t, a), x);
+        store(t, a, y);
+    }
+}
+
+// A link or join of `a` and `b`, if it counts: each end takes in what the other says.
+pub fn hear(counts: bool, greatest: bool, n: u16, said: &[u16], a: u16, b: u16, t: &mut [u16])
+    ensures { λ _. ⌜ now (t .exit) ≡ cond counts (hears greatest n (now (said .entry)) a b (now (t .entry))) (now (t .entry)) ⌝ }
+{
+    if counts {
+        take_in(greatest, n, t, a, at(said, b));
+        take_in(greatest, n, t, b, at(said, a));
+    }
+}
