@@ -8,7 +8,7 @@ use native.Mathlib.Numerals.{add-one}
 use native.Mathlib.Decide.{decLt}
 use native.Mathlib.Omega.{arith}
 use lib.ListN.{length, getD, set}
-use lib.Seq.{ext-getD}
+use lib.Seq.{ext-getD, set-out}
 use Rattle.lists.specs.Tables.{over, set-over, length-over, getD-over, getD-over-past}
 
 module _ {ℓ} {A : Type ℓ} where
@@ -54,3 +54,14 @@ module _ {ℓ} {A : Type ℓ} where
   over-self d zero old = refl
   over-self d (suc n) [] = refl
   over-self d (suc n) (x ∷ old) = ap {B = List A} (λ (l : List A). x ∷ l) (over-self d n old)
+
+  -- a turn of a loop that fills a table in order, right where the table has the entry
+  pub over-more-in : (n : ℕ) (f : ℕ → A) (old t new : List A) (x : A) → t ≡ over n f old → (n < length old → x ≡ f n) → new ≡ set t n x
+      → new ≡ over (n + 1) f old
+  over-more-in n f old t new x was is put = go (decLt n (length old))
+    where
+      go : Dec (n < length old) → new ≡ over (n + 1) f old
+      go (yes l) = over-more n f old t new x was (is l) put
+      go (no h) =
+          rw (put, was, set-out (over n f old) n x (omega (arith, length-over n f old)), add-one)
+          (sym (set-out (over n f old) n (f n) (omega (arith, length-over n f old))) ∙ set-over n f old)

@@ -97,3 +97,39 @@ length-takesIn op n t a x = go (either (ltb a n))
     go : (ltb a n ≡ true) ⊎ (ltb a n ≡ false) → length (cond (ltb a n) (set t a (op (getD t a 0) x)) t) ≡ length t
     go (inl e) = rw e (length-set t a (op (getD t a 0) x))
     go (inr e) = rw e
+
+-- an item with two targets, which take in x and y: the same where they are one target. `rest` is what the others hear, and have taken in already
+module _ (b : Bool) (v z a c x y rest : ℕ) (same : a ≡ c → x ≡ y) (own : opOf b z rest ≡ z) where
+  abbrev once : ℕ
+  once = cond (eqb a v) (opOf b z x) z
+
+  pair-one : Dec (a ≡ v) → Dec (c ≡ v) → cond (eqb c v) (opOf b once y) once ≡ opOf b z (cond (eqb a v) x (cond (eqb c v) y rest))
+  pair-one (yes p) (yes q) = rw (eq-eqb a v p, eq-eqb c v q, ← same (p ∙ sym q)) (op-twice b z x)
+  pair-one (yes p) (no q) = rw (eq-eqb a v p, ne-eqb c v q)
+  pair-one (no p) (yes q) = rw (ne-eqb a v p, eq-eqb c v q)
+  pair-one (no p) (no q) = rw (ne-eqb a v p, ne-eqb c v q) (sym own)
+
+module _ (b : Bool) (n : ℕ) (f rest : ℕ → ℕ) (old : List ℕ) (a c x y : ℕ) where
+  pub pair-over : (a ≡ c → x ≡ y) → ((v : ℕ) → opOf b (f v) (rest v) ≡ f v)
+      → takesIn (opOf b) n (takesIn (opOf b) n (over n f old) a x) c y
+      ≡ over n (λ (v : ℕ). opOf b (f v) (cond (eqb a v) x (cond (eqb c v) y (rest v)))) old
+  pair-over same own =
+      rw (takes-over (opOf b) n f old a x, takes-over (opOf b) n (λ (v : ℕ). cond (eqb a v) (opOf b (f v) x) (f v)) old c y)
+      (over-cong n
+      (λ (v : ℕ). cond (eqb c v) (opOf b (cond (eqb a v) (opOf b (f v) x) (f v)) y) (cond (eqb a v) (opOf b (f v) x) (f v)))
+      (λ (v : ℕ). opOf b (f v) (cond (eqb a v) x (cond (eqb c v) y (rest v)))) old
+      (λ (v : ℕ) (l : v < n). pair-one b v (f v) a c x y (rest v) same (own v) (ℕ-discrete a v) (ℕ-discrete c v)))
+
+-- an item with one target
+module _ (b : Bool) (n : ℕ) (f rest : ℕ → ℕ) (old : List ℕ) (a x : ℕ) where
+  single-one : (v : ℕ) → opOf b (f v) (rest v) ≡ f v → Dec (a ≡ v)
+      → cond (eqb a v) (opOf b (f v) x) (f v) ≡ opOf b (f v) (cond (eqb a v) x (rest v))
+  single-one v own (yes p) = rw (eq-eqb a v p)
+  single-one v own (no p) = rw (ne-eqb a v p) (sym own)
+
+  pub single-over : ((v : ℕ) → opOf b (f v) (rest v) ≡ f v)
+      → takesIn (opOf b) n (over n f old) a x ≡ over n (λ (v : ℕ). opOf b (f v) (cond (eqb a v) x (rest v))) old
+  single-over own =
+      takes-over (opOf b) n f old a x
+      ∙ over-cong n (λ (v : ℕ). cond (eqb a v) (opOf b (f v) x) (f v)) (λ (v : ℕ). opOf b (f v) (cond (eqb a v) x (rest v))) old
+      (λ (v : ℕ) (l : v < n). single-one v (own v) (ℕ-discrete a v))

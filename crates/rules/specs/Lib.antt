@@ -10,3 +10,4 @@ pub mod Aux
 pub mod Labels
 pub mod HeardLaws
 pub mod ComponentsLaws
+pub mod TreeLaws

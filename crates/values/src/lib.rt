@@ -1,7 +1,7 @@
 // Small value functions: inside a loop they stand for branches, so that what a turn does is one equation.
 ghost use mathlib.Core.Path.{_≡_};
-ghost use mathlib.Core.Bool.{cond};
-ghost use Prim.Native.Nat.{min, max};
+ghost use mathlib.Core.Bool.{cond, _&&_, _||_};
+ghost use Prim.Native.Nat.{_-_, min, max};
 ghost use Rattle.lists.specs.Scatter.{opOf};
 
 pub mod tables;
@@ -11,6 +11,34 @@ pub fn choose(test: bool, x: u16, y: u16) -> u16
     ensures { λ r. ⌜ r ≡ cond test x y ⌝ }
 {
     if test { x } else { y }
+}
+
+// The same of tests.
+pub fn pick(test: bool, x: bool, y: bool) -> bool
+    ensures { λ r. ⌜ r ≡ cond test x y ⌝ }
+{
+    if test { x } else { y }
+}
+
+// Both tests hold.
+pub fn both(x: bool, y: bool) -> bool
+    ensures { λ r. ⌜ r ≡ (x && y) ⌝ }
+{
+    if x { y } else { false }
+}
+
+// One of the tests holds.
+pub fn either(x: bool, y: bool) -> bool
+    ensures { λ r. ⌜ r ≡ (x || y) ⌝ }
+{
+    if x { true } else { y }
+}
+
+// The difference, 0 where it would be negative.
+pub fn less(x: u16, y: u16) -> u16
+    ensures { λ r. ⌜ r ≡ x - y ⌝ }
+{
+    if x < y { 0 } else { x - y }
 }
 
 // The lesser of two.

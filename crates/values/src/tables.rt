@@ -1,6 +1,7 @@
 // Reads and stores of tables by a word: units, places and links as they stand in other tables.
 ghost use mathlib.Core.Path.{_≡_};
 ghost use mathlib.Core.Bool.{cond};
+ghost use Prim.Native.Nat.{ℕ, _<_};
 ghost use lib.ListN.{getD, set};
 ghost use Rattle.lists.specs.Scatter.{opOf, takesIn};
 ghost use Rattle.table.specs.Table.{endA, endB};
@@ -32,6 +33,20 @@ pub fn end_b(ends: &[u16], j: u16) -> u16
     ensures { λ r. ⌜ r ≡ endB (now (ends .entry)) j ⌝ }
 {
     slices::word(ends, 2 * (j as usize) + 1)
+}
+
+// A table of absent marks, for a least value by unit or place.
+pub fn blank() -> [u16; 256]
+    ensures { λ r. ⌜ ((i : ℕ) → i < 256 → getD r i 0 ≡ 65535) ⌝ }
+{
+    [65535; 256]
+}
+
+// The same by arc.
+pub fn blank_arcs() -> [u16; 512]
+    ensures { λ r. ⌜ ((i : ℕ) → i < 512 → getD r i 0 ≡ 65535) ⌝ }
+{
+    [65535; 512]
 }
 
 // The entry at `a`, below `n`, takes in `x`.
