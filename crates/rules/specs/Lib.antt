@@ -11,3 +11,5 @@ pub mod Labels
 pub mod HeardLaws
 pub mod ComponentsLaws
 pub mod TreeLaws
+pub mod FirstLaws
+pub mod LabelsLaws
