@@ -5,12 +5,13 @@ use Prim.Native.Nat.{ℕ, _<_}
 use lib.ListN.{getD}
 use Rattle.lists.specs.Tables.{over, over-cong}
 use Rattle.rules.specs.Basics.{ABSENT, at}
-use Rattle.rules.specs.FirstLaws.{BUCKETS, firstAt, firstBy, first-by}
+use Rattle.rules.specs.Buckets.{BUCKETS, lookup, lookup-right}
+use Rattle.rules.specs.FirstLaws.{firstAt}
 use Rattle.rules.specs.Labels.{labelOf, labelRound}
 
 -- a link's label from the buckets of its classes
 abbrev pub labelBy : ℕ → List ℕ → List ℕ → ℕ → ℕ → ℕ
-labelBy m class first absent j = firstBy m class first absent (at class j)
+labelBy m class first absent j = lookup (firstAt m class) first absent (at class j)
 
 pub label-round : (m : ℕ) (class first : List ℕ) (absent : ℕ) (label : List ℕ)
     → ((q : ℕ) → q < BUCKETS → getD first q 0 ≡ firstAt m class q) → absent ≡ firstAt m class ABSENT
@@ -18,4 +19,4 @@ pub label-round : (m : ℕ) (class first : List ℕ) (absent : ℕ) (label : Lis
 unfolding labelRound labelOf firstAt
 label-round m class first absent label known lost =
     over-cong m (labelBy m class first absent) (labelOf m class) label
-    (λ (j : ℕ) (l : j < m). first-by m class first absent known lost (at class j))
+    (λ (j : ℕ) (l : j < m). lookup-right (firstAt m class) first absent known lost (at class j))

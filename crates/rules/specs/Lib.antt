@@ -11,5 +11,7 @@ pub mod Labels
 pub mod HeardLaws
 pub mod ComponentsLaws
 pub mod TreeLaws
+pub mod Buckets
 pub mod FirstLaws
+pub mod CountLaws
 pub mod LabelsLaws

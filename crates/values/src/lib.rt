@@ -4,6 +4,7 @@ ghost use mathlib.Core.Bool.{cond, _&&_, _||_};
 ghost use Prim.Native.Nat.{_-_, min, max};
 ghost use Rattle.lists.specs.Scatter.{opOf};
 
+pub mod counts;
 pub mod firsts;
 pub mod tables;
 

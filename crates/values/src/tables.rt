@@ -49,6 +49,13 @@ pub fn blank_arcs() -> [u16; 512]
     [65535; 512]
 }
 
+// A table of zeros, for counts by key.
+pub fn zeros() -> [u16; 512]
+    ensures { λ r. ⌜ ((i : ℕ) → i < 512 → getD r i 0 ≡ 0) ⌝ }
+{
+    [0; 512]
+}
+
 // The entry at `a`, below `n`, takes in `x`.
 pub fn take_in(greatest: bool, n: u16, t: &mut [u16], a: u16, x: u16)
     ensures { λ _. ⌜ now (t .exit) ≡ takesIn (opOf greatest) n (now (t .entry)) a x ⌝ }

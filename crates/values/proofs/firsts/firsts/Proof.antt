@@ -4,13 +4,14 @@ use Prim.Native.Nat.{_≤_, _-_, min}
 use lib.ListN.{length}
 use Rattle.lists.specs.Scatter.{takesIn}
 use Rattle.rules.specs.Basics.{at}
-use Rattle.rules.specs.FirstLaws.{BUCKETS, firstTable, first-none, first-more, first-all}
+use Rattle.rules.specs.Buckets.{BUCKETS, bucketTable}
+use Rattle.rules.specs.FirstLaws.{firstAt, first-none, first-more, first-all}
 use borrow.Author.Needs.{needs}
 use Rattle.values.proofs.firsts.firsts.Statement.{statement}
 use Rattle.values.proofs.firsts.firsts.Tie as tie
 
 abbrev Inv-loop : tie.InvT-loop
-Inv-loop count key first₀ k₀ first k = (k ≤ count) × (length first ≡ 512) × (first ≡ firstTable k key first₀)
+Inv-loop count key first₀ k₀ first k = (k ≤ count) × (length first ≡ 512) × (first ≡ bucketTable (firstAt k key) first₀)
 
 abbrev μ-loop : tie.MeasureT-loop
 μ-loop count key first₀ k₀ first k = count - k
