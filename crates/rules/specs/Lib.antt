@@ -14,4 +14,5 @@ pub mod TreeLaws
 pub mod Buckets
 pub mod FirstLaws
 pub mod CountLaws
+pub mod OrderLaws
 pub mod LabelsLaws

@@ -12,11 +12,7 @@ fn sum_after(jump: &[u16], sum: &[u16], a: usize) -> u16
     let before = slices::word(jump, a);
     let own = slices::word(sum, a);
     let more = slices::word(sum, values::index(before));
-    values::choose(
-        before != ABSENT,
-        values::bounded(own as u32 + more as u32),
-        own,
-    )
+    values::choose(before != ABSENT, values::bounded_sum(own, more), own)
 }
 
 // The sums after a round.

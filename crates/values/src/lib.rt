@@ -1,9 +1,10 @@
 // Small value functions: inside a loop they stand for branches, so that what a turn does is one equation.
 ghost use mathlib.Core.Path.{_≡_};
 ghost use mathlib.Core.Bool.{cond, _&&_, _||_};
-ghost use Prim.Native.Nat.{_-_, min, max};
+ghost use Prim.Native.Nat.{_+_, _-_, _/_, min, max};
 ghost use Rattle.lists.specs.Scatter.{opOf};
 
+pub mod arcs;
 pub mod counts;
 pub mod firsts;
 pub mod tables;
@@ -43,6 +44,17 @@ pub fn less(x: u16, y: u16) -> u16
     if x < y { 0 } else { x - y }
 }
 
+// Half of the steps from a rank to another, the two included; 0 where it lies before.
+pub fn half_span(from: u16, to: u16) -> u16
+    ensures { λ r. ⌜ r ≡ (to + 1 - from) / 2 ⌝ }
+{
+    if to < from {
+        0
+    } else {
+        (((to - from) as u32 + 1) / 2) as u16
+    }
+}
+
 // The lesser of two.
 pub fn least_of(x: u16, y: u16) -> u16
     ensures { λ r. ⌜ r ≡ min x y ⌝ }
@@ -73,6 +85,13 @@ pub fn bounded(x: u32) -> u16
     ensures { λ r. ⌜ r ≡ min x 2048 ⌝ }
 {
     if x < 2048 { x as u16 } else { 2048 }
+}
+
+// A sum stored so.
+pub fn bounded_sum(x: u16, y: u16) -> u16
+    ensures { λ r. ⌜ r ≡ min (x + y) 2048 ⌝ }
+{
+    bounded(x as u32 + y as u32)
 }
 
 // A word as an index.

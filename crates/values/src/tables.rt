@@ -1,7 +1,7 @@
 // Reads and stores of tables by a word: units, places and links as they stand in other tables.
 ghost use mathlib.Core.Path.{_≡_};
 ghost use mathlib.Core.Bool.{cond};
-ghost use Prim.Native.Nat.{ℕ, _<_};
+ghost use Prim.Native.Nat.{ℕ, _+_, _*_, _<_};
 ghost use lib.ListN.{getD, set};
 ghost use Rattle.lists.specs.Scatter.{opOf, takesIn};
 ghost use Rattle.table.specs.Table.{endA, endB};
@@ -33,6 +33,20 @@ pub fn end_b(ends: &[u16], j: u16) -> u16
     ensures { λ r. ⌜ r ≡ endB (now (ends .entry)) j ⌝ }
 {
     slices::word(ends, 2 * (j as usize) + 1)
+}
+
+// The entry of the arc into `v`.
+pub fn into(t: &[u16], v: u16) -> u16
+    ensures { λ r. ⌜ r ≡ getD (now (t .entry)) (2 * v) 0 ⌝ }
+{
+    slices::word(t, 2 * (v as usize))
+}
+
+// The entry of the arc out of `v`.
+pub fn out_of(t: &[u16], v: u16) -> u16
+    ensures { λ r. ⌜ r ≡ getD (now (t .entry)) (2 * v + 1) 0 ⌝ }
+{
+    slices::word(t, 2 * (v as usize) + 1)
 }
 
 // A table of absent marks, for a least value by unit or place.

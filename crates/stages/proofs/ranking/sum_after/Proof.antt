@@ -1,4 +1,4 @@
--- TODO
+-- What is read twice over.
 use borrow.Author.Needs.{needs}
 use Rattle.stages.proofs.ranking.sum_after.Statement.{statement}
 use Rattle.stages.proofs.ranking.sum_after.Tie as tie
@@ -15,17 +15,8 @@ index-requires c κs = search needs
 word-requires-3 : tie.Need-word-requires-3
 word-requires-3 c κs = search needs
 
-cast-bounded : tie.Need-cast-bounded
-cast-bounded c = search needs
-
-cast-bounded-2 : tie.Need-cast-bounded-2
-cast-bounded-2 c = search needs
-
-add-bounded : tie.Need-add-bounded
-add-bounded c = search needs
-
-bounded-requires : tie.Need-bounded-requires
-bounded-requires c κs = search needs
+bounded-sum-requires : tie.Need-bounded-sum-requires
+bounded-sum-requires c κs = search needs
 
 choose-requires : tie.Need-choose-requires
 choose-requires c κs = search needs
@@ -41,9 +32,6 @@ sum-after-spec =
     word-requires-2
     index-requires
     word-requires-3
-    cast-bounded
-    cast-bounded-2
-    add-bounded
-    bounded-requires
+    bounded-sum-requires
     choose-requires
     returns)
