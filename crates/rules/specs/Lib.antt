@@ -16,3 +16,4 @@ pub mod FirstLaws
 pub mod CountLaws
 pub mod OrderLaws
 pub mod LabelsLaws
+pub mod AuxLaws

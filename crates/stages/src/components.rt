@@ -53,7 +53,7 @@ pub fn color_round(units: u16, links: u16, made: u16, ends: &[u16], color: [u16;
 }
 
 // Whether two tables agree below `units`.
-pub fn agree(units: u16, before: &[u16], after: &[u16]) -> bool
+pub fn agree<'a>(units: u16, before: &'a [u16], after: &'a [u16]) -> bool
     ensures { λ r. ⌜ r ≡ agree units (now (before .entry)) (now (after .entry)) ⌝ }
 {
     let count = units as usize;
@@ -74,7 +74,7 @@ pub fn agree(units: u16, before: &[u16], after: &[u16]) -> bool
 }
 
 // Whether the stage ends: with the first later round that changes nothing.
-pub fn color_ends(units: u16, made: u16, before: &[u16], after: &[u16]) -> bool
+pub fn color_ends<'a>(units: u16, made: u16, before: &'a [u16], after: &'a [u16]) -> bool
     ensures { λ r. ⌜ r ≡ colorEnds units made (now (before .entry)) (now (after .entry)) ⌝ }
 {
     if made == 0 {

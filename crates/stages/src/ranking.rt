@@ -6,7 +6,7 @@ ghost use Rattle.rules.specs.Ranking.{asks, sumAfter, sumRound, jumpAfter, jump
 const ABSENT: u16 = 65535;
 
 // The sum of object `a` after the round.
-fn sum_after(jump: &[u16], sum: &[u16], a: usize) -> u16
+fn sum_after<'a>(jump: &'a [u16], sum: &'a [u16], a: usize) -> u16
     ensures { λ r. ⌜ r ≡ sumAfter (now (jump .entry)) (now (sum .entry)) a ⌝ }
 {
     let before = slices::word(jump, a);
