@@ -1,7 +1,3 @@
-// The ten stages as code: a function for each table that a round leaves, equal to its rule for every input.
-pub mod aux;
+// Stages 1 to 3 as code: a function for each table that a round leaves, equal to its rule for every input.
 pub mod components;
-pub mod labels;
-pub mod order;
-pub mod ranking;
 pub mod tree;
