@@ -8,3 +8,4 @@ pub mod Rounds
 pub mod Counts
 pub mod Scatter
 pub mod Agree
+pub mod FoldLaws

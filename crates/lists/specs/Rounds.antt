@@ -2,7 +2,7 @@
 use mathlib.Core.Path.{_≡_, refl, sym, ap, _∙_}
 use mathlib.Core.Logic.{_⊎_, inl, inr}
 use mathlib.Core.List.{List, [], _∷_}
-use Prim.Native.Nat.{ℕ, zero, suc, _+_, _≤_, _<_}
+use Prim.Native.Nat.{ℕ, zero, suc, _+_, _*_, _≤_, _<_}
 use native.Mathlib.Nat.{le-antisymm}
 use native.Mathlib.Numerals.{add-one}
 use native.Mathlib.Decide.{decLt}
@@ -65,3 +65,10 @@ module _ {ℓ} {A : Type ℓ} where
       go (no h) =
           rw (put, was, set-out (over n f old) n x (omega (arith, length-over n f old)), add-one)
           (sym (set-out (over n f old) n (f n) (omega (arith, length-over n f old))) ∙ set-over n f old)
+
+  -- a turn that fills two entries
+  pub over-pair : (v : ℕ) (f : ℕ → A) (old t new : List A) (x y : A) → t ≡ over (2 * v) f old → (2 * v < length old → x ≡ f (2 * v))
+      → (2 * v + 1 < length old → y ≡ f (2 * v + 1)) → new ≡ set (set t (2 * v) x) (2 * v + 1) y → new ≡ over (2 * (v + 1)) f old
+  over-pair v f old t new x y was is is′ put =
+      let e : 2 * (v + 1) ≡ 2 * v + 1 + 1 = omega arith in
+      rw e (over-more-in (2 * v + 1) f old (set t (2 * v) x) new y (over-more-in (2 * v) f old t (set t (2 * v) x) x was is refl) is′ put)

@@ -1,4 +1,5 @@
 pub mod Basics
+pub mod Bounds
 pub mod Ceilings
 pub mod Components
 pub mod Tree
@@ -17,3 +18,4 @@ pub mod CountLaws
 pub mod OrderLaws
 pub mod LabelsLaws
 pub mod AuxLaws
+pub mod TourLaws

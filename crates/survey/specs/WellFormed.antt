@@ -4,22 +4,10 @@ use Prim.Native.Nat.{ℕ, _*_}
 use lib.Dec.{eqb, leb, ltb}
 use Rattle.lists.specs.Folds.{every}
 use Rattle.table.specs.Table.{maxLinks, tableRefusal}
-use Rattle.rules.specs.Basics.{ABSENT, MAX-NUMBER}
+use Rattle.rules.specs.Bounds.{nameOk, numberOk, distOk}
 use Rattle.rules.specs.Ceilings.{ceiling}
 use Rattle.survey.specs.declared.state.Survey.{Survey}
 use Rattle.survey.specs.State.{units, links, words, FINISHED, MAX-ROUNDS, MAX-REQUESTS}
-
--- a stored name is absent or names one of k things that exist
-abbrev pub nameOk : ℕ → ℕ → Bool
-nameOk k x = ltb x k || eqb x ABSENT
-
--- no other stored number exceeds 2,048
-abbrev pub numberOk : ℕ → Bool
-numberOk x = leb x MAX-NUMBER
-
--- save that a distance may be absent
-abbrev pub distOk : ℕ → Bool
-distOk x = numberOk x || eqb x ABSENT
 
 -- n and links pass 4 to 9; the words past the last link name units or are absent
 unfoldable pub tableOk : Survey → Bool

@@ -88,7 +88,14 @@ pub fn bounded(x: u32) -> u16
     if x < 2048 { x as u16 } else { 2048 }
 }
 
-// A sum stored so.
+// A number as a word holds it: one that no word holds is absent.
+pub fn word_of(x: u32) -> u16
+    ensures { λ r. ⌜ r ≡ min x 65535 ⌝ }
+{
+    if x < 65535 { x as u16 } else { 65535 }
+}
+
+// A sum stored within its bound.
 pub fn bounded_sum(x: u16, y: u16) -> u16
     ensures { λ r. ⌜ r ≡ min (x + y) 2048 ⌝ }
 {

@@ -49,6 +49,15 @@ pub fn out_of(t: &[u16], v: u16) -> u16
     slices::word(t, 2 * (v as usize) + 1)
 }
 
+// `x` for the arc into `v`, `y` for the arc out of it.
+pub fn put_pair(t: &mut [u16], v: u16, x: u16, y: u16)
+    ensures { λ _. ⌜ now (t .exit) ≡ set (set (now (t .entry)) (2 * v) x) (2 * v + 1) y ⌝ }
+{
+    let at = 2 * (v as usize);
+    slices::put(t, at, x);
+    slices::put(t, at + 1, y);
+}
+
 // A table of absent marks, for a least value by unit or place.
 pub fn blank() -> [u16; 256]
     ensures { λ r. ⌜ ((i : ℕ) → i < 256 → getD r i 0 ≡ 65535) ⌝ }
