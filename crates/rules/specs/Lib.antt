@@ -19,3 +19,6 @@ pub mod OrderLaws
 pub mod LabelsLaws
 pub mod AuxLaws
 pub mod TourLaws
+pub mod NextLaws
+pub mod RangeLaws
+pub mod MoveLaws

@@ -98,7 +98,7 @@ fn next_out(units: u16, parent: &[u16], v: u16) -> u16
     arc_after(units, parent, v, p)
 }
 
-// Round one: the followers. They are the rule's wherever units and parents exist (TourLaws, next-exact).
+// Round one: the followers. They are the rule's wherever units and parents exist (NextLaws, next-exact).
 pub fn next_round(units: u16, parent: &[u16], next: [u16; 512]) -> [u16; 512]
     ensures { λ r. ⌜ r ≡ nextStored units (now (parent .entry)) next ⌝ }
 {

@@ -95,6 +95,28 @@ pub fn word_of(x: u32) -> u16
     if x < 65535 { x as u16 } else { 65535 }
 }
 
+// The sum of a word and a number that may be large, stored within its bound.
+pub fn bounded_step(x: u16, y: u32) -> u16
+    ensures { λ r. ⌜ r ≡ min (x + y) 2048 ⌝ }
+{
+    if y < 2048 {
+        bounded(x as u32 + y)
+    } else {
+        2048
+    }
+}
+
+// What is left of a word after a number that may be large is taken away.
+pub fn less_step(x: u16, y: u32) -> u16
+    ensures { λ r. ⌜ r ≡ x - y ⌝ }
+{
+    if (x as u32) < y {
+        0
+    } else {
+        (x as u32 - y) as u16
+    }
+}
+
 // A sum stored within its bound.
 pub fn bounded_sum(x: u16, y: u16) -> u16
     ensures { λ r. ⌜ r ≡ min (x + y) 2048 ⌝ }
