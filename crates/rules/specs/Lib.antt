@@ -1,5 +1,6 @@
 pub mod Basics
 pub mod Bounds
+pub mod BoundsLaws
 pub mod Ceilings
 pub mod Components
 pub mod Tree

@@ -6,6 +6,7 @@ ghost use lib.Dec.{leb};
 ghost use Rattle.lists.specs.Scatter.{opOf};
 
 pub mod arcs;
+pub mod bounds;
 pub mod counts;
 pub mod firsts;
 pub mod tables;
