@@ -18,3 +18,8 @@ pub mod Puts
 pub mod Text
 pub mod Lent
 pub mod Listed
+pub mod Rounds
+pub mod Counts
+pub mod Scatter
+pub mod Agree
+pub mod FoldLaws

@@ -11,8 +11,11 @@ use Rattle.rules.specs.Basics.{ABSENT, at, isRoot, offTree, heard}
 -- ---- stage 8
 
 -- a link off the tree joins its ends (case 2)
+abbrev pub linkJoin : List ℕ → List ℕ → ℕ → ℕ
+linkJoin ends parent j = cond (offTree parent (endA ends j) (endB ends j)) 1 0
+
 unfoldable pub linkJoinsRound : ℕ → List ℕ → List ℕ → List ℕ → List ℕ
-linkJoinsRound m ends parent joins = over m (λ (j : ℕ). cond (offTree parent (endA ends j) (endB ends j)) 1 0) joins
+linkJoinsRound m ends parent joins = over m (linkJoin ends parent) joins
 
 -- u joins its parent p, if p is no root, when low(u) < place(p) or high(u) ≥ place(p) + descendants(p) (case 3)
 unfoldable pub joinsParent : List ℕ → List ℕ → List ℕ → List ℕ → List ℕ → ℕ → Bool
@@ -21,8 +24,11 @@ joinsParent parent nd pre low high u =
     && not (isRoot parent (at parent u))
     && (ltb (at low u) (at pre (at parent u)) || leb (at pre (at parent u) + at nd (at parent u)) (at high u))
 
+abbrev pub parentJoin : List ℕ → List ℕ → List ℕ → List ℕ → List ℕ → ℕ → ℕ
+parentJoin parent nd pre low high u = cond (joinsParent parent nd pre low high u) 1 0
+
 unfoldable pub parentJoinsRound : ℕ → List ℕ → List ℕ → List ℕ → List ℕ → List ℕ → List ℕ → List ℕ
-parentJoinsRound n parent nd pre low high joins = over n (λ (u : ℕ). cond (joinsParent parent nd pre low high u) 1 0) joins
+parentJoinsRound n parent nd pre low high joins = over n (parentJoin parent nd pre low high) joins
 
 -- ---- stage 9
 

@@ -16,9 +16,11 @@ namingUnit parent pre a b =
     (cond (eqb (at parent b) a) b (cond (eqb (at parent a) b) a (cond (ltb (at pre b) (at pre a)) a b)))
 
 -- round one gives each link a class
+abbrev pub classOf : List ℕ → List ℕ → List ℕ → List ℕ → ℕ → ℕ
+classOf ends parent pre color j = at color (namingUnit parent pre (endA ends j) (endB ends j))
+
 unfoldable pub classRound : ℕ → List ℕ → List ℕ → List ℕ → List ℕ → List ℕ → List ℕ
-classRound m ends parent pre color class =
-    over m (λ (j : ℕ). at color (namingUnit parent pre (endA ends j) (endB ends j))) class
+classRound m ends parent pre color class = over m (classOf ends parent pre color) class
 
 -- round two: each link's label is the least position in its class
 unfoldable pub labelOf : ℕ → List ℕ → ℕ → ℕ

@@ -1,6 +1,7 @@
 pub mod Basics
 pub mod Bounds
 pub mod BoundLaws
+pub mod BoundsLaws
 pub mod Ceilings
 pub mod CeilingLaws
 pub mod Components
@@ -17,3 +18,16 @@ pub mod ChoiceLaws
 pub mod Aux
 pub mod Labels
 pub mod RoundBounds
+pub mod HeardLaws
+pub mod ComponentsLaws
+pub mod TreeLaws
+pub mod Buckets
+pub mod FirstLaws
+pub mod CountLaws
+pub mod OrderLaws
+pub mod LabelsLaws
+pub mod AuxLaws
+pub mod TourLaws
+pub mod NextLaws
+pub mod RangeLaws
+pub mod MoveLaws

@@ -13,9 +13,11 @@ abbrev pub reverseArc : ℕ → ℕ
 reverseArc a = cond (isInto a) (a + 1) (a - 1)
 
 -- round one: a directed tree link is forward if its rank is below its reverse's
+abbrev pub forwardMark : List ℕ → List ℕ → ℕ → ℕ
+forwardMark parent rank a = cond (isArc parent a && ltb (at rank a) (at rank (reverseArc a))) 1 0
+
 unfoldable pub forwardRound : ℕ → List ℕ → List ℕ → List ℕ → List ℕ
-forwardRound n parent rank forward =
-    over (2 * n) (λ (a : ℕ). cond (isArc parent a && ltb (at rank a) (at rank (reverseArc a))) 1 0) forward
+forwardRound n parent rank forward = over (2 * n) (forwardMark parent rank) forward
 
 -- the descendants of v, v included: half of (rank of the link back − rank of the link in + 1); for a root its component's size
 unfoldable pub descendants : ℕ → List ℕ → List ℕ → List ℕ → ℕ → ℕ
@@ -28,8 +30,11 @@ unfoldable pub ndRound : ℕ → List ℕ → List ℕ → List ℕ → List ℕ
 ndRound n color parent rank nd = over n (descendants n color parent rank) nd
 
 -- the last round sets up the second ranking: forward 1 and backward 0, and the tour's predecessors
+abbrev pub secondSum : List ℕ → List ℕ → ℕ → ℕ
+secondSum parent forward a = cond (isArc parent a && not (eqb (at forward a) 0)) 1 0
+
 unfoldable pub secondSums : ℕ → List ℕ → List ℕ → List ℕ → List ℕ
-secondSums n parent forward sum = over (2 * n) (λ (a : ℕ). cond (isArc parent a && not (eqb (at forward a) 0)) 1 0) sum
+secondSums n parent forward sum = over (2 * n) (secondSum parent forward) sum
 
 unfoldable pub secondJumps : ℕ → List ℕ → List ℕ → List ℕ
 secondJumps n pred jump = over (2 * n) (at pred) jump

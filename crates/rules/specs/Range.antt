@@ -40,20 +40,23 @@ unfoldable pub globalFirst : (ℕ → ℕ → ℕ) → ℕ → ℕ → List ℕ 
 globalFirst op n m ends parent pre global = over n (localAt op n m ends parent pre) global
 
 -- a unit begins with the local values of its last descendant's place, 0 where that is no place
+abbrev pub rangeBegin : (ℕ → ℕ → ℕ) → ℕ → ℕ → List ℕ → List ℕ → List ℕ → List ℕ → ℕ → ℕ
+rangeBegin op n m ends parent nd pre v =
+    cond (leb 1 (endPlace nd pre v) && leb (endPlace nd pre v) n) (localAt op n m ends parent pre (endPlace nd pre v - 1)) 0
+
 unfoldable pub rangeFirst : (ℕ → ℕ → ℕ) → ℕ → ℕ → List ℕ → List ℕ → List ℕ → List ℕ → List ℕ → List ℕ
-rangeFirst op n m ends parent nd pre range =
-    over n
-    (λ (v : ℕ).
-    cond (leb 1 (endPlace nd pre v) && leb (endPlace nd pre v) n) (localAt op n m ends parent pre (endPlace nd pre v - 1)) 0)
-    range
+rangeFirst op n m ends parent nd pre range = over n (rangeBegin op n m ends parent nd pre) range
 
 -- with little at its own place
 unfoldable pub littleFirst : ℕ → List ℕ → List ℕ → List ℕ
 littleFirst n pre little = over n (at pre) little
 
 -- and big at that last one
+abbrev pub bigBegin : List ℕ → List ℕ → ℕ → ℕ
+bigBegin nd pre v = bounded (endPlace nd pre v - 1)
+
 unfoldable pub bigFirst : ℕ → List ℕ → List ℕ → List ℕ → List ℕ
-bigFirst n nd pre big = over n (λ (v : ℕ). bounded (endPlace nd pre v - 1)) big
+bigFirst n nd pre big = over n (bigBegin nd pre) big
 
 -- ---- round i, from 0: segments of 2 ^ i places
 

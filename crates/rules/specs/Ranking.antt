@@ -12,12 +12,18 @@ abbrev pub asks : List ℕ → ℕ → Bool
 asks jump a = not (eqb (at jump a) ABSENT)
 
 -- it adds the predecessor's sum
+abbrev pub sumAfter : List ℕ → List ℕ → ℕ → ℕ
+sumAfter jump sum a = cond (asks jump a) (bounded (at sum a + at sum (at jump a))) (at sum a)
+
 unfoldable pub sumRound : ℕ → List ℕ → List ℕ → List ℕ
-sumRound k jump sum = over k (λ (a : ℕ). cond (asks jump a) (bounded (at sum a + at sum (at jump a))) (at sum a)) sum
+sumRound k jump sum = over k (sumAfter jump sum) sum
 
 -- and takes the predecessor's predecessor
+abbrev pub jumpAfter : List ℕ → ℕ → ℕ
+jumpAfter jump a = cond (asks jump a) (at jump (at jump a)) (at jump a)
+
 unfoldable pub jumpRound : ℕ → List ℕ → List ℕ
-jumpRound k jump = over k (λ (a : ℕ). cond (asks jump a) (at jump (at jump a)) (at jump a)) jump
+jumpRound k jump = over k (jumpAfter jump) jump
 
 unfoldable pub requestsOf : ℕ → List ℕ → ℕ
 requestsOf k jump = count k (asks jump)

@@ -70,8 +70,11 @@ unfoldable pub predRound : ℕ → List ℕ → List ℕ → List ℕ → List �
 predRound n parent next pred = over (2 * n) (predecessor n parent next) pred
 
 -- the last round sets up the first ranking: every value 1, and the working predecessors just found
+abbrev pub firstSum : List ℕ → ℕ → ℕ
+firstSum parent a = cond (isArc parent a) 1 0
+
 unfoldable pub firstSums : ℕ → List ℕ → List ℕ → List ℕ
-firstSums n parent sum = over (2 * n) (λ (a : ℕ). cond (isArc parent a) 1 0) sum
+firstSums n parent sum = over (2 * n) (firstSum parent) sum
 
 unfoldable pub firstJumps : ℕ → List ℕ → List ℕ → List ℕ → List ℕ
 firstJumps n parent next jump = over (2 * n) (predecessor n parent next) jump

@@ -1,0 +1,19 @@
+-- What is heard, where it counts.
+use borrow.Author.Needs.{needs}
+use Rattle.blocks.proofs.aux.join.Statement.{statement}
+use Rattle.blocks.proofs.aux.join.Tie as tie
+
+counts-requires : tie.Need-counts-requires
+counts-requires c κs = search needs
+
+hear-requires : tie.Need-hear-requires
+hear-requires c κs = search needs
+
+same-length : tie.Need-same-length
+same-length c = search needs
+
+returns : tie.Need-returns
+returns c = cc
+
+pub join-spec : {M : Type 1} → statement M
+join-spec = tie.close (tie.spec counts-requires hear-requires same-length returns)

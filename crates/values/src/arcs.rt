@@ -1,0 +1,31 @@
+// The tree as the parent table says it. Arcs: the arc into v stands at 2v, the arc out of v at 2v + 1.
+ghost use mathlib.Core.Path.{_≡_};
+ghost use Rattle.rules.specs.Basics.{offTree};
+ghost use Rattle.rules.specs.Tour.{isArc};
+ghost use Rattle.rules.specs.Order.{reverseArc};
+
+const ABSENT: u16 = 65535;
+
+// Whether a directed tree link stands at `a`.
+pub fn is_arc(parent: &[u16], a: usize) -> bool
+    ensures { λ r. ⌜ r ≡ isArc (now (parent .entry)) a ⌝ }
+{
+    slices::word(parent, a / 2) != ABSENT
+}
+
+// Whether a link of `a` and `b` is off the tree.
+pub fn off_tree(parent: &[u16], a: u16, b: u16) -> bool
+    ensures { λ r. ⌜ r ≡ offTree (now (parent .entry)) a b ⌝ }
+{
+    super::both(
+        super::tables::at(parent, a) != b,
+        super::tables::at(parent, b) != a,
+    )
+}
+
+// The other arc of the pair.
+pub fn reverse(a: usize) -> usize
+    ensures { λ r. ⌜ r ≡ reverseArc a ⌝ }
+{
+    if a % 2 == 0 { a + 1 } else { a - 1 }
+}
