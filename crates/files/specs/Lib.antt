@@ -11,3 +11,4 @@ pub mod FileCauses
 pub mod RoundTrip
 pub mod TripLaws
 pub mod Example
+pub mod LinesRight
