@@ -24,7 +24,7 @@ use Rattle.survey.specs.StepLaws.{loaded-wellFormed}
 use Rattle.survey.specs.RunLaws.{Total, total, total-least, total-countdown, ended-exact, steps-wellFormed}
 use Rattle.survey.specs.Report.{unitColor, unitParent, unitPlace, unitSingle, linkLabel, linkLone, flag, report, reportLength, headLine, unitLine, linkLine}
 use Rattle.survey.specs.ReportLaws.{length-report, head-at, unit-at, link-at}
-use Rattle.survey.specs.Calls.{numberOf, answered, written, loadAnswer, statusAnswer, statusRefusal, questionRefusal, unitAnswer, unitRefusal, linkAnswer, linkRefusal, reportAnswer, reportRefusal, reported}
+use Rattle.survey.specs.Calls.{numberOf, loadAnswer, statusAnswer, statusRefusal, questionRefusal, unitAnswer, unitRefusal, linkAnswer, linkRefusal, reportAnswer, reportRefusal, reported}
 use Rattle.reach.specs.Reach.{SurveyRight, survey-right, table-steps, rounds-steps}
 use Rattle.claim.specs.Play.{Call, Played, play, used, asked}
 use Rattle.claim.specs.PlayLaws.{Spent, play-spent}

@@ -253,7 +253,7 @@ readReasons ls places =
     }
     ∷ []
 
-readRefusal-tests : (ls : List Line) (places : ℕ) → readRefusal ls places ≡ firstOf (tests (readReasons ls places))
+pub readRefusal-tests : (ls : List Line) (places : ℕ) → readRefusal ls places ≡ firstOf (tests (readReasons ls places))
 unfolding readRefusal readReasons
 readRefusal-tests ls places = refl
 
@@ -279,7 +279,7 @@ writeReasons n t places =
     }
     ∷ []
 
-writeRefusal-tests : (n : ℕ) (t : List ℕ) (places : ℕ) → writeRefusal n t places ≡ firstOf (tests (writeReasons n t places))
+pub writeRefusal-tests : (n : ℕ) (t : List ℕ) (places : ℕ) → writeRefusal n t places ≡ firstOf (tests (writeReasons n t places))
 unfolding writeRefusal writeReasons tableReasons
 writeRefusal-tests n t places = refl
 

@@ -13,6 +13,8 @@ use Rattle.table.specs.Refusals.{firstOf}
 use Rattle.table.specs.RefusalLaws.{Reason, FirstCause, SomeCause, Numbered, tests, first-cause, some-cause}
 use Rattle.table.specs.Table.{tableRefusal}
 use Rattle.table.specs.TableCauses.{tableReasons, table-first-cause, table-some-cause}
+use Rattle.files.specs.File.{linesOf, readRefusal, writeRefusal}
+use Rattle.files.specs.FileCauses.{readReasons, writeReasons, readRefusal-tests, writeRefusal-tests}
 use Rattle.rules.specs.BoundLaws.{eq-exact}
 use Rattle.survey.specs.declared.state.Survey.{Survey}
 use Rattle.survey.specs.declared.reply.Answer.{Answer}
@@ -125,3 +127,12 @@ reportReasons places s = notKept s ∷ beforeEnd s ∷ tooShort places (reportLe
 pub report-bound : (places : ℕ) (s : Survey) → Bound (reportReasons places s) s (Calls.reportAnswer places s)
 unfolding Calls.reportAnswer Calls.reportRefusal
 report-bound places s = bound (reportReasons places s) (omega arith) (Calls.reportRefusal s places) refl s _ _ refl
+
+pub read-bound : (input : List ℕ) (places : ℕ) (s : Survey) → Bound (readReasons (linesOf input) places) s (Calls.readAnswer input places s)
+unfolding Calls.readAnswer readReasons
+read-bound input places s =
+    bound (readReasons (linesOf input) places) (omega arith) (readRefusal (linesOf input) places) (readRefusal-tests (linesOf input) places) s _ _ refl
+
+pub write-bound : (n : ℕ) (t : List ℕ) (places : ℕ) (s : Survey) → Bound (writeReasons n t places) s (Calls.writeAnswer n t places s)
+unfolding Calls.writeAnswer writeReasons tableReasons
+write-bound n t places s = bound (writeReasons n t places) (omega arith) (writeRefusal n t places) (writeRefusal-tests n t places) s _ _ refl

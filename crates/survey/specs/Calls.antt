@@ -1,10 +1,10 @@
 -- Each call's answer: the state handed back and the reply. A refusal gives only its number, with the state as given and nothing written.
 use mathlib.Core.Bool.{Bool, cond, not}
-use mathlib.Core.List.{List, [], _∷_, _++_}
+use mathlib.Core.List.{List, [], _∷_}
 use Prim.Native.Nat.{ℕ}
 use lib.Dec.{eqb, ltb}
-use lib.ListN.{length, drop}
-use Rattle.table.specs.Refusals.{firstOf}
+use lib.ListN.{length}
+use Rattle.table.specs.Refusals.{firstOf, written}
 use Rattle.table.specs.Table.{linkCount, tableRefusal}
 use Rattle.files.specs.File.{fileLength, linesOf, readRefusal, writeRefusal, unitsIn, linkFrames}
 use Rattle.survey.specs.declared.state.Survey.{Survey}
@@ -16,7 +16,7 @@ use Rattle.survey.specs.Load.{loaded}
 use Rattle.survey.specs.WellFormed.{wellFormed}
 use Rattle.survey.specs.Step.{step, countdown}
 use Rattle.survey.specs.Run.{ran}
-use Rattle.survey.specs.Report.{unitColor, unitParent, unitPlace, unitSingle, linkLabel, linkLone, report, reportLength}
+use Rattle.survey.specs.Report.{flag, unitColor, unitParent, unitPlace, unitSingle, linkLabel, linkLone, report, reportLength}
 
 -- document 01's number of a reply: 0 where the call was not refused
 abbrev pub numberOf : Reply → ℕ
@@ -33,9 +33,16 @@ numberOf (Written k) = 0
 abbrev pub answered : ℕ → Survey → Survey → Reply → Answer
 answered k s after reply = cond (eqb k 0) (record { survey = after; reply = reply }) (record { survey = s; reply = Refused k })
 
--- what a lent slice holds after the call: the new contents and the rest as it was, or all as it was where refusal k came up
-abbrev pub written : ℕ → List ℕ → List ℕ → List ℕ
-written k new old = cond (eqb k 0) (new ++ drop (length new) old) old
+-- the values of a reply, in document 01's order
+abbrev pub valuesOf : Reply → List ℕ
+valuesOf (Refused k) = k ∷ []
+valuesOf Done = []
+valuesOf (Made k) = k ∷ []
+valuesOf (Status stage countdown rounds requests) = stage ∷ countdown ∷ rounds ∷ requests ∷ []
+valuesOf (Unit unit color parent place single) = unit ∷ color ∷ parent ∷ place ∷ flag single ∷ []
+valuesOf (Link position label lone) = position ∷ label ∷ flag lone ∷ []
+valuesOf (Read units links) = units ∷ links ∷ []
+valuesOf (Written k) = k ∷ []
 
 -- ---- load: 4 to 9
 
