@@ -1,23 +1,23 @@
 -- The exact rules of stages 1 to 3 have the values of the rules, on a table whose ends are units and, from stage 3 on, whose parents are.
-use mathlib.Core.Path.{_≡_, refl, sym, _∙_}
-use mathlib.Core.Bool.{Bool, true, false, cond, not, _&&_}
+use mathlib.Core.Path.{_≡_, refl}
+use mathlib.Core.Bool.{Bool, true, false, cond, _&&_}
 use mathlib.Core.Logic.{_⊎_, inl, inr}
-use mathlib.Core.Option.{Option, some}
+use mathlib.Core.Option.{some}
 use mathlib.Core.List.{List}
 use Prim.Native.Nat.{ℕ, _+_, _*_, _-_, _/_, _%_, _≤_, _<_, min}
 use native.Mathlib.Omega.{arith}
 use lib.Dec.{eqb, ltb}
 use borrow.Author.Tests.{eqb-true, eqb-false, eq-eqb, not-true}
-use Rattle.lists.specs.Tests.{either, and-left, and-right, or-left, or-right}
+use Rattle.lists.specs.Tests.{either, or-left, or-right}
 use Rattle.table.specs.Table.{endA, endB}
 use Rattle.rules.specs.Basics.{ABSENT, at, isRoot, offTree, heard}
 use Rattle.rules.specs.Components.{leastHeard, colorRound}
 use Rattle.rules.specs.Tree.{candidate, chosenParent, visits, parentRound, distRound, treeEnds}
-use Rattle.rules.specs.Tour.{arcUnit, isInto, isArc, treeNeighbor, leastNeighbor, greaterNeighbor, neighborAfter, arcFrom, arcAfter, follower, isStart, predecessor, nextRound, predRound, firstSums, firstJumps}
+use Rattle.rules.specs.Tour.{arcUnit, isInto, isArc, treeNeighbor, leastNeighbor, greaterNeighbor, neighborAfter, arcAfter, follower, isStart, predecessor, nextRound, predRound, firstSums, firstJumps}
 use Rattle.rules.specs.TourLaws.{after-next}
 use Rattle.rules.specs.BoundLaws.{Names}
 use Rattle.reach.specs.Partial
-use Rattle.reach.specs.Partial.{Value, Test, absent, read, minus, half, both, nots, ands, ors, ifs, folds, counts, anys, overs}
+use Rattle.reach.specs.Partial.{Value, Test, read, minus, half, both, nots, ands, ors, ifs, conds, folds, anys, overs}
 use Rattle.reach.specs.ExactRules
 
 -- ---- what the stages share
@@ -64,6 +64,9 @@ module _ (n m : ℕ) (ends : List ℕ) (belowA : (j : ℕ) → j < m → endA en
   color-round made color = overs n _ _ color (least-heard _)
 
   module _ (made : ℕ) (dist : List ℕ) where
+    later : eqb made 0 ≡ false → 1 ≤ made
+    later t = omega (arith, eqb-false made 0 t)
+
     chosen : 1 ≤ made → (v : ℕ) → ExactRules.chosenParent? n m made ends dist (some v) ≡ some (chosenParent m made ends dist v)
     unfolding ExactRules.chosenParent? ExactRules.candidate? ExactRules.visitedBefore? chosenParent
     chosen h v =
@@ -80,25 +83,17 @@ module _ (n m : ℕ) (ends : List ℕ) (belowA : (j : ℕ) → j < m → endA en
     -- a parent is chosen in later rounds only
     visit : (color : List ℕ) (v : ℕ) → v < n → ExactRules.visits? n m made ends color dist (some v) ≡ some (visits m made ends color dist v)
     unfolding ExactRules.visits? visits
-    visit color v l = go (either (eqb made 0))
-      where
-        go : (eqb made 0 ≡ true) ⊎ (eqb made 0 ≡ false) → ExactRules.visits? n m made ends color dist (some v) ≡ some (visits m made ends color dist v)
-        go (inl t) = rw t (both eqb (read n color refl l) refl)
-        go (inr t) =
-            let h : 1 ≤ made = omega (arith, eqb-false made 0 t) in
-            rw t (ands (both eqb (read n dist refl l) refl) (λ q. nots (both eqb (chosen h v) refl)))
+    visit color v l =
+        conds (eqb made 0) (λ t. both eqb (read n color refl l) refl)
+        (λ t. ands (both eqb (read n dist refl l) refl) (λ q. nots (both eqb (chosen (later t) v) refl)))
 
     pub parent-round : (color parent : List ℕ)
         → ExactRules.parentRound? n m made ends color dist parent ≡ some (parentRound n m made ends color dist parent)
     unfolding ExactRules.parentRound? parentRound
     parent-round color parent =
         overs n _ (λ (v : ℕ). cond (visits m made ends color dist v) (cond (eqb made 0) ABSENT (chosenParent m made ends dist v)) (at parent v)) parent
-        (λ v l. ifs (visit color v l) (λ q. new v (either (eqb made 0))) (λ q. read n parent refl l))
-      where
-        new : (v : ℕ) → (eqb made 0 ≡ true) ⊎ (eqb made 0 ≡ false)
-            → cond (eqb made 0) absent (ExactRules.chosenParent? n m made ends dist (some v)) ≡ some (cond (eqb made 0) ABSENT (chosenParent m made ends dist v))
-        new v (inl t) = rw t refl
-        new v (inr t) = let h : 1 ≤ made = omega (arith, eqb-false made 0 t) in rw t (chosen h v)
+        (λ v l.
+        ifs (visit color v l) (λ q. conds (eqb made 0) (λ t. refl) (λ t. chosen (later t) v)) (λ q. read n parent refl l))
 
     pub dist-round : (color : List ℕ) → ExactRules.distRound? n m made ends color dist ≡ some (distRound n m made ends color dist)
     unfolding ExactRules.distRound? distRound

@@ -1,23 +1,23 @@
 -- The exact rules of stages 4 to 6 have the values of the rules: on predecessors that are there, sums that stay within their bound, and ranks of which
 -- the two of a unit stand an even number apart.
-use mathlib.Core.Path.{_≡_, refl, sym, _∙_}
-use mathlib.Core.Bool.{Bool, true, false, cond, not, _&&_}
+use mathlib.Core.Path.{_≡_, refl}
+use mathlib.Core.Bool.{true, false, cond}
 use mathlib.Core.Logic.{_⊎_, inl, inr}
-use mathlib.Core.Option.{Option, some}
+use mathlib.Core.Option.{some}
 use mathlib.Core.List.{List}
-use Prim.Native.Nat.{ℕ, _+_, _*_, _-_, _/_, _%_, _≤_, _<_, min}
+use Prim.Native.Nat.{ℕ, _+_, _*_, _-_, _/_, _%_, _≤_, _<_}
 use native.Mathlib.Omega.{arith}
 use lib.Dec.{eqb, ltb}
-use borrow.Author.Tests.{eqb-true, eqb-false, eq-eqb, not-true}
+use borrow.Author.Tests.{eqb-true, eqb-false}
 use Rattle.lists.specs.Folds.{count}
 use Rattle.lists.specs.Tests.{either}
 use Rattle.rules.specs.Basics.{ABSENT, MAX-NUMBER, at, bounded, isRoot}
 use Rattle.rules.specs.BoundLaws.{Names}
-use Rattle.rules.specs.Tour.{arcUnit, isInto, isArc}
+use Rattle.rules.specs.Tour.{isInto}
 use Rattle.rules.specs.Ranking.{asks, sumRound, jumpRound, requestsOf, rankingEnds}
 use Rattle.rules.specs.Order.{reverseArc, forwardRound, descendants, ndRound, secondSums, secondJumps, placeOf, preRound}
 use Rattle.reach.specs.Partial
-use Rattle.reach.specs.Partial.{Value, Test, absent, read, minus, half, both, nots, ands, ors, ifs, folds, counts, anys, overs}
+use Rattle.reach.specs.Partial.{read, minus, half, both, nots, ands, ifs, counts, overs}
 use Rattle.reach.specs.ExactRules
 use Rattle.reach.specs.ExactLaws1.{root, marked, into, arc}
 

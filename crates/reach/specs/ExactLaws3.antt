@@ -1,23 +1,21 @@
 -- The exact rules of stages 7 to 10 have the values of the rules: where every place has its unit, and little and big stay within the places.
-use mathlib.Core.Path.{_≡_, refl, sym, _∙_}
-use mathlib.Core.Bool.{Bool, true, false, cond, not, _&&_, _||_}
-use mathlib.Core.Logic.{_⊎_, inl, inr}
-use mathlib.Core.Option.{Option, some}
+use mathlib.Core.Path.{_≡_, refl}
+use mathlib.Core.Bool.{true, false, cond, not, _&&_}
+use mathlib.Core.Option.{some}
 use mathlib.Core.List.{List}
-use Prim.Native.Nat.{ℕ, suc, _+_, _*_, _-_, _/_, _%_, _^_, _≤_, _<_, min}
+use Prim.Native.Nat.{ℕ, _+_, _-_, _%_, _^_, _≤_, _<_, min}
 use native.Mathlib.Omega.{arith}
 use lib.Dec.{eqb, ltb, leb}
-use borrow.Author.Tests.{eqb-true, eqb-false, eq-eqb, ne-eqb, not-true, ltb-true, lt-ltb, le-leb}
+use borrow.Author.Tests.{ne-eqb, not-true, ltb-true, lt-ltb, le-leb}
 use Rattle.lists.specs.All.{cond-keeps}
-use Rattle.lists.specs.Tests.{either, and-left, and-right}
+use Rattle.lists.specs.Tests.{and-left, and-right}
 use Rattle.table.specs.Table.{endA, endB}
-use Rattle.rules.specs.Basics.{ABSENT, MAX-NUMBER, at, bounded, isRoot, offTree, heard}
+use Rattle.rules.specs.Basics.{ABSENT, MAX-NUMBER, at, bounded, isRoot}
 use Rattle.rules.specs.BoundLaws.{Names}
-use Rattle.rules.specs.Range.{placeHeard, localOf, unitAt, localAt, endPlace, globalFirst, rangeFirst, littleFirst, bigFirst, odd, movesLittle, movesBig, segment, segmentBefore, withLittle, withBig, rangeLater, littleLater, bigLater, globalLater}
-use Rattle.rules.specs.Aux.{linkJoinsRound, joinsParent, parentJoinsRound, joined, heardOver, leastJoined, auxRound}
+use Rattle.rules.specs.Range.{placeHeard, localOf, unitAt, localAt, endPlace, globalFirst, rangeFirst, littleFirst, bigFirst, odd, movesLittle, movesBig, withLittle, withBig, rangeLater, littleLater, bigLater, globalLater}
+use Rattle.rules.specs.Aux.{linkJoinsRound, joinsParent, parentJoinsRound, heardOver, leastJoined, auxRound}
 use Rattle.rules.specs.Labels.{namingUnit, classRound, labelOf, labelRound}
-use Rattle.reach.specs.Partial
-use Rattle.reach.specs.Partial.{Value, Test, absent, read, minus, half, both, nots, ands, ors, ifs, folds, counts, anys, overs}
+use Rattle.reach.specs.Partial.{Value, read, minus, both, nots, ands, ors, ifs, folds, overs}
 use Rattle.reach.specs.ExactRules
 use Rattle.reach.specs.ExactLaws1.{end-a, end-b, root, marked, off, heards, below-of}
 

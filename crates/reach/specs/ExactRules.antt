@@ -1,14 +1,14 @@
 -- The rules of the ten stages as document 01 has them, where each of the three things that it settles for other states has no value: a read at an
 -- absent or missing place, half of an odd number, and a number past its bound. Tables by unit or by place are read below n, by arc below 2n, by link
 -- below m, and the ends below 2m; numbers have no bound. To be read beside `rules`: each word stands under its name there, with a question mark.
-use mathlib.Core.Bool.{Bool, cond}
+use mathlib.Core.Bool.{cond}
 use mathlib.Core.Option.{Option, some}
 use mathlib.Core.List.{List}
 use Prim.Native.Nat.{ℕ, suc, _*_, _^_, min}
 use lib.Dec.{eqb}
 use Rattle.rules.specs.Components.{colorSaid}
 use Rattle.rules.specs.Aux.{auxSaid}
-use Rattle.reach.specs.Partial.{Value, Test, absent, at?, half?, minus?, both?, plus?, times?, rest?, eq?, lt?, le?, not?, and?, or?, if?, fold?, least?, count?, any?, over?}
+use Rattle.reach.specs.Partial.{Value, Test, absent, at?, half?, minus?, both?, plus?, times?, remainder?, eq?, lt?, le?, not?, and?, or?, if?, fold?, least?, count?, any?, over?}
 
 -- ---- what the stages share
 
@@ -71,7 +71,7 @@ treeEnds? n m made ends color dist = not? (any? n (visits? n m made ends color d
 -- ---- stage 3
 
 unfoldable pub isInto? : Value → Test
-isInto? a = eq? (rest? a (some 2)) (some 0)
+isInto? a = eq? (remainder? a (some 2)) (some 0)
 
 -- half of an arc into a unit, or of the one before an arc out of it
 unfoldable pub arcUnit? : Value → Value
@@ -209,7 +209,7 @@ unfoldable pub bigFirst? : ℕ → List ℕ → List ℕ → List ℕ → Option
 bigFirst? n nd pre big = over? n (lastPlace? n nd pre) big
 
 unfoldable pub odd? : ℕ → Value → Test
-odd? i x = not? (eq? (rest? x (some (2 ^ suc i))) (some 0))
+odd? i x = not? (eq? (remainder? x (some (2 ^ suc i))) (some 0))
 
 unfoldable pub movesLittle? : ℕ → ℕ → List ℕ → List ℕ → Value → Test
 movesLittle? i n little big v = and? (lt? (at? n little v) (at? n big v)) (odd? i (at? n little v))

@@ -183,4 +183,4 @@ stepExact s =
 -- stepExact, k times
 unfoldable pub stepsExact : ℕ → Survey → Option Survey
 stepsExact zero s = some s
-stepsExact (suc k) s = stepExact s >>= stepsExact k
+stepsExact (suc k) s = stepsExact k s >>= stepExact

@@ -30,3 +30,5 @@ pub mod ExactStep
 pub mod ExactLaws1
 pub mod ExactLaws2
 pub mod ExactLaws3
+pub mod ExactTables
+pub mod ExactReach

@@ -1,6 +1,6 @@
 -- Numbers and tests that may have no value, and the words of the rules over them. A read at an absent or missing place, half of an odd number and a
 -- difference below 0 have none; whatever needs one that is missing has none either, and what is not needed is not looked at.
-use mathlib.Core.Path.{_≡_, refl, ap}
+use mathlib.Core.Path.{_≡_, refl}
 use mathlib.Core.Bool.{Bool, true, false, cond, not, _&&_, _||_}
 use mathlib.Core.Option.{Option, none, some, Option·map}
 use mathlib.Core.List.{List, [], _∷_}
@@ -10,11 +10,10 @@ use native.Mathlib.Omega.{arith}
 use lib.Dec.{eqb, leb, ltb}
 use borrow.Author.Tests.{eq-eqb, le-leb, lt-ltb}
 use Rattle.lists.specs.Tables.{over}
-use Rattle.lists.specs.Folds.{fold, least, count, some as any}
+use Rattle.lists.specs.Folds.{fold, count, some as any}
 use Rattle.rules.specs.Basics.{ABSENT, at}
 
 infixl 20 _>>=_
-
 abbrev pub Value : Type 0
 Value = Option ℕ
 
@@ -60,8 +59,8 @@ plus? = both? _+_
 abbrev pub times? : Value → Value → Value
 times? = both? _*_
 
-abbrev pub rest? : Value → Value → Value
-rest? = both? _%_
+abbrev pub remainder? : Value → Value → Value
+remainder? = both? _%_
 
 abbrev pub eq? : Value → Value → Test
 eq? = both? eqb
@@ -151,6 +150,11 @@ pub ifs : {A : Type 0} {t : Test} {b : Bool} {x y : Option A} {u v : A} → t �
 unfolding if?
 ifs {b = true} e f g = rw e (f refl)
 ifs {b = false} e f g = rw e (g refl)
+
+-- the same of a test that has its value
+pub conds : {A : Type 0} (b : Bool) {x y : Option A} {u v : A} → (b ≡ true → x ≡ some u) → (b ≡ false → y ≡ some v) → cond b x y ≡ some (cond b u v)
+conds true f g = f refl
+conds false f g = g refl
 
 pub folds : (op : ℕ → ℕ → ℕ) (n : ℕ) (f : Value → Value) (g : ℕ → ℕ) {x : Value} {a : ℕ} → ((i : ℕ) → i < n → f (some i) ≡ some (g i)) → x ≡ some a
     → fold? op n f x ≡ some (fold op n g a)
