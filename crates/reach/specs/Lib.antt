@@ -24,3 +24,11 @@ pub mod Rounds7and8
 pub mod Rounds9and10
 pub mod Loaded
 pub mod Reach
+pub mod Partial
+pub mod ExactRules
+pub mod ExactStep
+pub mod ExactLaws1
+pub mod ExactLaws2
+pub mod ExactLaws3
+pub mod ExactTables
+pub mod ExactReach

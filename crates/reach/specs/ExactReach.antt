@@ -1,0 +1,171 @@
+-- After a load none of the three things of document 01 occurs, and no ceiling cuts a stage short: every round that a load leads to is the exact one.
+use mathlib.Core.Path.{_≡_, refl, sym, _∙_}
+use mathlib.Core.Bool.{Bool, true, cond}
+use mathlib.Core.Option.{some}
+use mathlib.Core.List.{List}
+use Prim.Native.Nat.{ℕ, zero, suc, _+_, _≤_, _<_, min}
+use native.Mathlib.Decide.{decLt}
+use native.Mathlib.Omega.{arith}
+use borrow.Author.Tests.{eq-eqb, ne-eqb}
+use Rattle.table.specs.Table.{tableRefusal}
+use Rattle.survey.specs.declared.state.Survey.{Survey}
+use Rattle.survey.specs.declared.state.Clock.{Clock}
+use Rattle.survey.specs.State.{finished, FINISHED, MAX-ROUNDS, MAX-REQUESTS}
+use Rattle.survey.specs.Load.{loaded}
+use Rattle.survey.specs.Step
+use Rattle.survey.specs.StageLaws.{ticked, step-1, step-2, step-3, step-4, step-5, step-6, step-7, step-8, step-9, step-10, ends-6}
+use Rattle.survey.specs.StepLaws.{loaded-wellFormed, first-countdown}
+use Rattle.survey.specs.RunLaws.{steps-suc, step-finished, ended-exact, total, total-least, total-countdown}
+use Rattle.reach.specs.Invariant.{Base, In6, Reached, in1, in2, in3, in4, in5, in6, in7, in8, in9, in10, in11}
+use Rattle.reach.specs.RankingOf.{first-potential, second-potential}
+use Rattle.reach.specs.Ticks.{Goes}
+use Rattle.reach.specs.Reach.{base-steps, reached-steps, goes-on, rounds-steps}
+use Rattle.reach.specs.Partial.{conds}
+use Rattle.reach.specs.ExactStep
+use Rattle.reach.specs.ExactStep.{stepExact, stepsExact, exactClock}
+use Rattle.reach.specs.ExactTables.{ends-exact, requests-exact, components-exact, tree-exact, tour-exact, ranking-exact, marks-exact, places-exact, range-exact, edges-exact, aux-exact, labels-exact}
+
+-- the exact round makes the tables of the round
+record Exact (s : Survey) : Type 0 where
+  ends : ExactStep.ruleEnds? s ≡ some (Step.ruleEnds s)
+  tables : Survey
+  plain : Step.step s ≡ ticked s tables
+  exact : ExactStep.roundTables? (Step.ruleEnds s) s ≡ some tables
+
+-- ---- the tables at each stage, by the number that the clock shows
+
+tables-1 : (last : Bool) (s : Survey) → s .clock .stage ≡ 1 → ExactStep.roundTables? last s ≡ ExactStep.components? s
+unfolding ExactStep.roundTables?
+tables-1 last s e = rw e refl
+
+tables-2 : (last : Bool) (s : Survey) → s .clock .stage ≡ 2 → ExactStep.roundTables? last s ≡ ExactStep.tree? s
+unfolding ExactStep.roundTables?
+tables-2 last s e = rw e refl
+
+tables-3 : (last : Bool) (s : Survey) → s .clock .stage ≡ 3 → ExactStep.roundTables? last s ≡ ExactStep.tour? s
+unfolding ExactStep.roundTables?
+tables-3 last s e = rw e refl
+
+tables-4 : (last : Bool) (s : Survey) → s .clock .stage ≡ 4 → ExactStep.roundTables? last s ≡ ExactStep.ranking? s
+unfolding ExactStep.roundTables?
+tables-4 last s e = rw e refl
+
+tables-5 : (last : Bool) (s : Survey) → s .clock .stage ≡ 5 → ExactStep.roundTables? last s ≡ ExactStep.marks? s
+unfolding ExactStep.roundTables?
+tables-5 last s e = rw e refl
+
+tables-6 : (last : Bool) (s : Survey) → s .clock .stage ≡ 6 → ExactStep.roundTables? last s ≡ cond last (ExactStep.places? s) (ExactStep.ranking? s)
+unfolding ExactStep.roundTables?
+tables-6 last s e = rw e refl
+
+tables-7 : (last : Bool) (s : Survey) → s .clock .stage ≡ 7 → ExactStep.roundTables? last s ≡ ExactStep.range? s
+unfolding ExactStep.roundTables?
+tables-7 last s e = rw e refl
+
+tables-8 : (last : Bool) (s : Survey) → s .clock .stage ≡ 8 → ExactStep.roundTables? last s ≡ ExactStep.auxEdges? s
+unfolding ExactStep.roundTables?
+tables-8 last s e = rw e refl
+
+tables-9 : (last : Bool) (s : Survey) → s .clock .stage ≡ 9 → ExactStep.roundTables? last s ≡ ExactStep.auxComponents? s
+unfolding ExactStep.roundTables?
+tables-9 last s e = rw e refl
+
+tables-10 : (last : Bool) (s : Survey) → s .clock .stage ≡ 10 → ExactStep.roundTables? last s ≡ ExactStep.labels? s
+unfolding ExactStep.roundTables?
+tables-10 last s e = rw e refl
+
+-- ---- every stage
+
+module _ (s : Survey) (b : Base s) where
+  -- at any stage but 9 the end asks for no tree
+  ends-at : (k : ℕ) → s .clock .stage ≡ k → (k ≡ 9 → ⊥) → ExactStep.ruleEnds? s ≡ some (Step.ruleEnds s)
+  ends-at k e h = ends-exact s b (λ q. absurd (h (sym e ∙ q)))
+
+  -- the second ranking: places with its last round
+  last-6 : (i : In6 s) → Step.lastRound s ≡ Step.ruleEnds s
+      → cond (Step.ruleEnds s) (ExactStep.places? s) (ExactStep.ranking? s) ≡ some (cond (Step.lastRound s) (Step.places s) (Step.ranking s))
+  last-6 i u =
+      rw u
+      (conds (Step.ruleEnds s) (λ q. places-exact s b i (sym (ends-6 s (i .stage)) ∙ q)) (λ q. ranking-exact s (second-potential s b (i .treed)) (i .ranked)))
+
+  exact : Reached s → Step.lastRound s ≡ Step.ruleEnds s → (s .clock .stage ≡ FINISHED → ⊥) → Exact s
+  exact (in1 i) u h =
+      record { ends = ends-at 1 (i .stage) (omega arith); tables = Step.components s; plain = step-1 s (i .stage); exact = tables-1 _ s (i .stage) ∙ components-exact s b }
+  exact (in2 i) u h = record { ends = ends-at 2 (i .stage) (omega arith); tables = Step.tree s; plain = step-2 s (i .stage); exact = tables-2 _ s (i .stage) ∙ tree-exact s b }
+  exact (in3 i) u h =
+      record { ends = ends-at 3 (i .stage) (omega arith); tables = Step.tour s; plain = step-3 s (i .stage); exact = tables-3 _ s (i .stage) ∙ tour-exact s b (i .treed) }
+  exact (in4 i) u h =
+      record {
+        ends = ends-at 4 (i .stage) (omega arith);
+        tables = Step.ranking s;
+        plain = step-4 s (i .stage);
+        exact = tables-4 _ s (i .stage) ∙ ranking-exact s (first-potential s b (i .toured .treed)) (i .ranked);
+      }
+  exact (in5 i) u h =
+      record { ends = ends-at 5 (i .stage) (omega arith); tables = Step.marks s; plain = step-5 s (i .stage); exact = tables-5 _ s (i .stage) ∙ marks-exact s b (i .toured .treed) (i .held) }
+  exact (in6 i) u h =
+      record {
+        ends = ends-at 6 (i .stage) (omega arith);
+        tables = cond (Step.lastRound s) (Step.places s) (Step.ranking s);
+        plain = step-6 s (i .stage);
+        exact = tables-6 _ s (i .stage) ∙ last-6 i u;
+      }
+  exact (in7 i) u h = record { ends = ends-at 7 (i .stage) (omega arith); tables = Step.range s; plain = step-7 s (i .stage); exact = tables-7 _ s (i .stage) ∙ range-exact s b i }
+  exact (in8 i) u h =
+      record { ends = ends-at 8 (i .stage) (omega arith); tables = Step.auxEdges s; plain = step-8 s (i .stage); exact = tables-8 _ s (i .stage) ∙ edges-exact s b (i .numbered .treed) }
+  exact (in9 i) u h =
+      record {
+        ends = ends-exact s b (λ q. i .numbered .treed);
+        tables = Step.auxComponents s;
+        plain = step-9 s (i .stage);
+        exact = tables-9 _ s (i .stage) ∙ aux-exact s b (i .numbered .treed);
+      }
+  exact (in10 i) u h = record { ends = ends-at 10 (i .stage) (omega arith); tables = Step.labels s; plain = step-10 s (i .stage); exact = tables-10 _ s (i .stage) ∙ labels-exact s b }
+  exact (in11 i) u h = absurd (h (i .stage))
+
+-- ---- the round
+
+-- within their limits rounds and requests are added up
+clock-exact : (last : Bool) (r : ℕ) (c : Clock) → c .rounds + 1 ≤ MAX-ROUNDS → c .requests + r ≤ MAX-REQUESTS → exactClock last r c ≡ Step.nextClock last r c
+unfolding exactClock Step.nextClock
+clock-exact last r c h k =
+    let rounds : min (c .rounds + 1) MAX-ROUNDS ≡ c .rounds + 1 = omega arith in
+    let requests : min (c .requests + r) MAX-REQUESTS ≡ c .requests + r = omega arith in
+    rw (rounds, requests) refl
+
+round-exact : (s : Survey) → (s .clock .stage ≡ FINISHED → ⊥) → Exact s → Goes s → s .clock .rounds + 1 ≤ MAX-ROUNDS → stepExact s ≡ some (Step.step s)
+unfolding stepExact
+round-exact s h x g l =
+    let clock : exactClock (Step.ruleEnds s) (Step.roundRequests s) (s .clock) ≡ Step.nextClock (Step.lastRound s) (Step.roundRequests s) (s .clock) =
+    rw (g .uncut) (clock-exact (Step.ruleEnds s) (Step.roundRequests s) (s .clock) l (g .unclamped)) in
+    rw (ne-eqb (s .clock .stage) FINISHED h, x .ends, requests-exact s, x .exact, x .plain, clock) refl
+
+-- ---- every round from a load
+
+module _ (n : ℕ) (t : List ℕ) (accepted : tableRefusal n t ≡ 0) where
+  -- the exact round of every state before the end is defined, and is the round
+  pub step-exact : (k : ℕ) → k < total (loaded n t) → stepExact (Step.steps k (loaded n t)) ≡ some (Step.step (Step.steps k (loaded n t)))
+  step-exact k l =
+      let goes : Goes (Step.steps k (loaded n t)) = goes-on n t accepted k l in
+      let going : Step.steps k (loaded n t) .clock .stage ≡ FINISHED → ⊥ = total-least (loaded n t) (loaded-wellFormed n t accepted) .least k l in
+      round-exact (Step.steps k (loaded n t)) going
+      (exact (Step.steps k (loaded n t)) (base-steps n t accepted k) (reached-steps n t accepted k) (goes .uncut) going) goes
+      (omega (arith, rounds-steps n t accepted k (omega arith), total-countdown (loaded n t), first-countdown n t accepted))
+
+  -- a finished survey stays as it is either way
+  step-exact-after : (k : ℕ) → total (loaded n t) ≤ k → stepExact (Step.steps k (loaded n t)) ≡ some (Step.step (Step.steps k (loaded n t)))
+  unfolding stepExact
+  step-exact-after k l =
+      let over : finished (Step.steps k (loaded n t)) ≡ true =
+      eq-eqb (Step.steps k (loaded n t) .clock .stage) FINISHED (ended-exact (loaded n t) (loaded-wellFormed n t accepted) k .1 l) in
+      rw (step-finished (Step.steps k (loaded n t)) over, over) refl
+
+  -- so any number of rounds from a load are exact
+  pub steps-exact : (k : ℕ) → stepsExact k (loaded n t) ≡ some (Step.steps k (loaded n t))
+  unfolding stepsExact Step.steps
+  steps-exact zero = refl
+  steps-exact (suc k) = rw (steps-exact k, steps-suc k (loaded n t)) (go (decLt k (total (loaded n t))))
+    where
+      go : Dec (k < total (loaded n t)) → stepExact (Step.steps k (loaded n t)) ≡ some (Step.step (Step.steps k (loaded n t)))
+      go (yes l) = step-exact k l
+      go (no l) = step-exact-after k (omega arith)
