@@ -1,3 +1,5 @@
 pub mod Play
 pub mod PlayLaws
 pub mod Claim
+pub mod Words
+pub mod WordLaws

@@ -14,7 +14,7 @@ use Rattle.rules.specs.Basics.{ABSENT, at, isRoot, offTree, heard}
 use Rattle.rules.specs.Components.{leastHeard, colorRound}
 use Rattle.rules.specs.Tree.{candidate, chosenParent, visits, parentRound, distRound, treeEnds}
 use Rattle.rules.specs.Tour.{arcUnit, isInto, isArc, treeNeighbor, leastNeighbor, greaterNeighbor, neighborAfter, arcAfter, follower, isStart, predecessor, nextRound, predRound, firstSums, firstJumps}
-use Rattle.rules.specs.TourLaws.{after-next}
+use Rattle.rules.specs.CyclicOrder.{after-next}
 use Rattle.rules.specs.BoundLaws.{Names}
 use Rattle.reach.specs.Partial
 use Rattle.reach.specs.Partial.{Value, Test, read, minus, half, both, nots, ands, ors, ifs, conds, folds, anys, overs}

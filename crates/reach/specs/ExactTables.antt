@@ -18,7 +18,7 @@ use Rattle.rules.specs.Tour.{arcUnit, isArc}
 use Rattle.rules.specs.Ranking.{asks, rankingEnds}
 use Rattle.rules.specs.Range.{unitAt, localAt, globalFirst, rangeFirst, movesLittle, movesBig, odd}
 use Rattle.rules.specs.ChoiceLaws.{AtLeast}
-use Rattle.rules.specs.RangeLaws.{unit-at}
+use Rattle.rules.specs.RangeEntries.{unit-at}
 use Rattle.rules.specs.Order.{placeOf}
 use Rattle.survey.specs.declared.state.Survey.{Survey}
 use Rattle.survey.specs.State.{units, links}
