@@ -160,12 +160,16 @@ module _ (n : ℕ) (t : List ℕ) (accepted : tableRefusal n t ≡ 0) where
       eq-eqb (Step.steps k (loaded n t) .clock .stage) FINISHED (ended-exact (loaded n t) (loaded-wellFormed n t accepted) k .1 l) in
       rw (step-finished (Step.steps k (loaded n t)) over, over) refl
 
-  -- so any number of rounds from a load are exact
-  pub steps-exact : (k : ℕ) → stepsExact k (loaded n t) ≡ some (Step.steps k (loaded n t))
-  unfolding stepsExact Step.steps
-  steps-exact zero = refl
-  steps-exact (suc k) = rw (steps-exact k, steps-suc k (loaded n t)) (go (decLt k (total (loaded n t))))
+  -- so the exact round of every state that a load reaches is the round,
+  pub every-step-exact : (k : ℕ) → stepExact (Step.steps k (loaded n t)) ≡ some (Step.step (Step.steps k (loaded n t)))
+  every-step-exact k = go (decLt k (total (loaded n t)))
     where
       go : Dec (k < total (loaded n t)) → stepExact (Step.steps k (loaded n t)) ≡ some (Step.step (Step.steps k (loaded n t)))
       go (yes l) = step-exact k l
       go (no l) = step-exact-after k (omega arith)
+
+  -- and any number of exact rounds lead where the rounds do
+  pub steps-exact : (k : ℕ) → stepsExact k (loaded n t) ≡ some (Step.steps k (loaded n t))
+  unfolding stepsExact Step.steps
+  steps-exact zero = refl
+  steps-exact (suc k) = rw (steps-exact k, steps-suc k (loaded n t)) (every-step-exact k)

@@ -1,6 +1,6 @@
--- The rules of the ten stages as document 01 has them, where each of the three things that it settles for other states has no value: a read at an
--- absent or missing place, half of an odd number, and a number past its bound. Tables by unit or by place are read below n, by arc below 2n, by link
--- below m, and the ends below 2m; numbers have no bound. To be read beside `rules`: each word stands under its name there, with a question mark.
+-- The rules of the ten stages where the three things that document 01 settles for other states cannot pass unseen: a read at an absent or missing place
+-- and half of an odd number have no value, and numbers have no bound. Tables by unit or by place are read below n, by arc below 2n, by link below m,
+-- and the ends below 2m. To be read beside `rules`: each word stands under its name there, with a question mark.
 use mathlib.Core.Bool.{cond}
 use mathlib.Core.Option.{Option, some}
 use mathlib.Core.List.{List}

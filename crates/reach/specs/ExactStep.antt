@@ -1,5 +1,5 @@
--- One round by the exact rules: defined only where none of the three things of document 01 occurs. No number has a bound, all rounds and requests
--- neither, and a stage ends at its own rule alone: its ceiling is not looked at. To be read beside survey's `Step`.
+-- One round by the exact rules: it has no value where it reads at an absent or missing place or halves an odd number. No number has a bound, nor have
+-- all rounds and requests, and a stage ends at its own rule alone: its ceiling is not looked at. To be read beside survey's `Step`.
 use mathlib.Core.Bool.{Bool, true, cond, _||_}
 use mathlib.Core.Option.{Option, some}
 use mathlib.Core.List.{List}
@@ -125,7 +125,7 @@ labelPositions? s = do
 unfoldable pub labels? : Survey → Option Survey
 labels? s = cond (eqb (s .clock .made) 0) (labelClasses? s) (labelPositions? s)
 
--- ---- the end of a stage, by its rule alone
+-- ---- the end of a stage, by its rule alone; what a round changed is seen from the entries below n
 
 unfoldable pub ruleEnds? : Survey → Test
 ruleEnds? s =

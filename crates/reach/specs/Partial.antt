@@ -22,7 +22,7 @@ Test = Option Bool
 
 -- ---- what may have no value
 
--- an entry of a table of k: one below k
+-- the entry at an index below k. The arrays have k entries and more (`Sized`), so that each such index has one
 unfoldable pub at? : ℕ → List ℕ → Value → Value
 at? k t none = none
 at? k t (some i) = cond (ltb i k) (some (at t i)) none
@@ -35,6 +35,23 @@ unfoldable pub minus? : Value → Value → Value
 minus? none b = none
 minus? (some a) none = none
 minus? (some a) (some b) = cond (leb b a) (some (a - b)) none
+
+-- at the edges there is none
+no-absent : (t : List ℕ) → at? 2 t (some ABSENT) ≡ none
+unfolding at?
+no-absent t = refl
+
+no-missing : (t : List ℕ) → at? 2 t (some 2) ≡ none
+unfolding at?
+no-missing t = refl
+
+no-half : half? (some 3) ≡ none
+unfolding half?
+no-half = refl
+
+no-negative : minus? (some 1) (some 2) ≡ none
+unfolding minus?
+no-negative = refl
 
 -- ---- what has a value where its parts have
 
