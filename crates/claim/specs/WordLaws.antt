@@ -24,7 +24,7 @@ words-last (k ∷ a ∷ b ∷ ws) i s replies out =
     words-last ws (i + 1) (answerTo (callOf k a b out) s .survey) (sets replies (8 * i) (encoded (answerTo (callOf k a b out) s .reply))) (outAfter k a b out s)
 
 pub words-replies : (ws : List ℕ) (i : ℕ) (s : Survey) (replies out : List ℕ)
-  → playWords ws i s replies out .replies ≡ stored (play (callsIn ws s out) s .replies) i replies
+    → playWords ws i s replies out .replies ≡ stored (play (callsIn ws s out) s .replies) i replies
 unfolding playWords callsIn play
 words-replies [] i s replies out = refl
 words-replies (k ∷ []) i s replies out = refl
@@ -34,5 +34,5 @@ words-replies (k ∷ a ∷ b ∷ ws) i s replies out =
 
 -- the claim, of calls given as words
 pub words-claim : (n : ℕ) (t : List ℕ) (s : Survey) → Loaded n t s → (ws replies out : List ℕ)
-  → Claim n t s (callsIn ws s out) (playWords ws 0 s replies out .last) (used (callsIn ws s out) (play (callsIn ws s out) s .replies))
+    → Claim n t s (callsIn ws s out) (playWords ws 0 s replies out .last) (used (callsIn ws s out) (play (callsIn ws s out) s .replies))
 words-claim n t s l ws replies out = rw (words-last ws 0 s replies out) (claim n t s l (callsIn ws s out))
