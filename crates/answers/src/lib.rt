@@ -3,6 +3,7 @@
 mod flags;
 mod lines;
 mod links;
+mod listing;
 mod units;
 
 pub use flags::count_flags;
@@ -13,5 +14,7 @@ pub use lines::tail_line;
 pub use lines::unit_line;
 pub use links::lone;
 pub use links::lones;
+pub use listing::link_lines;
+pub use listing::unit_lines;
 pub use units::single;
 pub use units::singles;
