@@ -42,82 +42,98 @@ module _ (s : Survey) (out : List ℕ) where
   report-fits n m h =
       rw (le-leb (units s) maxUnits n, le-leb (links s) maxLinks m, le-leb (reportLength (units s) (links s)) (length out) h, length-report s)
 
--- ---- the parts
+-- ---- the lines of units and of links, from the tables and the flags
 
--- what the tables and the flags say
-abbrev pub unitSays : Survey → ℕ → List ℕ
-unitSays s = unitBody (s .components .color) (s .tree .parent) (s .order .pre) (flagTable maxUnits (units s) (unitSingle s))
+abbrev pub singleFlags : Survey → List ℕ
+singleFlags s = flagTable maxUnits (units s) (unitSingle s)
 
-abbrev pub linkSays : Survey → ℕ → List ℕ
-linkSays s = linkBody (s .labels .label) (flagTable maxLinks (links s) (linkLone s))
+abbrev pub loneFlags : Survey → List ℕ
+loneFlags s = flagTable maxLinks (links s) (linkLone s)
+
+module _ (s : Survey) (out : List ℕ) (n : units s ≤ maxUnits) (fits : 23 * units s ≤ length out) where
+  abbrev unitSays : ℕ → List ℕ
+  unitSays = unitBody (s .components .color) (s .tree .parent) (s .order .pre) (singleFlags s)
+
+  units-same : linesOf (units s) unitSays ≡ gathered (units s) (unitLine s)
+  unfolding unitLine
+  units-same =
+      gathered-cong (units s) (λ (v : ℕ). lineOf (unitSays v)) (unitLine s)
+      (λ (v : ℕ) (l : v < units s). rw (flag-at maxUnits (units s) (unitSingle s) v l (omega arith)))
+
+  pub units-laid : linesOver 23 (units s) (unitBody (s .components .color) (s .tree .parent) (s .order .pre) (singleFlags s)) out
+      ≡ gathered (units s) (unitLine s) ++ drop (23 * units s) out
+  units-laid = linesOver-fits 23 (units s) unitSays out fits ∙ ap (λ (l : List ℕ). l ++ drop (23 * units s) out) units-same
+
+module _ (s : Survey) (out : List ℕ) (m : links s ≤ maxLinks) (fits : 15 * links s ≤ length out) where
+  abbrev linkSays : ℕ → List ℕ
+  linkSays = linkBody (s .labels .label) (loneFlags s)
+
+  links-same : linesOf (links s) linkSays ≡ gathered (links s) (linkLine s)
+  unfolding linkLine
+  links-same =
+      gathered-cong (links s) (λ (j : ℕ). lineOf (linkSays j)) (linkLine s)
+      (λ (j : ℕ) (l : j < links s). rw (flag-at maxLinks (links s) (linkLone s) j l (omega arith)))
+
+  pub links-laid : linesOver 15 (links s) (linkBody (s .labels .label) (loneFlags s)) out ≡ gathered (links s) (linkLine s) ++ drop (15 * links s) out
+  links-laid = linesOver-fits 15 (links s) linkSays out fits ∙ ap (λ (l : List ℕ). l ++ drop (15 * links s) out) links-same
+
+-- ---- the parts one after the other
 
 abbrev pub headSays : Survey → List ℕ
 headSays s = 0x11 ∷ wordBytes (s .clock .rounds) ++ wordBytes (s .clock .requests)
 
 abbrev pub tailSays : Survey → List ℕ
-tailSays s =
-    0x1F
-    ∷ wordBytes (count (units s) (λ (i : ℕ). eqb (getD (flagTable maxUnits (units s) (unitSingle s)) i 0) 1))
-    ++ wordBytes (count (links s) (λ (i : ℕ). eqb (getD (flagTable maxLinks (links s) (linkLone s)) i 0) 1))
+tailSays s = 0x1F ∷ wordBytes (count (units s) (unitSingle s)) ++ wordBytes (count (links s) (linkLone s))
 
-module _ (s : Survey) (out : List ℕ) (n : units s ≤ maxUnits) (m : links s ≤ maxLinks) (fits : reportLength (units s) (links s) ≤ length out) where
-  units-same : linesOf (units s) (unitSays s) ≡ gathered (units s) (unitLine s)
-  unfolding unitLine
-  units-same =
-      gathered-cong (units s) (λ (v : ℕ). lineOf (unitSays s v)) (unitLine s)
-      (λ (v : ℕ) (l : v < units s). rw (flag-at maxUnits (units s) (unitSingle s) v l (omega arith)))
+abbrev pub unitEnd : Survey → ℕ
+unitEnd s = 13 + 23 * units s
 
-  links-same : linesOf (links s) (linkSays s) ≡ gathered (links s) (linkLine s)
-  unfolding linkLine
-  links-same =
-      gathered-cong (links s) (λ (j : ℕ). lineOf (linkSays s j)) (linkLine s)
-      (λ (j : ℕ) (l : j < links s). rw (flag-at maxLinks (links s) (linkLone s) j l (omega arith)))
+abbrev pub linkEnd : Survey → ℕ
+linkEnd s = unitEnd s + 15 * links s
 
-  tail-same : lineOf (tailSays s) ≡ tailLine s
-  unfolding tailLine
-  tail-same = rw (flags-count maxUnits (units s) (unitSingle s) n, flags-count maxLinks (links s) (linkLone s) m)
+-- a slice whose rest from a place on is overwritten by a part
+abbrev pub laidAt : ℕ → List ℕ → ℕ → List ℕ → List ℕ
+laidAt at part long xs = back at xs (part ++ drop long (lent at xs))
 
-  abbrev unitEnd : ℕ
-  unitEnd = 13 + 23 * units s
+-- the first line, the units and the links laid down
+abbrev pub linksDown : Survey → List ℕ → List ℕ
+linksDown s out =
+    laidAt (unitEnd s) (gathered (links s) (linkLine s)) (15 * links s)
+    (laidAt 13 (gathered (units s) (unitLine s)) (23 * units s) (lineOver (headSays s) out))
 
-  abbrev linkEnd : ℕ
-  linkEnd = unitEnd + 15 * links s
+module _ (s : Survey) (out : List ℕ) (fits : reportLength (units s) (links s) ≤ length out) where
+  abbrev unitPart : List ℕ
+  unitPart = gathered (units s) (unitLine s)
 
-  laid-head : lineOver (headSays s) out ≡ headLine s ++ drop 13 out
+  abbrev linkPart : List ℕ
+  linkPart = gathered (links s) (linkLine s)
+
+  after-head : lineOver (headSays s) out ≡ headLine s ++ drop 13 out
   unfolding headLine
-  laid-head = lineOver-fits (headSays s) out (omega arith)
+  after-head = lineOver-fits (headSays s) out (omega arith)
 
-  laid-units : back 13 (headLine s ++ drop 13 out) (linesOver 23 (units s) (unitSays s) (lent 13 (headLine s ++ drop 13 out)))
-      ≡ (headLine s ++ gathered (units s) (unitLine s)) ++ drop unitEnd out
-  laid-units =
-      back-next (linesOver 23 (units s) (unitSays s)) (gathered (units s) (unitLine s)) (headLine s) out 13 (23 * units s) (length-head s)
-      (linesOver-fits 23 (units s) (unitSays s) (drop 13 out) (omega (arith, length-drop 13 out))
-      ∙ ap (λ (l : List ℕ). l ++ drop (23 * units s) (drop 13 out)) units-same)
+  after-units : laidAt 13 unitPart (23 * units s) (headLine s ++ drop 13 out) ≡ (headLine s ++ unitPart) ++ drop (unitEnd s) out
+  after-units = back-next (λ (r : List ℕ). unitPart ++ drop (23 * units s) r) unitPart (headLine s) out 13 (23 * units s) (length-head s) refl
 
-  abbrev before : List ℕ
-  before = headLine s ++ gathered (units s) (unitLine s)
+  units-end : length (headLine s ++ unitPart) ≡ unitEnd s
+  units-end = length-append (headLine s) unitPart ∙ omega (arith, length-head s, units-long s)
 
-  before-long : length before ≡ unitEnd
-  before-long = length-append (headLine s) (gathered (units s) (unitLine s)) ∙ omega (arith, length-head s, units-long s)
+  after-links : laidAt (unitEnd s) linkPart (15 * links s) ((headLine s ++ unitPart) ++ drop (unitEnd s) out)
+      ≡ ((headLine s ++ unitPart) ++ linkPart) ++ drop (linkEnd s) out
+  after-links =
+      back-next (λ (r : List ℕ). linkPart ++ drop (15 * links s) r) linkPart (headLine s ++ unitPart) out (unitEnd s) (15 * links s) units-end refl
 
-  laid-links : back unitEnd (before ++ drop unitEnd out) (linesOver 15 (links s) (linkSays s) (lent unitEnd (before ++ drop unitEnd out)))
-      ≡ (before ++ gathered (links s) (linkLine s)) ++ drop linkEnd out
-  laid-links =
-      back-next (linesOver 15 (links s) (linkSays s)) (gathered (links s) (linkLine s)) before out unitEnd (15 * links s) before-long
-      (linesOver-fits 15 (links s) (linkSays s) (drop unitEnd out) (omega (arith, length-drop unitEnd out))
-      ∙ ap (λ (l : List ℕ). l ++ drop (15 * links s) (drop unitEnd out)) links-same)
+  links-end : length ((headLine s ++ unitPart) ++ linkPart) ≡ linkEnd s
+  links-end = length-append (headLine s ++ unitPart) linkPart ∙ omega (arith, units-end, links-long s)
 
-  all : List ℕ
-  all = before ++ gathered (links s) (linkLine s)
-
-  all-long : length (before ++ gathered (links s) (linkLine s)) ≡ linkEnd
-  all-long = length-append before (gathered (links s) (linkLine s)) ∙ omega (arith, before-long, links-long s)
-
-  laid-tail : back linkEnd ((before ++ gathered (links s) (linkLine s)) ++ drop linkEnd out)
-      (lineOver (tailSays s) (lent linkEnd ((before ++ gathered (links s) (linkLine s)) ++ drop linkEnd out)))
+  after-tail : back (linkEnd s) (((headLine s ++ unitPart) ++ linkPart) ++ drop (linkEnd s) out)
+      (lineOver (tailSays s) (lent (linkEnd s) (((headLine s ++ unitPart) ++ linkPart) ++ drop (linkEnd s) out)))
       ≡ report s ++ drop (reportLength (units s) (links s)) out
-  unfolding report
-  laid-tail =
-      let e : linkEnd + 13 ≡ reportLength (units s) (links s) = omega arith in
-      rw (← e, ← tail-same)
-      (line-next (tailSays s) (before ++ gathered (links s) (linkLine s)) out linkEnd all-long (omega arith))
+  unfolding report tailLine
+  after-tail =
+      let e : linkEnd s + 13 ≡ reportLength (units s) (links s) = omega arith in
+      rw (← e) (line-next (tailSays s) ((headLine s ++ unitPart) ++ linkPart) out (linkEnd s) links-end (omega arith))
+
+  pub report-laid : back (linkEnd s) (linksDown s out) (lineOver (tailSays s) (lent (linkEnd s) (linksDown s out)))
+      ≡ report s ++ drop (reportLength (units s) (links s)) out
+  report-laid = rw (after-head, after-units, after-links) after-tail
