@@ -10,6 +10,7 @@ pub mod Run
 pub mod RunLaws
 pub mod Report
 pub mod ReportLaws
+pub mod ReportWritten
 pub mod Calls
 pub mod CallCauses
 pub mod Cases

@@ -1,11 +1,14 @@
 -- What a finished survey says of each unit and link, and its report: 11 all rounds, requests; 12 per unit; 13 per link; 1F the numbers of
 -- single points and lone links.
-use mathlib.Core.Bool.{Bool, cond}
+use mathlib.Core.Bool.{Bool, cond, _&&_}
 use mathlib.Core.List.{List, [], _∷_, _++_}
 use Prim.Native.Nat.{ℕ, zero, suc, _+_, _*_}
+use lib.Dec.{leb}
+use lib.ListN.{length, drop}
 use Rattle.lists.specs.Folds.{count}
 use Rattle.lists.specs.Tables.{gathered}
 use Rattle.frames.specs.Frame.{wordBytes, lineOf}
+use Rattle.table.specs.Table.{maxUnits, maxLinks}
 use Rattle.rules.specs.Basics.{at}
 use Rattle.rules.specs.Labels.{lone, single}
 use Rattle.survey.specs.declared.state.Survey.{Survey}
@@ -60,3 +63,10 @@ report s = headLine s ++ gathered (units s) (unitLine s) ++ gathered (links s) (
 -- its number of characters for n units and m links
 abbrev pub reportLength : ℕ → ℕ → ℕ
 reportLength n m = 26 + 23 * n + 15 * m
+
+-- a slice after the report was written at its front; as it was where the report does not fit, or a count is past its table, as in no well-formed state
+unfoldable pub reportOver : Survey → List ℕ → List ℕ
+reportOver s out =
+    cond (leb (units s) maxUnits && leb (links s) maxLinks && leb (reportLength (units s) (links s)) (length out))
+    (report s ++ drop (length (report s)) out)
+    out

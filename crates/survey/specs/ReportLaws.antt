@@ -28,10 +28,10 @@ pub length-tail : (s : Survey) → length (tailLine s) ≡ 13
 unfolding tailLine
 length-tail s = length-line _
 
-units-long : (s : Survey) → length (gathered (units s) (unitLine s)) ≡ 23 * units s
+pub units-long : (s : Survey) → length (gathered (units s) (unitLine s)) ≡ 23 * units s
 units-long s = length-gathered (units s) 23 (unitLine s) (λ v l. length-unit s v)
 
-links-long : (s : Survey) → length (gathered (links s) (linkLine s)) ≡ 15 * links s
+pub links-long : (s : Survey) → length (gathered (links s) (linkLine s)) ≡ 15 * links s
 links-long s = length-gathered (links s) 15 (linkLine s) (λ j l. length-link s j)
 
 pub length-report : (s : Survey) → length (report s) ≡ reportLength (units s) (links s)

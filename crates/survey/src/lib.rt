@@ -1,5 +1,6 @@
 // The survey's state and its calls.
 mod reply;
+mod report;
 mod state;
 
 pub use reply::Answer;

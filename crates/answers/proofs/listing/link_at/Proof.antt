@@ -1,0 +1,23 @@
+-- Its fields are read, and its line is written.
+use borrow.Author.Needs.{needs}
+use Rattle.answers.proofs.listing.link_at.Statement.{statement}
+use Rattle.answers.proofs.listing.link_at.Tie as tie
+
+word-requires : tie.Need-word-requires
+word-requires c κs = search needs
+
+byte-requires : tie.Need-byte-requires
+byte-requires c κs = search needs
+
+link-line-requires : tie.Need-link-line-requires
+link-line-requires c κs = search needs
+
+same-length : tie.Need-same-length
+same-length c = search needs
+
+returns : tie.Need-returns
+returns c = cc
+
+pub link-at-spec : {M : Type 1} → statement M
+link-at-spec =
+    tie.close (tie.spec word-requires byte-requires link-line-requires same-length returns)

@@ -1,0 +1,104 @@
+-- One flag more at a time.
+use mathlib.Core.Path.{_≡_, refl, ap, _∙_}
+use Prim.Native.Nat.{ℕ, _≤_, _-_}
+use native.Mathlib.Omega.{arith}
+use lib.ListN.{length}
+use Rattle.rules.specs.Labels.{single}
+use Rattle.answers.specs.Flags.{flagTable, flags-none, flags-more}
+use Rattle.answers.specs.Extremes.{single-extremes}
+use borrow.Author.Needs.{needs}
+use Rattle.answers.proofs.units.singles.Statement.{statement}
+use Rattle.answers.proofs.units.singles.Tie as tie
+
+abbrev Inv-loop : tie.InvT-loop
+Inv-loop units links ends label low high table₀ u₀ table u = (u ≤ units) × (length table ≡ 256) × (table ≡ flagTable 256 u (single links ends label))
+
+abbrev μ-loop : tie.MeasureT-loop
+μ-loop units links ends label low high table₀ u₀ table u = units - u
+
+extremes-requires : tie.Need-extremes-requires Inv-loop μ-loop
+extremes-requires c κs = search needs
+
+extremes-requires-2 : tie.Need-extremes-requires-2 Inv-loop μ-loop
+extremes-requires-2 c κs = search needs
+
+loop-holds : tie.Need-loop-holds Inv-loop μ-loop
+loop-holds c =
+    let a = c .before .before .before .before .args in
+    (search needs, search needs, flags-none 256 (single (a .links) (a .ends .now) (a .label .now)))
+
+cast-at : tie.Need-cast-at Inv-loop μ-loop
+cast-at c = search needs
+
+slice-aggregate-word : tie.Need-slice-aggregate-word Inv-loop μ-loop
+slice-aggregate-word c = search needs
+
+word-requires : tie.Need-word-requires Inv-loop μ-loop
+word-requires c κs = search needs
+
+slice-aggregate-word-2 : tie.Need-slice-aggregate-word-2 Inv-loop μ-loop
+slice-aggregate-word-2 c = search needs
+
+word-requires-2 : tie.Need-word-requires-2 Inv-loop μ-loop
+word-requires-2 c κs = search needs
+
+flag-requires : tie.Need-flag-requires Inv-loop μ-loop
+flag-requires c κs = search needs
+
+slice-aggregate-put-byte : tie.Need-slice-aggregate-put-byte Inv-loop μ-loop
+slice-aggregate-put-byte c = search needs
+
+put-byte-requires : tie.Need-put-byte-requires Inv-loop μ-loop
+put-byte-requires c κs = search needs
+
+add-u : tie.Need-add-u Inv-loop μ-loop
+add-u c = search needs
+
+loop-less : tie.Need-loop-less Inv-loop μ-loop
+loop-less c = search needs
+
+loop-again : tie.Need-loop-again Inv-loop μ-loop
+loop-again c =
+    let s = c .before .before .before .before .before .before .before .before .before in
+    let e = s .before in
+    let a = e .before .before .before .before .args in
+    let u = s .loop .u in (
+      omega (arith, c .before .before .before .before .before .before .before .before .loop-test .taken),
+      search needs,
+      rw (c .before .put-byte .ensures, c .before .before .before .flag .ensures, c .before .before .before .before .word2 .ensures, c .before .before .before .before .before .before .word .ensures, s .loop .inv .2)
+          (flags-more 256 u (single (a .links) (a .ends .now) (a .label .now)) _
+          (λ h. rw (
+            e .before .extremes .ensures .known u h,
+            e .extremes2 .ensures .known u h,
+            single-extremes (a .links) (a .ends .now) (a .label .now) u (λ i. omega (arith, e .before .before .shared-slice-known2 .given i)),
+          ))),
+    )
+
+returns : tie.Need-returns Inv-loop μ-loop
+returns c =
+    let s = c .before in
+    let a = s .before .before .before .before .before .args in
+    let e : s .loop .u ≡ a .units = omega arith in
+    s .loop .inv .2 ∙ ap (λ (n : ℕ). flagTable 256 n (single (a .links) (a .ends .now) (a .label .now))) e
+
+pub singles-spec : {M : Type 1} → statement M
+singles-spec =
+    tie.close
+    (tie.spec
+    Inv-loop
+    μ-loop
+    extremes-requires
+    extremes-requires-2
+    loop-holds
+    cast-at
+    slice-aggregate-word
+    word-requires
+    slice-aggregate-word-2
+    word-requires-2
+    flag-requires
+    slice-aggregate-put-byte
+    put-byte-requires
+    add-u
+    loop-less
+    loop-again
+    returns)

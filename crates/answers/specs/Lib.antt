@@ -1,0 +1,4 @@
+pub mod Flags
+pub mod Sharing
+pub mod Extremes
+pub mod Lines

@@ -1,0 +1,57 @@
+-- The lines of all units and of all links: the body of each, and the lines one after the other over the front of a slice.
+use mathlib.Core.Path.{_≡_, refl, sym, ap, _∙_}
+use mathlib.Core.Bool.{cond}
+use mathlib.Core.List.{List, [], _∷_, _++_}
+use Prim.Native.Nat.{ℕ, zero, suc, _+_, _*_, _≤_, _<_}
+use native.Mathlib.Nat.{le-refl, le-step}
+use native.Mathlib.Numerals.{add-one}
+use native.Mathlib.Omega.{arith}
+use lib.Dec.{leb}
+use lib.ListN.{length, drop}
+use borrow.Author.Tests.{le-leb, lt-leb}
+use Rattle.lists.specs.Lent.{lent, back}
+use Rattle.lists.specs.Tables.{gathered}
+use Rattle.lists.specs.Gathered.{length-gathered}
+use Rattle.frames.specs.Frame.{wordBytes, lineOf, lineOver, lineLength}
+use Rattle.frames.specs.FrameLaws.{length-line}
+use Rattle.frames.specs.FrameRests.{line-next}
+use Rattle.rules.specs.Basics.{at}
+
+-- what the tables say of unit v, and of the link at position j
+abbrev pub unitBody : List ℕ → List ℕ → List ℕ → List ℕ → ℕ → List ℕ
+unitBody color parent place singles v =
+    0x12 ∷ wordBytes v ++ wordBytes (at color v) ++ wordBytes (at parent v) ++ wordBytes (at place v) ++ at singles v ∷ []
+
+abbrev pub linkBody : List ℕ → List ℕ → ℕ → List ℕ
+linkBody label lones j = 0x13 ∷ wordBytes j ++ wordBytes (at label j) ++ at lones j ∷ []
+
+-- n lines of so many characters
+abbrev pub linesOf : ℕ → (ℕ → List ℕ) → List ℕ
+linesOf n body = gathered n (λ (i : ℕ). lineOf (body i))
+
+-- a slice after they were written at its front; as it was, where they do not fit
+unfoldable pub linesOver : ℕ → ℕ → (ℕ → List ℕ) → List ℕ → List ℕ
+linesOver long n body out = cond (leb (long * n) (length out)) (linesOf n body ++ drop (long * n) out) out
+
+pub linesOver-fits : (long n : ℕ) (body : ℕ → List ℕ) (out : List ℕ) → long * n ≤ length out
+    → linesOver long n body out ≡ linesOf n body ++ drop (long * n) out
+unfolding linesOver
+linesOver-fits long n body out h = rw (le-leb (long * n) (length out) h)
+
+pub linesOver-short : (long n : ℕ) (body : ℕ → List ℕ) (out : List ℕ) → length out < long * n → linesOver long n body out ≡ out
+unfolding linesOver
+linesOver-short long n body out h = rw (lt-leb (long * n) (length out) h)
+
+pub length-lines : (long n : ℕ) (body : ℕ → List ℕ) → ((i : ℕ) → lineLength (body i) ≡ long) → length (linesOf n body) ≡ long * n
+length-lines long n body h =
+    length-gathered n long (λ (i : ℕ). lineOf (body i)) (λ (i : ℕ) (l : i < n). length-line (body i) ∙ h i)
+
+-- one line more, written to the lent rest past those laid down
+pub lines-next : (k : ℕ) (body : ℕ → List ℕ) (out : List ℕ) (at : ℕ) → length (linesOf k body) ≡ at → at + lineLength (body k) ≤ length out
+    → back at (linesOf k body ++ drop at out) (lineOver (body k) (lent at (linesOf k body ++ drop at out)))
+    ≡ linesOf (k + 1) body ++ drop (at + lineLength (body k)) out
+lines-next k body out at e h = rw (add-one k) (line-next (body k) (linesOf k body) out at e h)
+
+pub gathered-cong : (n : ℕ) (f g : ℕ → List ℕ) → ((i : ℕ) → i < n → f i ≡ g i) → gathered n f ≡ gathered n g
+gathered-cong zero f g h = refl
+gathered-cong (suc n) f g h = rw (gathered-cong n f g (λ (i : ℕ) (l : i < n). h i (le-step l)), h n (le-refl (suc n)))

@@ -1,0 +1,90 @@
+// Lone links: those alone in their label.
+ghost use mathlib.Core.Path.{_≡_};
+ghost use Prim.Native.Nat.{min, _+_};
+ghost use lib.ListN.{getD, set};
+ghost use Rattle.rules.specs.Labels.{lone};
+ghost use Rattle.answers.specs.Flags.{flagTable};
+ghost use Rattle.answers.specs.Sharing.{sharing, counted, lookup, Shared};
+use super::flags;
+
+const ABSENT: u16 = 65535;
+
+// How many links have the label `x`.
+fn sharing(links: u16, label: &[u16], x: u16) -> u16
+    ensures { λ r. ⌜ r ≡ sharing links (now (label .entry)) x ⌝ }
+{
+    let mut n = 0;
+    let mut k = 0;
+    while k < links {
+        let one = flags::one_if(slices::word(label, k as usize) == x);
+        n += one;
+        k += 1;
+    }
+    n
+}
+
+// Whether link `j` is alone in its label.
+pub fn lone(links: u16, label: &[u16], j: u16) -> bool
+    ensures { λ r. ⌜ r ≡ lone links (now (label .entry)) j ⌝ }
+{
+    sharing(links, label, slices::word(label, j as usize)) == 1
+}
+
+// One more, as far as a word holds it.
+fn up(x: u16) -> u16
+    ensures { λ r. ⌜ r ≡ min (x + 1) 65535 ⌝ }
+{
+    if x < ABSENT { x + 1 } else { ABSENT }
+}
+
+// One more in bucket `q`.
+fn count_in(bucket: &mut [u16], q: u16)
+    ensures { λ _. ⌜ now (bucket .exit) ≡ counted (now (bucket .entry)) q ⌝ }
+{
+    let more = up(slices::word(bucket, q as usize));
+    slices::put(bucket, q as usize, more);
+}
+
+// For each label below 1,024 how many links have it: one pass over the links.
+fn buckets(links: u16, label: &[u16]) -> [u16; 1024]
+    ensures { λ r. ⌜ Shared links (now (label .entry)) r ⌝ }
+{
+    let mut bucket = [0u16; 1024];
+    let mut k = 0;
+    while k < links {
+        let q = slices::word(label, k as usize);
+        count_in(&mut bucket, q);
+        k += 1;
+    }
+    bucket
+}
+
+// The count of the label `x` from the buckets, and from `absent` for the absent label; a label that no state holds is counted.
+fn look_up<'a>(links: u16, label: &'a [u16], bucket: &'a [u16], absent: u16, x: u16) -> u16
+    ensures { λ r. ⌜ r ≡ lookup links (now (label .entry)) (now (bucket .entry)) absent x ⌝ }
+{
+    if x < 1024 {
+        return slices::word(bucket, x as usize);
+    }
+    if x == ABSENT {
+        return absent;
+    }
+    sharing(links, label, x)
+}
+
+// The flags of all lone links.
+pub fn lones(links: u16, label: &[u16]) -> [u8; 1024]
+    ensures { λ r. ⌜ r ≡ flagTable 1024 links (lone links (now (label .entry))) ⌝ }
+{
+    let bucket = buckets(links, label);
+    let absent = sharing(links, label, ABSENT);
+    let mut table = [0u8; 1024];
+    let mut j = 0;
+    while j < links {
+        let x = slices::word(label, j as usize);
+        let alone = flags::flag(look_up(links, label, &bucket, absent, x) == 1);
+        slices::put_byte(&mut table, j as usize, alone);
+        j += 1;
+    }
+    table
+}

@@ -1,0 +1,71 @@
+// The lines of all units and of all links, one after the other: each is written to the rest of the slice, past those before it.
+ghost use mathlib.Core.Path.{_≡_};
+ghost use Rattle.frames.specs.Frame.{lineOver};
+ghost use Rattle.answers.specs.Lines.{unitBody, linkBody, linesOver};
+use super::lines;
+
+// The line of unit `v`.
+fn unit_at<'a>(
+    v: u16,
+    color: &'a [u16],
+    parent: &'a [u16],
+    place: &'a [u16],
+    singles: &'a [u8],
+    out: &mut [u8],
+)
+    ensures { λ _. ⌜ now (out .exit) ≡ lineOver (unitBody (now (color .entry)) (now (parent .entry)) (now (place .entry)) (now (singles .entry)) v) (now (out .entry)) ⌝ }
+{
+    let i = v as usize;
+    let c = slices::word(color, i);
+    let p = slices::word(parent, i);
+    let at = slices::word(place, i);
+    let single = slices::byte(singles, i);
+    lines::unit_line(v, c, p, at, single, out);
+}
+
+// The lines of all units; nothing where they do not fit.
+pub fn unit_lines<'a>(
+    units: u16,
+    color: &'a [u16],
+    parent: &'a [u16],
+    place: &'a [u16],
+    singles: &'a [u8],
+    out: &mut [u8],
+)
+    ensures { λ _. ⌜ now (out .exit) ≡ linesOver 23 units (unitBody (now (color .entry)) (now (parent .entry)) (now (place .entry)) (now (singles .entry))) (now (out .entry)) ⌝ }
+{
+    if out.len() < 23 * (units as usize) {
+        return;
+    }
+    let mut v = 0;
+    while v < units {
+        let at = 23 * (v as usize);
+        unit_at(v, color, parent, place, singles, &mut out[at..]);
+        v += 1;
+    }
+}
+
+// The line of link `j`.
+fn link_at<'a>(j: u16, label: &'a [u16], lones: &'a [u8], out: &mut [u8])
+    ensures { λ _. ⌜ now (out .exit) ≡ lineOver (linkBody (now (label .entry)) (now (lones .entry)) j) (now (out .entry)) ⌝ }
+{
+    let i = j as usize;
+    let x = slices::word(label, i);
+    let lone = slices::byte(lones, i);
+    lines::link_line(j, x, lone, out);
+}
+
+// The lines of all links; nothing where they do not fit.
+pub fn link_lines<'a>(links: u16, label: &'a [u16], lones: &'a [u8], out: &mut [u8])
+    ensures { λ _. ⌜ now (out .exit) ≡ linesOver 15 links (linkBody (now (label .entry)) (now (lones .entry))) (now (out .entry)) ⌝ }
+{
+    if out.len() < 15 * (links as usize) {
+        return;
+    }
+    let mut j = 0;
+    while j < links {
+        let at = 15 * (j as usize);
+        link_at(j, label, lones, &mut out[at..]);
+        j += 1;
+    }
+}
