@@ -14,7 +14,7 @@ use lib.Seq.{getD-set-same, getD-set-other}
 use borrow.Author.Tests.{eq-eqb, ne-eqb, eqb-true, eqb-false, lt-ltb, ltb-true, not-true}
 use Rattle.lists.specs.Tests.{either, and-left, and-right, and-true, cond-true, cond-false}
 use Rattle.lists.specs.Folds.{fold, some}
-use Rattle.lists.specs.FoldLaws.{least-start, least-le, least-is, greatest-ge, greatest-is, some-exact}
+use Rattle.lists.specs.LeastLaws.{least-start, least-le, least-is, greatest-ge, greatest-is, some-exact}
 use Rattle.table.specs.Table.{endA, endB}
 use Rattle.rules.specs.Basics.{ABSENT, at}
 use Rattle.rules.specs.Labels.{touches, single}
