@@ -4,6 +4,7 @@ pub mod WellFormed
 pub mod Kept
 pub mod Step
 pub mod StageLaws
+pub mod ClockLaws
 pub mod StepKept
 pub mod StepLaws
 pub mod Run

@@ -1,4 +1,5 @@
 // The survey's state and its calls.
+mod clock;
 mod reply;
 mod state;
 
