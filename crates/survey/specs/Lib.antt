@@ -7,6 +7,8 @@ pub mod StageLaws
 pub mod ClockLaws
 pub mod StepKept
 pub mod StepLaws
+pub mod Ready
+pub mod Arms
 pub mod Run
 pub mod RunLaws
 pub mod Report

@@ -1,7 +1,10 @@
 // The survey's state and its calls.
+mod block_rounds;
 mod clock;
 mod reply;
 mod state;
+mod tick;
+mod tree_rounds;
 
 pub use reply::Answer;
 pub use reply::Reply;
