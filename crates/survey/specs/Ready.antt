@@ -1,12 +1,15 @@
 -- What the code of a round may rely on: so many units, and a clock that still has room.
 use mathlib.Core.Path.{_≡_}
 use mathlib.Core.Bool.{Bool, true, _||_}
+use mathlib.Core.List.{List}
 use Prim.Native.Nat.{ℕ, _+_, _≤_}
 use native.Mathlib.Omega.{arith}
 use lib.Dec.{leb}
+use Rattle.lists.specs.Counts.{count-le}
 use Rattle.table.specs.Passes.{passes}
 use Rattle.rules.specs.Ceilings.{ceiling}
 use Rattle.rules.specs.CeilingLaws.{ceiling-small}
+use Rattle.rules.specs.Ranking.{requestsOf, asks}
 use Rattle.survey.specs.declared.state.Survey.{Survey}
 use Rattle.survey.specs.declared.state.Clock.{Clock}
 use Rattle.survey.specs.State.{units, words, FINISHED, MAX-ROUNDS, MAX-REQUESTS}
@@ -40,3 +43,8 @@ ready s w h =
 -- the last round of a stage: its rule ends it, or its ceiling
 unfoldable pub lastAt : ℕ → Bool → Clock → Bool
 lastAt n ends c = ends || leb (ceiling n (c .stage)) (c .made + 1)
+
+-- a round makes at most one request for each object
+pub requests-few : (k : ℕ) (jump : List ℕ) → requestsOf k jump ≤ k
+unfolding requestsOf
+requests-few k jump = count-le k (asks jump)
