@@ -10,6 +10,7 @@ pub mod StepLaws
 pub mod Ready
 pub mod Arms
 pub mod Run
+pub mod Going
 pub mod RunLaws
 pub mod Report
 pub mod ReportLaws

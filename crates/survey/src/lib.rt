@@ -2,6 +2,7 @@
 mod block_rounds;
 mod clock;
 mod reply;
+mod run;
 mod state;
 mod tick;
 mod tree_rounds;
