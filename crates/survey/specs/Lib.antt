@@ -2,6 +2,7 @@ pub mod State
 pub mod Load
 pub mod WellFormed
 pub mod Kept
+pub mod KeptLaws
 pub mod Step
 pub mod StageLaws
 pub mod ClockLaws

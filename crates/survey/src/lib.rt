@@ -1,5 +1,6 @@
 // The survey's state and its calls.
 mod clock;
+mod kept;
 mod reply;
 mod state;
 
