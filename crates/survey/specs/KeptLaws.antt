@@ -13,8 +13,9 @@ use Rattle.table.specs.Passes.{passes}
 use Rattle.rules.specs.Bounds.{nameOk, numberOk, distOk}
 use Rattle.survey.specs.declared.state.Survey.{Survey}
 use Rattle.survey.specs.declared.state.Table.{Table}
-use Rattle.survey.specs.State.{units, links}
-use Rattle.survey.specs.WellFormed.{arcTables, numberTables, tableOk, entriesOk}
+use Rattle.survey.specs.State.{units, links, words}
+use Rattle.survey.specs.WellFormed.{arcTables, numberTables, tableOk, entriesOk, wellFormed}
+use Rattle.survey.specs.Kept.{Kept, kept-exact}
 
 -- a table that passes has at most 256 units
 pub table-units : (t : Table) → tableOk t ≡ true → t .units ≤ 256
@@ -23,6 +24,12 @@ table-units t e =
     passes (t .units) (take (2 * t .links) (t .ends))
     (eqb-true _ 0 (and-right (leb (t .links) maxLinks) (eqb (tableRefusal (t .units) (take (2 * t .links) (t .ends))) 0) e))
     .fewUnits
+
+-- what the countdown of a well-formed state asks
+pub kept-clock : (s : Survey) → wellFormed s ≡ true → (units s ≤ 256) × ((1 ≤ s .clock .stage) × (s .clock .stage ≤ 11))
+kept-clock s w =
+    let k : Kept s = kept-exact s .0 w in
+    (passes (units s) (words s) (k .passes) .fewUnits, (k .from, k .to))
 
 -- a test of every entry of two lists in a row
 every-append : {A : Type 0} (p : A → Bool) (s t : List A) → every p (s ++ t) ≡ (every p s && every p t)

@@ -8,10 +8,12 @@ pub mod StageLaws
 pub mod ClockLaws
 pub mod StepKept
 pub mod StepLaws
+pub mod LoadLaws
 pub mod Run
 pub mod RunLaws
 pub mod Report
 pub mod ReportLaws
 pub mod Calls
+pub mod AnswerLaws
 pub mod CallCauses
 pub mod Cases

@@ -1,8 +1,10 @@
 // The survey's state and its calls.
 mod clock;
 mod kept;
+mod load;
 mod reply;
 mod state;
+mod status;
 
 pub use reply::Answer;
 pub use reply::Reply;
