@@ -73,3 +73,8 @@ open-at s k h e f = omega arith
 -- what is at least m and not m is above it
 pub above : (k m : ℕ) → m ≤ k → (k ≡ m → ⊥) → suc m ≤ k
 above k m h n = omega arith
+
+-- a round is a run of one
+pub ran-one : (s : Survey) → finished s ≡ false → ran 1 0 s .0 ≡ step s
+unfolding ran
+ran-one s f = rw f refl

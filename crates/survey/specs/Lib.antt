@@ -2,6 +2,7 @@ pub mod State
 pub mod Load
 pub mod WellFormed
 pub mod Kept
+pub mod KeptLaws
 pub mod Step
 pub mod StageLaws
 pub mod ClockLaws
@@ -9,11 +10,14 @@ pub mod StepKept
 pub mod StepLaws
 pub mod Ready
 pub mod Arms
+pub mod LoadLaws
 pub mod Run
 pub mod Going
 pub mod RunLaws
 pub mod Report
 pub mod ReportLaws
 pub mod Calls
+pub mod AnswerLaws
+pub mod RunAnswers
 pub mod CallCauses
 pub mod Cases

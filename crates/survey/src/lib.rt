@@ -1,9 +1,12 @@
 // The survey's state and its calls.
 mod block_rounds;
 mod clock;
+mod kept;
+mod load;
 mod reply;
 mod run;
 mod state;
+mod status;
 mod tick;
 mod tree_rounds;
 

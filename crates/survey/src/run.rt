@@ -1,11 +1,67 @@
 // Rounds and runs. The stages' rounds stand in the run's loop: each replaces its own groups, and the rest of the state stays where it is.
 use super::block_rounds;
+use super::kept;
+use super::reply::Answer;
+use super::reply::Reply;
 use super::state::Survey;
 use super::tree_rounds;
 ghost use mathlib.Core.Path.{_≡_};
 ghost use mathlib.Core.Bool.{true};
 ghost use Rattle.survey.specs.WellFormed.{wellFormed};
 ghost use Rattle.survey.specs.Run.{ran};
+ghost use Rattle.survey.specs.Calls.{roundRefusal, roundAnswer, runAnswer};
+
+impl Survey {
+    // One round: 10, 11.
+    pub fn round(self) -> Answer
+        ensures { λ r. ⌜ r ≡ roundAnswer self ⌝ }
+    {
+        let refused = refusal(self);
+        if refused != 0 {
+            return Answer {
+                survey: self,
+                reply: Reply::Refused(refused),
+            };
+        }
+        let r = go(self, 1);
+        let after = r.survey;
+        Answer {
+            survey: after,
+            reply: Reply::Done,
+        }
+    }
+
+    // At most `budget` rounds: 10, 11.
+    pub fn run(self, budget: u16) -> Answer
+        ensures { λ r. ⌜ r ≡ runAnswer budget self ⌝ }
+    {
+        let refused = refusal(self);
+        if refused != 0 {
+            return Answer {
+                survey: self,
+                reply: Reply::Refused(refused),
+            };
+        }
+        let r = go(self, budget);
+        let after = r.survey;
+        Answer {
+            survey: after,
+            reply: Reply::Made(r.made),
+        }
+    }
+}
+
+fn refusal(s: Survey) -> u8
+    ensures { λ r. ⌜ r ≡ roundRefusal s ⌝ }
+{
+    if !kept::well_formed(s) {
+        return 10;
+    }
+    if s.clock.stage == 11 {
+        return 11;
+    }
+    0
+}
 
 // The state after a run, and the rounds made.
 pub struct Ran {
