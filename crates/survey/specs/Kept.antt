@@ -39,19 +39,19 @@ pub record Kept (s : Survey) : Type 0 where
 
 -- ---- the tests decide the words
 
-made-exact : (s : Survey) → (madeOk s ≡ true) ↔ MadeOk s
+made-exact : (s : Survey) → (madeOk (units s) (s .clock) ≡ true) ↔ MadeOk s
 unfolding madeOk
 made-exact s =
     cond-exact (eqb (s .clock .stage) FINISHED) (eqb (s .clock .made) 0) (ltb (s .clock .made) (ceiling (units s) (s .clock .stage)))
     (eq-exact (s .clock .stage) FINISHED) (eq-exact (s .clock .made) 0)
     (ltb-true (s .clock .made) (ceiling (units s) (s .clock .stage)), lt-ltb (s .clock .made) (ceiling (units s) (s .clock .stage)))
 
-table-exact : (s : Survey) → (tableOk s ≡ true) ↔ ((links s ≤ maxLinks) × (tableRefusal (units s) (words s) ≡ 0))
+table-exact : (s : Survey) → (tableOk (s .table) ≡ true) ↔ ((links s ≤ maxLinks) × (tableRefusal (units s) (words s) ≡ 0))
 unfolding tableOk
 table-exact s = and-exact _ _ (le-exact (links s) maxLinks) (eq-exact (tableRefusal (units s) (words s)) 0)
 
 clock-exact : (s : Survey)
-    → (clockOk s ≡ true)
+    → (clockOk (units s) (s .clock) ≡ true)
     ↔ (((((1 ≤ s .clock .stage) × (s .clock .stage ≤ FINISHED)) × MadeOk s) × (s .clock .rounds ≤ MAX-ROUNDS)) × (s .clock .requests ≤ MAX-REQUESTS))
 unfolding clockOk
 clock-exact s =

@@ -38,3 +38,7 @@ begun table =
 -- the state that a load of n units and the table t makes
 unfoldable pub loaded : ℕ → List ℕ → Survey
 loaded n t = begun (record { units = n; links = linkCount t; ends = endsOf t })
+
+-- the state that was never loaded: no unit and no link
+unfoldable pub unloaded : Survey
+unloaded = begun (record { units = 0; links = 0; ends = absents 2048 })

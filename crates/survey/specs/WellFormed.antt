@@ -3,12 +3,15 @@ use mathlib.Core.Bool.{Bool, cond, _&&_}
 use mathlib.Core.List.{List, [], _∷_}
 use Prim.Native.Nat.{ℕ, _*_}
 use lib.Dec.{eqb, leb, ltb}
+use lib.ListN.{take}
 use Rattle.lists.specs.Folds.{every}
 use Rattle.table.specs.Table.{maxLinks, tableRefusal}
 use Rattle.rules.specs.Bounds.{nameOk, numberOk, distOk}
 use Rattle.rules.specs.Ceilings.{ceiling}
 use Rattle.survey.specs.declared.state.Survey.{Survey}
-use Rattle.survey.specs.State.{units, links, words, FINISHED, MAX-ROUNDS, MAX-REQUESTS}
+use Rattle.survey.specs.declared.state.Table.{Table}
+use Rattle.survey.specs.declared.state.Clock.{Clock}
+use Rattle.survey.specs.State.{units, links, FINISHED, MAX-ROUNDS, MAX-REQUESTS}
 
 -- ---- the tables by what their entries are
 
@@ -46,22 +49,21 @@ numberTables s =
 -- ---- the clauses
 
 -- n and links pass 4 to 9
-unfoldable pub tableOk : Survey → Bool
-tableOk s = leb (links s) maxLinks && eqb (tableRefusal (units s) (words s)) 0
+unfoldable pub tableOk : Table → Bool
+tableOk t = leb (t .links) maxLinks && eqb (tableRefusal (t .units) (take (2 * t .links) (t .ends))) 0
 
--- the rounds of the stage are below its ceiling, zero at stage 11
-unfoldable pub madeOk : Survey → Bool
-madeOk s =
-    cond (eqb (s .clock .stage) FINISHED) (eqb (s .clock .made) 0) (ltb (s .clock .made) (ceiling (units s) (s .clock .stage)))
+-- the rounds of the stage are below its ceiling for n units, zero at stage 11
+unfoldable pub madeOk : ℕ → Clock → Bool
+madeOk n c = cond (eqb (c .stage) FINISHED) (eqb (c .made) 0) (ltb (c .made) (ceiling n (c .stage)))
 
 -- the stage is 1 to 11; all rounds and requests are within their limits
-unfoldable pub clockOk : Survey → Bool
-clockOk s =
-    leb 1 (s .clock .stage)
-    && leb (s .clock .stage) FINISHED
-    && madeOk s
-    && leb (s .clock .rounds) MAX-ROUNDS
-    && leb (s .clock .requests) MAX-REQUESTS
+unfoldable pub clockOk : ℕ → Clock → Bool
+clockOk n c =
+    leb 1 (c .stage)
+    && leb (c .stage) FINISHED
+    && madeOk n c
+    && leb (c .rounds) MAX-ROUNDS
+    && leb (c .requests) MAX-REQUESTS
 
 -- every stored unit, list place or link is absent or names one that exists; no other stored number exceeds 2,048, save that a distance may be absent
 unfoldable pub entriesOk : Survey → Bool
@@ -73,4 +75,4 @@ entriesOk s =
     && every (every numberOk) (numberTables s)
 
 unfoldable pub wellFormed : Survey → Bool
-wellFormed s = tableOk s && clockOk s && entriesOk s
+wellFormed s = tableOk (s .table) && clockOk (units s) (s .clock) && entriesOk s

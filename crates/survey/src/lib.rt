@@ -1,7 +1,15 @@
 // The survey's state and its calls.
+mod block_rounds;
+mod clock;
+mod kept;
+mod load;
 mod reply;
 mod report;
+mod run;
 mod state;
+mod status;
+mod tick;
+mod tree_rounds;
 
 pub use reply::Answer;
 pub use reply::Reply;

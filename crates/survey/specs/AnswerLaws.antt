@@ -1,0 +1,32 @@
+-- An answer by whether the call was refused.
+use mathlib.Core.Path.{_≡_, refl}
+use mathlib.Core.Bool.{true, false}
+use Prim.Native.Nat.{ℕ}
+use lib.Dec.{eqb}
+use borrow.Author.Tests.{eq-eqb, ne-eqb}
+use Rattle.survey.specs.declared.state.Survey.{Survey}
+use Rattle.survey.specs.declared.reply.Answer.{Answer}
+use Rattle.survey.specs.declared.reply.Reply.{Reply}
+use Rattle.survey.specs.declared.reply.Reply.the-variants.{Refused, Status}
+use Rattle.survey.specs.WellFormed.{wellFormed}
+use Rattle.survey.specs.Step.{countdown}
+use Rattle.survey.specs.Calls.{answered, statusRefusal, statusAnswer}
+
+pub answered-refused : (k : ℕ) (s after : Survey) (reply : Reply) → (k ≡ 0 → ⊥)
+    → _≡_ {A = Answer} (record { survey = s; reply = Refused k }) (answered k s after reply)
+answered-refused k s after reply h = rw (ne-eqb k 0 h) refl
+
+pub answered-made : (k : ℕ) (s after : Survey) (reply : Reply) → k ≡ 0
+    → _≡_ {A = Answer} (record { survey = after; reply = reply }) (answered k s after reply)
+answered-made k s after reply e = rw (eq-eqb k 0 e) refl
+
+-- ---- status
+
+pub status-refused : (s : Survey) → wellFormed s ≡ false → _≡_ {A = Answer} (record { survey = s; reply = Refused 10 }) (statusAnswer s)
+unfolding statusAnswer statusRefusal
+status-refused s e = rw e refl
+
+pub status-made : (s : Survey) → wellFormed s ≡ true
+    → _≡_ {A = Answer} (record { survey = s; reply = Status (s .clock .stage) (countdown s) (s .clock .rounds) (s .clock .requests) }) (statusAnswer s)
+unfolding statusAnswer statusRefusal
+status-made s e = rw e refl

@@ -1,0 +1,42 @@
+// The ceilings of the stages and the countdown. Units are at most 256 here: a state is judged first.
+ghost use mathlib.Core.Path.{_≡_};
+ghost use Prim.Native.Nat.{_≤_};
+ghost use Rattle.rules.specs.Ceilings.{rankingCeiling, ceiling, countdown};
+
+// What a ranking of the arcs of so many units takes at most.
+fn ranking_ceiling(units: u16) -> u16
+    requires { ⌜ units ≤ 256 ⌝ }
+    ensures { λ r. ⌜ r ≡ rankingCeiling units ⌝ }
+{
+    numbers::lg(values::less(2 * units, 2)) + 1
+}
+
+// The ceiling of a stage from 1 to 10.
+pub(crate) fn ceiling(units: u16, stage: u16) -> u16
+    requires { ⌜ (units ≤ 256) × ((1 ≤ stage) × (stage ≤ 10)) ⌝ }
+    ensures { λ r. ⌜ r ≡ ceiling units stage ⌝ }
+{
+    match stage {
+        1 => values::greatest_of(2, units),
+        2 => units + 1,
+        4 | 6 => ranking_ceiling(units),
+        7 => numbers::lg(units) + 1,
+        8 => 1,
+        9 => values::greatest_of(2, values::less(units, 1)),
+        _ => 2,
+    }
+}
+
+// The rounds still to come at most: the ceilings from this stage on, less the rounds made of it.
+pub(crate) fn countdown(units: u16, stage: u16, made: u16) -> u16
+    requires { ⌜ (units ≤ 256) × ((1 ≤ stage) × (stage ≤ 11)) ⌝ }
+    ensures { λ r. ⌜ r ≡ countdown units stage made ⌝ }
+{
+    let mut sum: u16 = 0;
+    let mut k = stage;
+    while k <= 10 {
+        sum += ceiling(units, k);
+        k += 1;
+    }
+    values::less(sum, made)
+}
