@@ -1,7 +1,6 @@
 // Single points: units at which links of two labels meet.
 ghost use mathlib.Core.Path.{_≡_};
 ghost use mathlib.Core.Bool.{cond};
-ghost use lib.ListN.{getD, set};
 ghost use Rattle.table.specs.Table.{endA, endB};
 ghost use Rattle.rules.specs.Basics.{at};
 ghost use Rattle.rules.specs.Labels.{touches, single};

@@ -12,5 +12,6 @@ pub mod Report
 pub mod ReportLaws
 pub mod ReportWritten
 pub mod Calls
+pub mod ReportCalled
 pub mod CallCauses
 pub mod Cases
