@@ -1,17 +1,17 @@
 -- The least and the greatest label among the links that meet at a unit. A single point is a unit where they differ: one pass over the
 -- links finds them, where the definition goes over pairs of links.
-use mathlib.Core.Path.{_≡_, refl, sym, ap, _∙_}
-use mathlib.Core.Bool.{Bool, true, false, cond, not, _&&_, _||_, true≢false, false≢true}
+use mathlib.Core.Path.{_≡_, refl, sym, _∙_}
+use mathlib.Core.Bool.{Bool, true, false, cond, not, _&&_, _||_}
 use mathlib.Core.Logic.{_⊎_, inl, inr}
 use mathlib.Core.List.{List}
-use Prim.Native.Nat.{ℕ, zero, suc, _+_, _≤_, _<_, min, max}
+use Prim.Native.Nat.{ℕ, _+_, _≤_, _<_, min, max}
 use native.Mathlib.Decide.{ℕ-discrete}
 use native.Mathlib.Numerals.{add-one}
 use native.Mathlib.Omega.{arith}
 use lib.Dec.{eqb, ltb}
 use lib.ListN.{length, getD, set, length-set, replicate, length-replicate, getD-replicate}
 use lib.Seq.{getD-set-same, getD-set-other}
-use borrow.Author.Tests.{eq-eqb, ne-eqb, eqb-true, eqb-false, lt-ltb, ltb-true, not-true}
+use borrow.Author.Tests.{eq-eqb, ne-eqb, eqb-false, lt-ltb, ltb-true, not-true}
 use Rattle.lists.specs.Tests.{either, and-left, and-right, and-true, cond-true, cond-false}
 use Rattle.lists.specs.Folds.{fold, some}
 use Rattle.lists.specs.LeastLaws.{least-start, least-le, least-is, greatest-ge, greatest-is, some-exact}
@@ -87,7 +87,9 @@ module _ (m : ℕ) (ends label : List ℕ) (u : ℕ) (words : (i : ℕ) → at l
       let v = some-exact m (other j) .0 (and-right (T j) (some m (other j)) (w .2)) in
       let k = v .0 in
       let tk = and-left (T k) (not (eqb (at label k) (at label j))) (v .2) in
-      let d : at label k ≡ at label j → ⊥ = eqb-false (at label k) (at label j) (not-true (eqb (at label k) (at label j)) (and-right (T k) (not (eqb (at label k) (at label j))) (v .2))) in
+      let other-label : eqb (at label k) (at label j) ≡ false =
+      not-true (eqb (at label k) (at label j)) (and-right (T k) (not (eqb (at label k) (at label j))) (v .2)) in
+      let d : at label k ≡ at label j → ⊥ = eqb-false (at label k) (at label j) other-label in
       lt-ltb low high (omega (arith, d, below j (w .1) tj, below k (v .1) tk, above j (w .1) tj, above k (v .1) tk))
 
   at-low : low < ABSENT → (i : ℕ) × (i < m) × (T i ≡ true) × (low ≡ at label i)

@@ -1,8 +1,8 @@
 -- A table of flags, one a number: 1 where a test passes, else 0.
-use mathlib.Core.Path.{_≡_, refl, sym, ap, _∙_}
+use mathlib.Core.Path.{_≡_, refl, sym, _∙_}
 use mathlib.Core.Bool.{Bool, true, false, cond}
-use mathlib.Core.List.{List, [], _∷_}
-use Prim.Native.Nat.{ℕ, zero, suc, _+_, _≤_, _<_, zero-le, suc-le-suc}
+use mathlib.Core.List.{List}
+use Prim.Native.Nat.{ℕ, _+_, _≤_, _<_}
 use native.Mathlib.Decide.{decLt}
 use native.Mathlib.Numerals.{add-one}
 use native.Mathlib.Omega.{arith}
@@ -45,22 +45,6 @@ flags-more size n p y h = go (decLt n size)
     go : Dec (n < size) → set (flagTable size n p) n y ≡ flagTable size (n + 1) p
     go (yes l) = rw (add-one n, h l) (set-over n f (replicate size 0))
     go (no l) = rw (add-one n) (past (omega arith) y ∙ sym (past (omega arith) (f n)) ∙ set-over n f (replicate size 0))
-
--- ---- tests that agree where there are places
-
-over-within : (n : ℕ) (f g : ℕ → ℕ) (old : List ℕ) → ((i : ℕ) → i < n → i < length old → f i ≡ g i) → over n f old ≡ over n g old
-over-within zero f g old h = refl
-over-within (suc n) f g [] h = refl
-over-within (suc n) f g (x ∷ old) h =
-    rw (h zero (suc-le-suc zero-le) (suc-le-suc zero-le))
-    (ap (λ (l : List ℕ). g zero ∷ l)
-    (over-within n (λ (k : ℕ). f (suc k)) (λ (k : ℕ). g (suc k)) old (λ (i : ℕ) (a : i < n) (b : i < length old). h (suc i) (suc-le-suc a) (suc-le-suc b))))
-
-pub flags-cong : (size n : ℕ) (p q : ℕ → Bool) → ((i : ℕ) → i < size → p i ≡ q i) → flagTable size n p ≡ flagTable size n q
-unfolding flagTable
-flags-cong size n p q h =
-    over-within n (λ (i : ℕ). cond (p i) 1 0) (λ (i : ℕ). cond (q i) 1 0) (replicate size 0)
-    (λ (i : ℕ) (a : i < n) (b : i < length (replicate size 0)). rw (h i (omega (arith, length-replicate {A = ℕ} size 0))))
 
 -- ---- flags counted
 

@@ -1,11 +1,9 @@
 -- The lines of all units and of all links: the body of each, and the lines one after the other over the front of a slice.
-use mathlib.Core.Path.{_≡_, refl, sym, ap, _∙_}
+use mathlib.Core.Path.{_≡_, _∙_}
 use mathlib.Core.Bool.{cond}
 use mathlib.Core.List.{List, [], _∷_, _++_}
-use Prim.Native.Nat.{ℕ, zero, suc, _+_, _*_, _≤_, _<_}
-use native.Mathlib.Nat.{le-refl, le-step}
+use Prim.Native.Nat.{ℕ, _+_, _*_, _≤_, _<_}
 use native.Mathlib.Numerals.{add-one}
-use native.Mathlib.Omega.{arith}
 use lib.Dec.{leb}
 use lib.ListN.{length, drop}
 use borrow.Author.Tests.{le-leb, lt-leb}
@@ -51,7 +49,3 @@ pub lines-next : (k : ℕ) (body : ℕ → List ℕ) (out : List ℕ) (at : ℕ)
     → back at (linesOf k body ++ drop at out) (lineOver (body k) (lent at (linesOf k body ++ drop at out)))
     ≡ linesOf (k + 1) body ++ drop (at + lineLength (body k)) out
 lines-next k body out at e h = rw (add-one k) (line-next (body k) (linesOf k body) out at e h)
-
-pub gathered-cong : (n : ℕ) (f g : ℕ → List ℕ) → ((i : ℕ) → i < n → f i ≡ g i) → gathered n f ≡ gathered n g
-gathered-cong zero f g h = refl
-gathered-cong (suc n) f g h = rw (gathered-cong n f g (λ (i : ℕ) (l : i < n). h i (le-step l)), h n (le-refl (suc n)))

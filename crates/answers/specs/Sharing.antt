@@ -1,8 +1,8 @@
 -- How many links share a label, one label alone or by a bucket for each.
-use mathlib.Core.Path.{_≡_, refl, sym, ap, _∙_}
-use mathlib.Core.Bool.{Bool, true, false, cond}
+use mathlib.Core.Path.{_≡_, refl, sym, _∙_}
+use mathlib.Core.Bool.{cond}
 use mathlib.Core.List.{List}
-use Prim.Native.Nat.{ℕ, zero, suc, _+_, _≤_, _<_, min}
+use Prim.Native.Nat.{ℕ, _+_, _≤_, _<_, min}
 use native.Mathlib.Decide.{decLt, ℕ-discrete}
 use native.Mathlib.Numerals.{add-one}
 use native.Mathlib.Omega.{arith}
@@ -82,11 +82,14 @@ unfoldable pub lookup : ℕ → List ℕ → List ℕ → ℕ → ℕ → ℕ
 lookup m label bucket absent x = cond (ltb x BUCKETS) (at bucket x) (cond (eqb x ABSENT) absent (sharing m label x))
 
 module _ (m : ℕ) (label bucket : List ℕ) (all : Shared m label bucket) (absent : ℕ) (lost : absent ≡ sharing m label ABSENT) where
-  go : (x : ℕ) → Dec (x < BUCKETS) → Dec (x ≡ ABSENT) → lookup m label bucket absent x ≡ sharing m label x
+  by-place : (x : ℕ) → Dec (x < BUCKETS) → Dec (x ≡ ABSENT) → lookup m label bucket absent x ≡ sharing m label x
   unfolding lookup
-  go x (yes h) d = rw (lt-ltb x BUCKETS h, all .known x h)
-  go x (no h) (yes e) = rw (le-ltb x BUCKETS (omega arith), eq-eqb x ABSENT e, lost, e)
-  go x (no h) (no e) = rw (le-ltb x BUCKETS (omega arith), ne-eqb x ABSENT e)
+  by-place x (yes h) d = rw (lt-ltb x BUCKETS h, all .known x h)
+  by-place x (no h) (yes e) = rw (le-ltb x BUCKETS (omega arith), eq-eqb x ABSENT e, lost, e)
+  by-place x (no h) (no e) = rw (le-ltb x BUCKETS (omega arith), ne-eqb x ABSENT e)
 
-  pub lookup-right : (x : ℕ) → lookup m label bucket absent x ≡ sharing m label x
-  lookup-right x = go x (decLt x BUCKETS) (ℕ-discrete x ABSENT)
+  lookup-right : (x : ℕ) → lookup m label bucket absent x ≡ sharing m label x
+  lookup-right x = by-place x (decLt x BUCKETS) (ℕ-discrete x ABSENT)
+
+  pub lookup-lone : (j : ℕ) → eqb (lookup m label bucket absent (at label j)) 1 ≡ lone m label j
+  lookup-lone j = rw (lookup-right (at label j)) (lone-sharing m label j)

@@ -1,7 +1,6 @@
 // Lone links: those alone in their label.
 ghost use mathlib.Core.Path.{_≡_};
 ghost use Prim.Native.Nat.{min, _+_};
-ghost use lib.ListN.{getD, set};
 ghost use Rattle.rules.specs.Labels.{lone};
 ghost use Rattle.answers.specs.Flags.{flagTable};
 ghost use Rattle.answers.specs.Sharing.{sharing, counted, lookup, Shared};

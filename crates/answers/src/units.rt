@@ -1,7 +1,6 @@
 // Single points: units at which links of two labels meet.
 ghost use mathlib.Core.Path.{_≡_};
 ghost use mathlib.Core.Bool.{cond};
-ghost use lib.ListN.{getD, set};
 ghost use Rattle.table.specs.Table.{endA, endB};
 ghost use Rattle.rules.specs.Basics.{at};
 ghost use Rattle.rules.specs.Labels.{touches, single};
@@ -44,6 +43,13 @@ fn choose(test: bool, x: u16, y: u16) -> u16
     if test { x } else { y }
 }
 
+// The label of link `j`: links of one label count once.
+fn label_of(label: &[u16], j: u16) -> u16
+    ensures { λ r. ⌜ r ≡ at (now (label .entry)) j ⌝ }
+{
+    slices::word(label, j as usize)
+}
+
 // The greatest label that meets `u`, or the least.
 fn extreme<'a>(greatest: bool, links: u16, ends: &'a [u16], label: &'a [u16], u: u16) -> u16
     ensures { λ r. ⌜ r ≡ extreme greatest links (now (ends .entry)) (now (label .entry)) u ⌝ }
@@ -52,7 +58,7 @@ fn extreme<'a>(greatest: bool, links: u16, ends: &'a [u16], label: &'a [u16], u:
     let mut z = none;
     let mut j = 0;
     while j < links {
-        let x = choose(touches(ends, u, j), slices::word(label, j as usize), none);
+        let x = choose(touches(ends, u, j), label_of(label, j), none);
         z = op(greatest, z, x);
         j += 1;
     }
@@ -79,7 +85,7 @@ fn take_link<'a>(greatest: bool, ends: &'a [u16], label: &'a [u16], j: u16, t: &
     ensures { λ _. ⌜ now (t .exit) ≡ takesIn greatest (takesIn greatest (now (t .entry)) (endA (now (ends .entry)) j) (at (now (label .entry)) j)) (endB (now (ends .entry)) j) (at (now (label .entry)) j) ⌝ }
 {
     let at = 2 * (j as usize);
-    let x = slices::word(label, j as usize);
+    let x = label_of(label, j);
     take_in(greatest, t, slices::word(ends, at), x);
     take_in(greatest, t, slices::word(ends, at + 1), x);
 }

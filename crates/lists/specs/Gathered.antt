@@ -15,6 +15,10 @@ module _ {A : Type 0} where
   length-gathered (suc n) k f h =
       length-append (gathered n f) (f n) ∙ omega (arith, length-gathered n k f (λ (i : ℕ) (l : i < n). h i (le-step l)), h n (le-refl (suc n)))
 
+  pub gathered-cong : (n : ℕ) (f g : ℕ → List A) → ((i : ℕ) → i < n → f i ≡ g i) → gathered n f ≡ gathered n g
+  gathered-cong zero f g h = refl
+  gathered-cong (suc n) f g h = rw (gathered-cong n f g (λ (i : ℕ) (l : i < n). h i (le-step l)), h n (le-refl (suc n)))
+
   -- piece i stands k · i places on
   pub gathered-at : (n k : ℕ) (f : ℕ → List A) (rest : List A) → ((i : ℕ) → i < n → length (f i) ≡ k) → (i : ℕ) → i < n
       → take k (drop (k * i) (gathered n f ++ rest)) ≡ f i

@@ -20,5 +20,6 @@ pub mod ReportWritten
 pub mod Calls
 pub mod AnswerLaws
 pub mod RunAnswers
+pub mod ReportCalled
 pub mod CallCauses
 pub mod Cases

@@ -1,24 +1,23 @@
 -- The report laid down over a slice: the first line, then each part to the lent rest past those before it.
-use mathlib.Core.Path.{_≡_, refl, sym, ap, _∙_}
-use mathlib.Core.Bool.{Bool, true, false, cond, _&&_}
-use mathlib.Core.List.{List, [], _∷_, _++_, append-assoc}
+use mathlib.Core.Path.{_≡_, refl, ap, _∙_}
+use mathlib.Core.List.{List, _∷_, _++_}
 use Prim.Native.Nat.{ℕ, _+_, _*_, _≤_, _<_}
 use native.Mathlib.Omega.{arith}
-use lib.Dec.{leb, eqb}
-use lib.ListN.{length, getD, drop, length-append, length-drop}
+use lib.ListN.{length, drop, length-append}
 use borrow.Author.Tests.{le-leb, lt-leb}
 use Rattle.lists.specs.Lent.{lent, back, back-next}
 use Rattle.lists.specs.Tables.{gathered}
+use Rattle.lists.specs.Gathered.{gathered-cong}
 use Rattle.lists.specs.Folds.{count}
 use Rattle.table.specs.Table.{maxUnits, maxLinks}
 use Rattle.frames.specs.Frame.{wordBytes, lineOf, lineOver}
 use Rattle.frames.specs.FrameRests.{lineOver-fits, line-next}
-use Rattle.answers.specs.Flags.{flagTable, flag-at, flags-count}
-use Rattle.answers.specs.Lines.{unitBody, linkBody, linesOf, linesOver, linesOver-fits, gathered-cong}
+use Rattle.answers.specs.Flags.{flagTable, flag-at}
+use Rattle.answers.specs.Lines.{unitBody, linkBody, linesOf, linesOver, linesOver-fits}
 use Rattle.survey.specs.declared.state.Survey.{Survey}
 use Rattle.survey.specs.State.{units, links}
 use Rattle.survey.specs.Report.{unitSingle, linkLone, headLine, unitLine, linkLine, tailLine, report, reportLength, reportOver}
-use Rattle.survey.specs.ReportLaws.{length-head, length-unit, length-link, length-report, units-long, links-long}
+use Rattle.survey.specs.ReportLaws.{length-head, length-report, units-long, links-long}
 
 -- ---- by the tests
 

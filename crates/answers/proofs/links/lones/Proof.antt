@@ -1,12 +1,12 @@
 -- One flag more at a time.
 use mathlib.Core.Path.{_≡_, refl, ap, _∙_}
+use mathlib.Core.Bool.{cond}
 use Prim.Native.Nat.{ℕ, _≤_, _-_}
 use native.Mathlib.Omega.{arith}
 use lib.ListN.{length}
-use Rattle.rules.specs.Basics.{at}
 use Rattle.rules.specs.Labels.{lone}
 use Rattle.answers.specs.Flags.{flagTable, flags-none, flags-more}
-use Rattle.answers.specs.Sharing.{sharing, lookup, lookup-right, lone-sharing}
+use Rattle.answers.specs.Sharing.{lookup-lone}
 use borrow.Author.Needs.{needs}
 use Rattle.answers.proofs.links.lones.Statement.{statement}
 use Rattle.answers.proofs.links.lones.Tie as tie
@@ -62,12 +62,20 @@ loop-again : tie.Need-loop-again Inv-loop μ-loop
 loop-again c =
     let s = c .before .before .before .before .before .before .before .before in
     let a = s .before .before .before .before .args in
-    let known : (x : ℕ) → lookup (a .links) (a .label .now) (s .before .before .buckets .result) (s .before .sharing .result) x ≡ sharing (a .links) (a .label .now) x =
-    lookup-right (a .links) (a .label .now) (s .before .before .buckets .result) (s .before .before .buckets .ensures) (s .before .sharing .result) (s .before .sharing .ensures) in (
+    let p = lone (a .links) (a .label .now) in
+    let j = s .loop .j in
+    let counts = s .before .before .buckets in
+    let absent = s .before .sharing in (
       search needs,
       search needs,
-      rw (c .before .put-byte .ensures, c .before .before .before .flag .ensures, c .before .before .before .before .look-up .ensures, c .before .before .before .before .before .before .word .ensures, s .loop .inv .2)
-          (flags-more 1024 (s .loop .j) (lone (a .links) (a .label .now)) _ (λ _. rw (known (at (a .label .now) (s .loop .j)), lone-sharing (a .links) (a .label .now) (s .loop .j)))),
+      rw (
+        c .before .put-byte .ensures,
+        c .before .before .before .flag .ensures,
+        c .before .before .before .before .look-up .ensures,
+        c .before .before .before .before .before .before .word .ensures,
+        lookup-lone (a .links) (a .label .now) (counts .result) (counts .ensures) (absent .result) (absent .ensures) j,
+        s .loop .inv .2,
+      ) (flags-more 1024 j p (cond (p j) 1 0) (λ _. refl)),
     )
 
 returns : tie.Need-returns Inv-loop μ-loop

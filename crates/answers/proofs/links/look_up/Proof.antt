@@ -1,5 +1,4 @@
 -- By where the label stands.
-use mathlib.Core.Path.{sym}
 use borrow.Author.Tests.{lt-ltb, le-ltb, eq-eqb, ne-eqb}
 use Rattle.answers.specs.Sharing.{lookup}
 use borrow.Author.Needs.{needs}

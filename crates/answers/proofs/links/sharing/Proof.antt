@@ -1,6 +1,6 @@
 -- One link more at a time.
 use mathlib.Core.Path.{_≡_, sym}
-use Prim.Native.Nat.{ℕ, _≤_, _-_}
+use Prim.Native.Nat.{_≤_, _-_}
 use Rattle.answers.specs.Sharing.{sharing, sharing-none, sharing-more}
 use native.Mathlib.Omega.{arith}
 use borrow.Author.Needs.{needs}

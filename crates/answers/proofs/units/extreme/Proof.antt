@@ -1,6 +1,6 @@
 -- One link more at a time.
 use mathlib.Core.Path.{_≡_, sym, _∙_}
-use Prim.Native.Nat.{ℕ, _≤_, _-_}
+use Prim.Native.Nat.{_≤_, _-_}
 use Rattle.answers.specs.Extremes.{extreme, extreme-none, extreme-more}
 use native.Mathlib.Omega.{arith}
 use borrow.Author.Needs.{needs}
@@ -24,11 +24,8 @@ loop-holds c =
 touches-requires : tie.Need-touches-requires Inv-loop μ-loop
 touches-requires c κs = search needs
 
-cast-word : tie.Need-cast-word Inv-loop μ-loop
-cast-word c = search needs
-
-word-requires : tie.Need-word-requires Inv-loop μ-loop
-word-requires c κs = search needs
+label-of-requires : tie.Need-label-of-requires Inv-loop μ-loop
+label-of-requires c κs = search needs
 
 choose-requires : tie.Need-choose-requires Inv-loop μ-loop
 choose-requires c κs = search needs
@@ -47,7 +44,7 @@ loop-again c =
     let s = c .before .before .before .before .before in
     let a = s .before .before .before .before .args in (
       search needs,
-      rw (c .op .ensures, c .before .choose .ensures, c .before .before .word .ensures, c .before .before .before .touches .ensures, s .before .start .ensures, s .loop .inv .1)
+      rw (c .op .ensures, c .before .choose .ensures, c .before .before .label-of .ensures, c .before .before .before .touches .ensures, s .before .start .ensures, s .loop .inv .1)
           (extreme-more (a .greatest) (s .loop .j) (a .ends .now) (a .label .now) (a .u)),
     )
 
@@ -66,8 +63,7 @@ extreme-spec =
     start-requires
     loop-holds
     touches-requires
-    cast-word
-    word-requires
+    label-of-requires
     choose-requires
     op-requires
     add-j

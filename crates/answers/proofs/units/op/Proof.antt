@@ -1,6 +1,5 @@
 -- By the flag, then by the order.
 use native.Mathlib.Omega.{arith}
-use borrow.Author.Needs.{needs}
 use Rattle.answers.proofs.units.op.Statement.{statement}
 use Rattle.answers.proofs.units.op.Tie as tie
 

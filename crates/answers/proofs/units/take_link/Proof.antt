@@ -6,11 +6,11 @@ use Rattle.answers.proofs.units.take_link.Tie as tie
 mul-at : tie.Need-mul-at
 mul-at c = search needs
 
+label-of-requires : tie.Need-label-of-requires
+label-of-requires c κs = search needs
+
 word-requires : tie.Need-word-requires
 word-requires c κs = search needs
-
-word-requires-2 : tie.Need-word-requires-2
-word-requires-2 c κs = search needs
 
 take-in-requires : tie.Need-take-in-requires
 take-in-requires c κs = search needs
@@ -18,8 +18,8 @@ take-in-requires c κs = search needs
 add-word : tie.Need-add-word
 add-word c = search needs
 
-word-requires-3 : tie.Need-word-requires-3
-word-requires-3 c κs = search needs
+word-requires-2 : tie.Need-word-requires-2
+word-requires-2 c κs = search needs
 
 take-in-requires-2 : tie.Need-take-in-requires-2
 take-in-requires-2 c κs = search needs
@@ -35,11 +35,11 @@ take-link-spec =
     tie.close
     (tie.spec
     mul-at
+    label-of-requires
     word-requires
-    word-requires-2
     take-in-requires
     add-word
-    word-requires-3
+    word-requires-2
     take-in-requires-2
     same-length
     returns)
