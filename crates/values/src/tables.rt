@@ -84,7 +84,8 @@ pub fn take_in(greatest: bool, n: u16, t: &mut [u16], a: u16, x: u16)
     ensures { λ _. ⌜ now (t .exit) ≡ takesIn (opOf greatest) n (now (t .entry)) a x ⌝ }
 {
     if a < n {
-        let y = super::op_of(greatest, at(t, a), x);
+        let own = at(t, a);
+        let y = super::op_of(greatest, own, x);
         store(t, a, y);
     }
 }
