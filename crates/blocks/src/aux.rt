@@ -126,7 +126,7 @@ fn join<'a>(
 )
     ensures { λ _. ⌜ now (t .exit) ≡ joins units (now (parent .entry)) (now (value .entry)) mark a b (now (t .entry)) ⌝ }
 {
-    tables::hear(counts(parent, mark, a, b), false, units, value, a, b, t);
+    tables::hear_if(counts(parent, mark, a, b), false, units, value, a, b, t);
 }
 
 // The joins of links; `linked` marks them.

@@ -35,7 +35,7 @@ fn locals<'a>(
     while j < links {
         let a = tables::end_a(ends, j);
         let b = tables::end_b(ends, j);
-        tables::hear(
+        tables::hear_if(
             arcs::off_tree(parent, a, b),
             greatest,
             256,

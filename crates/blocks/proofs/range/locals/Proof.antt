@@ -32,14 +32,14 @@ end-b-requires c κs = search needs
 off-tree-requires : tie.Need-off-tree-requires Inv-loop μ-loop
 off-tree-requires c κs = search needs
 
-slice-aggregate-hear : tie.Need-slice-aggregate-hear Inv-loop μ-loop
-slice-aggregate-hear c = search needs
+slice-aggregate-hear-if : tie.Need-slice-aggregate-hear-if Inv-loop μ-loop
+slice-aggregate-hear-if c = search needs
 
-slice-aggregate-hear-2 : tie.Need-slice-aggregate-hear-2 Inv-loop μ-loop
-slice-aggregate-hear-2 c = search needs
+slice-aggregate-hear-if-2 : tie.Need-slice-aggregate-hear-if-2 Inv-loop μ-loop
+slice-aggregate-hear-if-2 c = search needs
 
-hear-requires : tie.Need-hear-requires Inv-loop μ-loop
-hear-requires c κs = search needs
+hear-if-requires : tie.Need-hear-if-requires Inv-loop μ-loop
+hear-if-requires c κs = search needs
 
 add-j : tie.Need-add-j Inv-loop μ-loop
 add-j c = search needs
@@ -54,7 +54,7 @@ loop-again c =
     let x = endA (a .ends .now) (s .loop .j) in
     let y = endB (a .ends .now) (s .loop .j) in
     let put
-    : c .before .hear .last .1 .1 .1 .1 .1 .1 .0
+    : c .before .hear-if .last .1 .1 .1 .1 .1 .1 .0
     ≡ cond (offTree (a .parent .now) x y) (hears (a .greatest) maxUnits (a .t5) x y (s .loop .new)) (s .loop .new)
     = cc in
     (search needs, search needs, local-more (a .greatest) (a .ends .now) (a .parent .now) (a .t5) (s .loop .j) _ _ (s .loop .inv .2) put)
@@ -76,9 +76,9 @@ locals-spec =
     end-a-requires
     end-b-requires
     off-tree-requires
-    slice-aggregate-hear
-    slice-aggregate-hear-2
-    hear-requires
+    slice-aggregate-hear-if
+    slice-aggregate-hear-if-2
+    hear-if-requires
     add-j
     loop-less
     loop-again
