@@ -2,12 +2,11 @@
 // Rounds past the sixteenth, which no state makes, count as the sixteenth: a segment then is longer than any table.
 use values::tables;
 ghost use mathlib.Core.Path.{_≡_};
-ghost use mathlib.Core.Bool.{cond};
-ghost use Prim.Native.Nat.{_+_, _-_, _*_, _^_, _<_, _≤_, min};
-ghost use lib.Dec.{ltb, leb};
+ghost use Prim.Native.Nat.{_+_, _*_, _^_, _<_, _≤_, min};
+ghost use lib.Dec.{ltb};
 ghost use Rattle.lists.specs.Scatter.{opOf};
-ghost use Rattle.rules.specs.Range.{segment, rangeLater, littleLater, bigLater, globalLater};
-ghost use Rattle.rules.specs.MoveLaws.{oddBy, movesLittleBy, movesBigBy, littleBy, bigBy, segmentBeforeBy, withLittleBy, withBigBy, rangeBy, globalBy};
+ghost use Rattle.rules.specs.Range.{segment, rangeLater, littleLater, bigLater, globalLater, rangeEnds};
+ghost use Rattle.rules.specs.MoveLaws.{oddBy, movesLittleBy, movesBigBy, littleBy, bigBy, segmentBeforeBy, withLittleBy, withBigBy, globalBy};
 
 // The length of a segment in round `i`.
 fn span_of(i: u16) -> u32
@@ -229,4 +228,11 @@ pub fn global_later(greatest: bool, i: u16, units: u16, global: [u16; 256]) -> [
         q += 1;
     }
     new
+}
+
+// Whether the stage ends: all lg(n) rounds are made after the first.
+pub fn range_ends(units: u16, made: u16) -> bool
+    ensures { λ r. ⌜ r ≡ rangeEnds units made ⌝ }
+{
+    made == numbers::lg(units)
 }

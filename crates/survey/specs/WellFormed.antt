@@ -1,6 +1,6 @@
 -- A state is well formed (document 01: kept). Every entry of every array is judged, those past n, 2n and m too.
-use mathlib.Core.Bool.{Bool, cond, _&&_, _||_}
-use Prim.Native.Nat.{ℕ, _*_}
+use mathlib.Core.Bool.{Bool, cond, _&&_}
+use Prim.Native.Nat.{_*_}
 use lib.Dec.{eqb, leb, ltb}
 use Rattle.lists.specs.Folds.{every}
 use Rattle.table.specs.Table.{maxLinks, tableRefusal}

@@ -1,7 +1,6 @@
 -- Doubled once a turn.
-use mathlib.Core.Path.{_≡_, refl, sym, _∙_}
-use Prim.Native.Nat.{_*_, _^_, _≤_, _-_, min}
-use native.Mathlib.Nat.{le-antisymm}
+use mathlib.Core.Path.{_≡_}
+use Prim.Native.Nat.{_^_, _≤_, _-_, min}
 use native.Mathlib.Numerals.{add-one}
 use native.Mathlib.Omega.{arith}
 use lib.Pow.{pow-mono}

@@ -1,5 +1,5 @@
 -- From the unit at each place and the local values of the units.
-use mathlib.Core.Path.{_≡_, _∙_}
+use mathlib.Core.Path.{_∙_}
 use Prim.Native.Nat.{_≤_}
 use native.Mathlib.Omega.{arith}
 use Rattle.lists.specs.Scatter.{opOf}

@@ -1,6 +1,6 @@
 -- Link by link, from the values as they were.
-use mathlib.Core.Path.{_≡_, refl, _∙_}
-use Prim.Native.Nat.{ℕ, _≤_, _-_}
+use mathlib.Core.Path.{_≡_}
+use Prim.Native.Nat.{_≤_, _-_}
 use lib.ListN.{length}
 use native.Mathlib.Nat.{le-antisymm}
 use mathlib.Core.Bool.{false}
