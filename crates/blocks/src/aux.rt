@@ -3,6 +3,8 @@ use stages::components;
 use values::arcs;
 use values::tables;
 ghost use mathlib.Core.Path.{_≡_};
+ghost use Prim.Native.Nat.{_+_};
+ghost use lib.Dec.{leb};
 ghost use Rattle.lists.specs.Tables.{over};
 ghost use Rattle.rules.specs.Aux.{linkJoin, linkJoinsRound, joinsParent, parentJoin, parentJoinsRound, joined, auxRound, auxEnds};
 ghost use Rattle.rules.specs.AuxLaws.{overLinks, joins, joinsParents, rooted};
@@ -39,6 +41,13 @@ pub fn link_joins_round<'a>(
     new
 }
 
+// Whether a value is at or past the end of `nd` places from `place` on.
+fn reaches(place: u16, nd: u16, high: u16) -> bool
+    ensures { λ r. ⌜ r ≡ leb (place + nd) high ⌝ }
+{
+    place as u32 + nd as u32 <= high as u32
+}
+
 // Whether unit `u` joins its parent.
 fn joins_parent<'a>(
     parent: &'a [u16],
@@ -52,7 +61,7 @@ fn joins_parent<'a>(
 {
     let p = tables::at(parent, u);
     let place = tables::at(pre, p);
-    let past = values::reaches(place, tables::at(nd, p), tables::at(high, u));
+    let past = reaches(place, tables::at(nd, p), tables::at(high, u));
     let out = values::either(tables::at(low, u) < place, past);
     values::both(
         values::both(p != ABSENT, tables::at(parent, p) != ABSENT),
@@ -117,7 +126,7 @@ fn join<'a>(
 )
     ensures { λ _. ⌜ now (t .exit) ≡ joins units (now (parent .entry)) (now (value .entry)) mark a b (now (t .entry)) ⌝ }
 {
-    tables::hear(counts(parent, mark, a, b), false, units, value, a, b, t);
+    tables::hear_if(counts(parent, mark, a, b), false, units, value, a, b, t);
 }
 
 // The joins of links; `linked` marks them.

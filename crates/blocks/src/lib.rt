@@ -1,5 +1,3 @@
-// Stages 7 to 10 as code: a function for each table that a round leaves, equal to its rule for every input.
+// Stages 8 to 10 as code: a function for each table that a round leaves, equal to its rule for every input.
 pub mod aux;
 pub mod labels;
-pub mod moves;
-pub mod range;

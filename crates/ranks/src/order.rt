@@ -3,7 +3,6 @@ use values::arcs;
 use values::counts;
 use values::tables;
 ghost use mathlib.Core.Path.{_≡_};
-ghost use Prim.Native.Nat.{ℕ};
 ghost use Rattle.rules.specs.Order.{forwardMark, forwardRound, ndRound, secondSum, secondSums, secondJumps, preRound};
 ghost use Rattle.rules.specs.OrderLaws.{descendantsBy, placeBy};
 

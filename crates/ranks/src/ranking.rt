@@ -1,7 +1,7 @@
 // Stages 4 and 6: list ranking by doubling, over `objects` objects.
 ghost use mathlib.Core.Path.{_≡_};
 ghost use mathlib.Core.Bool.{cond};
-ghost use Rattle.rules.specs.Ranking.{asks, sumAfter, sumRound, jumpAfter, jumpRound, requestsOf};
+ghost use Rattle.rules.specs.Ranking.{asks, sumAfter, sumRound, jumpAfter, jumpRound, requestsOf, rankingEnds};
 
 const ABSENT: u16 = 65535;
 
@@ -73,4 +73,11 @@ pub fn requests(objects: usize, jump: &[u16]) -> usize
         a += 1;
     }
     made
+}
+
+// Whether the stage ends: with one round without requests.
+pub fn ranking_ends(objects: usize, jump: &[u16]) -> bool
+    ensures { λ r. ⌜ r ≡ rankingEnds objects (now (jump .entry)) ⌝ }
+{
+    requests(objects, jump) == 0
 }

@@ -1,12 +1,12 @@
 -- Stage 9 as loops make it: first over the joins of links, then over the joins with parents, and last the roots.
-use mathlib.Core.Path.{_≡_, refl, sym, ap, _∙_}
-use mathlib.Core.Bool.{Bool, true, false, cond}
+use mathlib.Core.Path.{_≡_, refl, sym, _∙_}
+use mathlib.Core.Bool.{false, cond}
 use mathlib.Core.List.{List}
 use Prim.Native.Nat.{ℕ, zero, suc, _+_, _≤_, _<_, min}
 use native.Mathlib.Nat.{le-antisymm}
 use native.Mathlib.Numerals.{add-one}
 use lib.Dec.{eqb}
-use lib.ListN.{length, getD}
+use lib.ListN.{length}
 use Rattle.lists.specs.Tables.{over, getD-over, length-over}
 use Rattle.lists.specs.Folds.{least}
 use Rattle.lists.specs.Rounds.{over-self, over-over, over-same}

@@ -1,11 +1,10 @@
 -- Stage 1 as a loop over the links makes it.
-use mathlib.Core.Path.{_≡_, refl, sym, ap, _∙_}
+use mathlib.Core.Path.{_≡_, refl, sym}
 use mathlib.Core.Bool.{Bool, true, false, cond}
 use mathlib.Core.List.{List}
-use Prim.Native.Nat.{ℕ, zero, suc, _+_, _≤_, _<_}
+use Prim.Native.Nat.{ℕ, _+_}
 use native.Mathlib.Numerals.{add-one}
 use lib.Dec.{eqb}
-use lib.ListN.{length}
 use Rattle.lists.specs.Tables.{over}
 use Rattle.lists.specs.Rounds.{over-self, over-over}
 use Rattle.lists.specs.Scatter.{fold-start}

@@ -1,6 +1,6 @@
 -- The first item with a key, by buckets: stages 3 (the arc that an arc follows), 7 (the unit at a place) and 10 (a class's least position).
-use mathlib.Core.Path.{_≡_, refl, sym, ap, _∙_}
-use mathlib.Core.Bool.{Bool, true, false, cond}
+use mathlib.Core.Path.{_≡_, refl}
+use mathlib.Core.Bool.{true, false, cond}
 use mathlib.Core.Logic.{_⊎_, inl, inr}
 use mathlib.Core.List.{List}
 use Prim.Native.Nat.{ℕ, zero, suc, _+_, _≤_, _<_, min}
@@ -10,7 +10,6 @@ use native.Mathlib.Numerals.{add-one}
 use native.Mathlib.Omega.{arith}
 use lib.Dec.{eqb}
 use lib.ListN.{length, getD}
-use Rattle.lists.specs.Tables.{over}
 use Rattle.lists.specs.Tests.{either}
 use Rattle.lists.specs.Folds.{least}
 use Rattle.lists.specs.FoldLaws.{least-le-start}

@@ -1,5 +1,5 @@
 -- Stage 7's later rounds by the length of the segments: `span` is 2 ^ i and `period` twice that.
-use mathlib.Core.Path.{_≡_, refl}
+use mathlib.Core.Path.{_≡_}
 use mathlib.Core.Bool.{Bool, not, cond, _&&_}
 use mathlib.Core.List.{List}
 use Prim.Native.Nat.{ℕ, suc, _+_, _-_, _%_, _^_}

@@ -1,23 +1,23 @@
 -- Followers fit a word wherever units and parents exist: what stage 3's code stores is then the rule's.
-use mathlib.Core.Path.{_≡_, refl, sym, ap, _∙_}
-use mathlib.Core.Bool.{Bool, true, false, not, cond, _&&_, _||_}
+use mathlib.Core.Path.{_≡_, refl}
+use mathlib.Core.Bool.{Bool, true, false, cond, _&&_}
 use mathlib.Core.Logic.{_⊎_, inl, inr}
 use mathlib.Core.List.{List}
-use Prim.Native.Nat.{ℕ, zero, suc, _+_, _*_, _/_, _%_, _≤_, _<_, min}
+use Prim.Native.Nat.{ℕ, _+_, _*_, _≤_, _<_}
 use native.Mathlib.Decide.{decLt}
 use native.Mathlib.Omega.{arith}
 use lib.Dec.{eqb, ltb}
-use lib.ListN.{length, getD, List·getD-eq-default}
-use borrow.Author.Tests.{ltb-true, eqb-true, eqb-false, eq-eqb, ne-eqb}
+use lib.ListN.{length, List·getD-eq-default}
+use borrow.Author.Tests.{ltb-true, eqb-true, eq-eqb, ne-eqb}
 use Rattle.lists.specs.Tests.{either, or-cases}
 use Rattle.lists.specs.Bools.{or-all}
-use Rattle.lists.specs.Tables.{over, over-cong}
-use Rattle.lists.specs.Folds.{least, every}
+use Rattle.lists.specs.Tables.{over-cong}
+use Rattle.lists.specs.Folds.{every}
 use Rattle.lists.specs.FoldLaws.{least-le, least-found, every-at}
 use Rattle.table.specs.Table.{maxUnits}
-use Rattle.rules.specs.Basics.{ABSENT, at, isRoot}
+use Rattle.rules.specs.Basics.{ABSENT, at}
 use Rattle.rules.specs.Bounds.{nameOk}
-use Rattle.rules.specs.Tour.{isArc, isInto, arcUnit, treeNeighbor, leastNeighbor, greaterNeighbor, neighborAfter, arcFrom, arcAfter, follower, nextRound}
+use Rattle.rules.specs.Tour.{isInto, arcUnit, treeNeighbor, leastNeighbor, greaterNeighbor, neighborAfter, arcFrom, arcAfter, follower, nextRound}
 use Rattle.rules.specs.TourLaws.{storedNext, nextStored}
 
 module _ (n : ℕ) (parent : List ℕ) (small : n ≤ maxUnits) (ok : every (nameOk n) parent ≡ true) where

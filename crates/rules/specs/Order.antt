@@ -1,11 +1,11 @@
 -- Stage 5, marks: forward arcs and descendants from the first ranking. Stage 6's last round: the place of each unit (its preorder number).
-use mathlib.Core.Bool.{Bool, not, _&&_, cond}
+use mathlib.Core.Bool.{not, _&&_, cond}
 use mathlib.Core.List.{List}
 use Prim.Native.Nat.{ℕ, _+_, _*_, _-_, _/_}
 use lib.Dec.{eqb, ltb}
 use Rattle.lists.specs.Tables.{over}
 use Rattle.lists.specs.Folds.{count}
-use Rattle.rules.specs.Basics.{ABSENT, at, bounded, isRoot}
+use Rattle.rules.specs.Basics.{at, bounded, isRoot}
 use Rattle.rules.specs.Tour.{isArc, isInto}
 
 -- the reverse of an arc is the other of its pair

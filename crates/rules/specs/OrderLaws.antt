@@ -1,5 +1,5 @@
 -- Stages 5 and 6 as code makes them: a component's size and the units in components of smaller color come from buckets of colors.
-use mathlib.Core.Path.{_≡_, refl, sym, ap, _∙_}
+use mathlib.Core.Path.{_≡_}
 use mathlib.Core.Bool.{true, false, cond}
 use mathlib.Core.List.{List}
 use Prim.Native.Nat.{ℕ, _+_, _*_, _-_, _/_, _<_}

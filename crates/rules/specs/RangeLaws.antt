@@ -1,23 +1,22 @@
 -- Stage 7 as code makes it: local values by one pass over the links, places by buckets, and a round's moves by the segments' length.
-use mathlib.Core.Path.{_≡_, refl, sym, ap, _∙_}
-use mathlib.Core.Bool.{Bool, true, false, not, cond, _&&_}
+use mathlib.Core.Path.{_≡_, refl, sym}
+use mathlib.Core.Bool.{Bool, true, false, cond, _&&_}
 use mathlib.Core.Logic.{_⊎_, inl, inr}
 use mathlib.Core.List.{List}
-use Prim.Native.Nat.{ℕ, zero, suc, _+_, _-_, _%_, _^_, _≤_, _<_, min}
+use Prim.Native.Nat.{ℕ, _+_, _-_, _≤_, _<_, min}
 use native.Mathlib.Nat.{le-antisymm}
 use native.Mathlib.Numerals.{add-one}
 use native.Mathlib.Omega.{arith}
-use lib.Dec.{eqb, ltb, leb}
+use lib.Dec.{eqb, leb}
 use lib.ListN.{length, getD}
-use borrow.Author.Tests.{leb-true, eq-eqb, ne-eqb}
-use Rattle.lists.specs.Tests.{either, and-left, and-right}
+use borrow.Author.Tests.{leb-true, eq-eqb}
+use Rattle.lists.specs.Tests.{and-right}
 use Rattle.lists.specs.Tables.{over, over-cong, getD-over}
-use Rattle.lists.specs.Folds.{fold}
 use Rattle.lists.specs.FoldLaws.{least-found}
 use Rattle.lists.specs.Rounds.{over-self}
 use Rattle.lists.specs.Scatter.{opOf, fold-start}
 use Rattle.table.specs.Table.{maxUnits, endA, endB}
-use Rattle.rules.specs.Basics.{ABSENT, at, bounded, offTree}
+use Rattle.rules.specs.Basics.{ABSENT, at, offTree}
 use Rattle.rules.specs.Buckets.{BUCKETS}
 use Rattle.rules.specs.FirstLaws.{firstAt}
 use Rattle.rules.specs.HeardLaws.{hears, hears-over-if}

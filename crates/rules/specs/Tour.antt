@@ -1,6 +1,6 @@
 -- Stage 3, tour: the Euler tour of each tree as a list of arcs (directed tree links, document 01's list places). The arc into v from its parent is
 -- 2v, the arc out of v to its parent 2v + 1; both exist where v is no root. The tree is what the parent table says.
-use mathlib.Core.Bool.{Bool, true, false, not, _&&_, _||_, cond}
+use mathlib.Core.Bool.{Bool, not, _&&_, _||_, cond}
 use mathlib.Core.List.{List}
 use Prim.Native.Nat.{ℕ, _+_, _*_, _/_, _%_}
 use lib.Dec.{eqb, ltb}

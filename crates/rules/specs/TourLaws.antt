@@ -1,23 +1,19 @@
 -- Stage 3 as code makes it: both arcs of a unit in one turn, neighbours by a scan, predecessors and starts by buckets.
 use mathlib.Core.Path.{_≡_, refl, sym, ap, _∙_}
-use mathlib.Core.Bool.{Bool, true, false, not, cond, _&&_, _||_}
-use mathlib.Core.Logic.{_⊎_, inl, inr}
-use mathlib.Core.List.{List, [], _∷_}
-use Prim.Native.Nat.{ℕ, zero, suc, _+_, _*_, _/_, _%_, _≤_, _<_, min}
+use mathlib.Core.Bool.{Bool, true, false, not, cond, _&&_}
+use mathlib.Core.List.{List}
+use Prim.Native.Nat.{ℕ, _+_, _*_, _/_, _%_, _≤_, _<_, min}
 use native.Mathlib.Nat.{le-antisymm}
-use native.Mathlib.Decide.{ℕ-discrete, decLt}
 use native.Mathlib.Numerals.{add-one}
 use native.Mathlib.Omega.{arith}
 use lib.Dec.{eqb, ltb}
-use lib.ListN.{length, getD}
-use borrow.Author.Tests.{ltb-true, eqb-true, eqb-false, eq-eqb, ne-eqb}
-use Rattle.lists.specs.Tests.{either, or-cases, and-left, cond-true, cond-false}
-use Rattle.lists.specs.Tables.{over, over-cong}
+use lib.ListN.{getD}
+use borrow.Author.Tests.{eqb-true, eq-eqb, ne-eqb}
+use Rattle.lists.specs.Tables.{over}
 use Rattle.lists.specs.Bools.{or-none}
-use Rattle.lists.specs.Folds.{least, every}
+use Rattle.lists.specs.Folds.{least}
 use Rattle.lists.specs.FoldLaws.{fold-cong}
 use Rattle.rules.specs.Basics.{ABSENT, at, isRoot}
-use Rattle.rules.specs.Bounds.{nameOk}
 use Rattle.rules.specs.Buckets.{BUCKETS, lookup, lookup-right}
 use Rattle.rules.specs.FirstLaws.{firstAt, first-clamp}
 use Rattle.rules.specs.Tour

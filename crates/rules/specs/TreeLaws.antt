@@ -1,6 +1,6 @@
 -- Stage 2 as code makes it: a table of the chosen parents by one pass over the links, then entry by entry.
 use mathlib.Core.Path.{_≡_, refl, sym, ap, _∙_}
-use mathlib.Core.Bool.{Bool, true, false, not, cond, _&&_, _||_}
+use mathlib.Core.Bool.{Bool, true, false, not, cond, _&&_}
 use mathlib.Core.List.{List}
 use Prim.Native.Nat.{ℕ, zero, suc, _+_, _≤_, _<_, min}
 use native.Mathlib.Nat.{le-antisymm}
@@ -11,9 +11,9 @@ use lib.Dec.{eqb}
 use lib.ListN.{length, getD, List·getD-eq-default}
 use borrow.Author.Tests.{eq-eqb, ne-eqb}
 use Rattle.lists.specs.Tables.{over, getD-over, over-cong}
-use Rattle.lists.specs.Folds.{least, some}
+use Rattle.lists.specs.Folds.{some}
 use Rattle.lists.specs.Rounds.{over-ext, over-same}
-use Rattle.lists.specs.Scatter.{opOf, takesIn, length-takesIn, pair-over, fold-start}
+use Rattle.lists.specs.Scatter.{takesIn, pair-over, fold-start}
 use Rattle.table.specs.Table.{maxUnits, endA, endB}
 use Rattle.rules.specs.Basics.{ABSENT, at}
 use Rattle.rules.specs.Tree.{visitedBefore, candidate, chosenParent, visits, parentRound, distRound, treeEnds}

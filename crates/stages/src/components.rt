@@ -39,7 +39,7 @@ fn least_heard(units: u16, links: u16, ends: &[u16], value: [u16; 256]) -> [u16;
     while j < links {
         let a = tables::end_a(ends, j);
         let b = tables::end_b(ends, j);
-        tables::hear(true, false, units, &value, a, b, &mut new);
+        tables::hear(false, units, &value, a, b, &mut new);
         j += 1;
     }
     new

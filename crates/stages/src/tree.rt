@@ -1,7 +1,6 @@
 // Stage 2: breadth first. One pass over the links gives each unit its candidate, then each table goes entry by entry.
 use values::tables;
 ghost use mathlib.Core.Path.{_≡_};
-ghost use mathlib.Core.Bool.{not};
 ghost use Prim.Native.Nat.{ℕ, _<_};
 ghost use lib.ListN.{getD};
 ghost use Rattle.lists.specs.Tables.{over};

@@ -2,7 +2,6 @@
 ghost use mathlib.Core.Path.{_≡_};
 ghost use mathlib.Core.Bool.{cond, _&&_, _||_};
 ghost use Prim.Native.Nat.{_+_, _-_, _/_, min, max};
-ghost use lib.Dec.{leb};
 ghost use Rattle.lists.specs.Scatter.{opOf};
 
 pub mod arcs;
@@ -123,13 +122,6 @@ pub fn bounded_sum(x: u16, y: u16) -> u16
     ensures { λ r. ⌜ r ≡ min (x + y) 2048 ⌝ }
 {
     bounded(x as u32 + y as u32)
-}
-
-// Whether a sum is at most `z`.
-pub fn reaches(x: u16, y: u16, z: u16) -> bool
-    ensures { λ r. ⌜ r ≡ leb (x + y) z ⌝ }
-{
-    x as u32 + y as u32 <= z as u32
 }
 
 // A word as an index.

@@ -84,17 +84,25 @@ pub fn take_in(greatest: bool, n: u16, t: &mut [u16], a: u16, x: u16)
     ensures { λ _. ⌜ now (t .exit) ≡ takesIn (opOf greatest) n (now (t .entry)) a x ⌝ }
 {
     if a < n {
-        let y = super::op_of(greatest, at(t, a), x);
+        let own = at(t, a);
+        let y = super::op_of(greatest, own, x);
         store(t, a, y);
     }
 }
 
-// A link or join of `a` and `b`, if it counts: each end takes in what the other says.
-pub fn hear(counts: bool, greatest: bool, n: u16, said: &[u16], a: u16, b: u16, t: &mut [u16])
+// A link or join of `a` and `b`: each end takes in what the other says.
+pub fn hear(greatest: bool, n: u16, said: &[u16], a: u16, b: u16, t: &mut [u16])
+    ensures { λ _. ⌜ now (t .exit) ≡ hears greatest n (now (said .entry)) a b (now (t .entry)) ⌝ }
+{
+    take_in(greatest, n, t, a, at(said, b));
+    take_in(greatest, n, t, b, at(said, a));
+}
+
+// The same, if it counts.
+pub fn hear_if(counts: bool, greatest: bool, n: u16, said: &[u16], a: u16, b: u16, t: &mut [u16])
     ensures { λ _. ⌜ now (t .exit) ≡ cond counts (hears greatest n (now (said .entry)) a b (now (t .entry))) (now (t .entry)) ⌝ }
 {
     if counts {
-        take_in(greatest, n, t, a, at(said, b));
-        take_in(greatest, n, t, b, at(said, a));
+        hear(greatest, n, said, a, b, t);
     }
 }

@@ -1,5 +1,5 @@
 -- What is heard of what is said, without the roots.
-use mathlib.Core.Path.{_≡_, _∙_}
+use mathlib.Core.Path.{_∙_}
 use Rattle.rules.specs.AuxLaws.{aux-round}
 use borrow.Author.Needs.{needs}
 use Rattle.blocks.proofs.aux.aux_round.Statement.{statement}

@@ -6,8 +6,8 @@ use Rattle.blocks.proofs.aux.join.Tie as tie
 counts-requires : tie.Need-counts-requires
 counts-requires c κs = search needs
 
-hear-requires : tie.Need-hear-requires
-hear-requires c κs = search needs
+hear-if-requires : tie.Need-hear-if-requires
+hear-if-requires c κs = search needs
 
 same-length : tie.Need-same-length
 same-length c = search needs
@@ -16,4 +16,4 @@ returns : tie.Need-returns
 returns c = cc
 
 pub join-spec : {M : Type 1} → statement M
-join-spec = tie.close (tie.spec counts-requires hear-requires same-length returns)
+join-spec = tie.close (tie.spec counts-requires hear-if-requires same-length returns)

@@ -1,5 +1,5 @@
 -- Link by link, from the values as they were.
-use mathlib.Core.Path.{_≡_, _∙_}
+use mathlib.Core.Path.{_≡_}
 use Prim.Native.Nat.{_≤_, _-_}
 use native.Mathlib.Nat.{le-antisymm}
 use lib.ListN.{length}

@@ -1,5 +1,5 @@
--- TODO
-use mathlib.Core.Path.{_≡_, refl, sym, _∙_}
+-- Entry by entry, from the tables as they were.
+use mathlib.Core.Path.{_≡_, _∙_}
 use Prim.Native.Nat.{_≤_, _-_}
 use lib.ListN.{length}
 use Rattle.lists.specs.Tables.{over}

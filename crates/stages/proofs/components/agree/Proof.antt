@@ -1,8 +1,8 @@
 -- The test from `i` on is the test of the whole.
-use mathlib.Core.Path.{_≡_, refl, sym, _∙_}
-use Prim.Native.Nat.{ℕ, _≤_, _-_}
+use mathlib.Core.Path.{_≡_, sym, _∙_}
+use Prim.Native.Nat.{_≤_, _-_}
 use native.Mathlib.Omega.{arith}
-use lib.ListN.{length, drop}
+use lib.ListN.{drop}
 use mathlib.Core.Logic.{inl, inr}
 use Rattle.lists.specs.Folds.{agree}
 use Rattle.lists.specs.Agree.{agree-here, agree-later, agree-counted, agree-ended}

@@ -1,6 +1,6 @@
 -- Link by link, from the values as they were.
-use mathlib.Core.Path.{_≡_, refl, _∙_}
-use Prim.Native.Nat.{ℕ, _≤_, _-_}
+use mathlib.Core.Path.{_≡_}
+use Prim.Native.Nat.{_≤_, _-_}
 use lib.ListN.{length}
 use native.Mathlib.Nat.{le-antisymm}
 use mathlib.Core.Bool.{false}
@@ -47,7 +47,7 @@ loop-again : tie.Need-loop-again Inv-loop μ-loop
 loop-again c =
     let s = c .before .before .before .before .before .before .before in
     let a = s .before .before .args in
-    let put : c .before .hear .last .1 .1 .1 .1 .1 .1 .0 ≡ hears false (a .units) (a .t4) (endA (a .ends .now) (s .loop .j)) (endB (a .ends .now) (s .loop .j)) (s .loop .new) = cc in
+    let put : c .before .hear .last .1 .1 .1 .1 .1 .0 ≡ hears false (a .units) (a .t4) (endA (a .ends .now) (s .loop .j)) (endB (a .ends .now) (s .loop .j)) (s .loop .new) = cc in
     (search needs, search needs, heard-more (a .units) (s .loop .j) (a .ends .now) (a .t4) _ _ (s .loop .inv .2) put)
 
 returns : tie.Need-returns Inv-loop μ-loop

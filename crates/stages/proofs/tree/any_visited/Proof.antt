@@ -1,5 +1,5 @@
 -- One unit more at a time.
-use mathlib.Core.Path.{_≡_, refl, _∙_}
+use mathlib.Core.Path.{_≡_, _∙_}
 use Prim.Native.Nat.{_≤_, _-_}
 use Rattle.lists.specs.Folds.{some}
 use Rattle.lists.specs.Counts.{some-more, some-all}

@@ -1,5 +1,5 @@
 -- Each table from the chosen parents.
-use mathlib.Core.Path.{_≡_, sym, ap, _∙_}
+use mathlib.Core.Path.{ap, _∙_}
 use mathlib.Core.Bool.{not}
 use Prim.Native.Nat.{_≤_}
 use native.Mathlib.Omega.{arith}

@@ -1,6 +1,6 @@
 -- One item more at a time.
 use mathlib.Core.Path.{_≡_, refl, _∙_}
-use Prim.Native.Nat.{ℕ, _≤_, _-_}
+use Prim.Native.Nat.{_≤_, _-_}
 use Rattle.rules.specs.FirstLaws.{firstAt, scan-more, scan-all}
 use borrow.Author.Needs.{needs}
 use Rattle.values.proofs.firsts.first_at.Statement.{statement}

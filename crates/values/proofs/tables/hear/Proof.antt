@@ -1,4 +1,4 @@
--- By the flag; the second end takes in after the first.
+-- The second end takes in after the first.
 use Rattle.rules.specs.HeardLaws.{hears}
 use borrow.Author.Needs.{needs}
 use Rattle.values.proofs.tables.hear.Statement.{statement}
@@ -21,20 +21,9 @@ same-length c = search needs
 
 returns : tie.Need-returns
 unfolding hears
-returns c = rw (c .before .before .before .before .before .before .before .before .before .before .if1 .taken) (cc)
-
-returns-2 : tie.Need-returns-2
-unfolding hears
-returns-2 c = rw (c .if1 .left)
+returns c = cc
 
 pub hear-spec : {M : Type 1} → statement M
 hear-spec =
     tie.close
-    (tie.spec
-    at-requires
-    take-in-requires
-    at-requires-2
-    take-in-requires-2
-    same-length
-    returns
-    returns-2)
+    (tie.spec at-requires take-in-requires at-requires-2 take-in-requires-2 same-length returns)

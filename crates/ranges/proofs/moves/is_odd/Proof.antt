@@ -1,0 +1,17 @@
+-- A period of 0 leaves the number.
+use native.Mathlib.Nat.{mod-zero}
+use borrow.Author.Needs.{needs}
+use Rattle.ranges.proofs.moves.is_odd.Statement.{statement}
+use Rattle.ranges.proofs.moves.is_odd.Tie as tie
+
+returns : tie.Need-returns
+returns c = rw (c .if1 .taken, mod-zero (c .before .args .x))
+
+rem-result : tie.Need-rem-result
+rem-result c = search needs
+
+returns-2 : tie.Need-returns-2
+returns-2 c = search needs
+
+pub is-odd-spec : {M : Type 1} → statement M
+is-odd-spec = tie.close (tie.spec returns rem-result returns-2)
