@@ -13,7 +13,7 @@ returns : tie.Need-returns
 unfolding loadAnswer
 returns c =
     let r = c .before .refusal in
-    rw (sym (r .ensures)) (answered-refused (r .result) _ _ _ (c .if1 .taken))
+    answered-refused _ (r .result) _ _ _ (r .ensures) (c .if1 .taken)
 
 loaded-requires : tie.Need-loaded-requires
 loaded-requires c κs = search needs
