@@ -1,5 +1,5 @@
 -- An answer by whether the call was refused.
-use mathlib.Core.Path.{_≡_, refl}
+use mathlib.Core.Path.{_≡_, refl, sym}
 use mathlib.Core.Bool.{true, false}
 use Prim.Native.Nat.{ℕ}
 use lib.Dec.{eqb}
@@ -12,9 +12,10 @@ use Rattle.survey.specs.WellFormed.{wellFormed}
 use Rattle.survey.specs.Step.{countdown}
 use Rattle.survey.specs.Calls.{answered, statusRefusal, statusAnswer}
 
-pub answered-refused : (k : ℕ) (s after : Survey) (reply : Reply) → (k ≡ 0 → ⊥)
-    → _≡_ {A = Answer} (record { survey = s; reply = Refused k }) (answered k s after reply)
-answered-refused k s after reply h = rw (ne-eqb k 0 h) refl
+-- r is the number that came up
+pub answered-refused : (k r : ℕ) (s after : Survey) (reply : Reply) → r ≡ k → (r ≡ 0 → ⊥)
+    → _≡_ {A = Answer} (record { survey = s; reply = Refused r }) (answered k s after reply)
+answered-refused k r s after reply e h = rw (sym e, ne-eqb r 0 h) refl
 
 pub answered-made : (k : ℕ) (s after : Survey) (reply : Reply) → k ≡ 0
     → _≡_ {A = Answer} (record { survey = after; reply = reply }) (answered k s after reply)

@@ -1,8 +1,8 @@
 -- Laws of loading, and of the state that was never loaded.
 use mathlib.Core.Path.{_≡_, refl, _∙_}
-use mathlib.Core.Bool.{Bool, true, false}
-use mathlib.Core.List.{List, _∷_, [], _++_}
-use Prim.Native.Nat.{ℕ, suc, _+_, _≤_, _<_}
+use mathlib.Core.Bool.{true, false}
+use mathlib.Core.List.{List, _++_}
+use Prim.Native.Nat.{ℕ, _+_, _≤_, _<_}
 use native.Mathlib.Numerals.{add-one}
 use native.Mathlib.Omega.{arith}
 use lib.ListN.{length, getD, set, take, drop, length-replicate}
@@ -13,7 +13,7 @@ use Rattle.table.specs.Table.{tableRefusal}
 use Rattle.table.specs.Passes.{passes}
 use Rattle.survey.specs.State.{units, words}
 use Rattle.survey.specs.Load.{absents, begun, unloaded}
-use Rattle.survey.specs.Kept.{Kept, kept-exact}
+use Rattle.survey.specs.Kept.{kept-exact}
 use Rattle.survey.specs.WellFormed.{wellFormed}
 
 -- one word more laid down
@@ -32,7 +32,7 @@ pub length-absents : (k : ℕ) → length (absents k) ≡ k
 unfolding absents
 length-absents k = length-replicate k _
 
--- it is not well formed, and so every call but load is refused with 10
+-- a state never loaded is not well formed, and so every call but load is refused with 10
 pub unloaded-unkept : wellFormed unloaded ≡ false
 unfolding unloaded begun
 unloaded-unkept = refuted (wellFormed unloaded) none

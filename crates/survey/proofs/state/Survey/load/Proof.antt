@@ -1,6 +1,7 @@
 -- By whether the table passes.
 use mathlib.Core.Path.{sym, _∙_}
 use borrow.Author.Needs.{needs}
+use Rattle.table.specs.Table.{tableRefusal}
 use Rattle.survey.specs.Calls.{loadAnswer}
 use Rattle.survey.specs.AnswerLaws.{answered-refused, answered-made}
 use Rattle.survey.proofs.state.Survey.load.Statement.{statement}
@@ -12,8 +13,9 @@ refusal-requires c κs = search needs
 returns : tie.Need-returns
 unfolding loadAnswer
 returns c =
+    let a = c .before .before .before .args in
     let r = c .before .refusal in
-    rw (sym (r .ensures)) (answered-refused (r .result) _ _ _ (c .if1 .taken))
+    answered-refused (tableRefusal (a .units) (a .table .now)) (r .result) (a .self) _ _ (r .ensures) (c .if1 .taken)
 
 loaded-requires : tie.Need-loaded-requires
 loaded-requires c κs = search needs
