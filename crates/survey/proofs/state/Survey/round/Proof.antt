@@ -1,5 +1,5 @@
 -- By whether the call is refused.
-use mathlib.Core.Path.{sym, _∙_}
+use mathlib.Core.Path.{refl, sym, _∙_}
 use borrow.Author.Needs.{needs}
 use Rattle.survey.specs.Calls.{roundAnswer}
 use Rattle.survey.specs.AnswerLaws.{answered-refused, answered-made}
@@ -15,7 +15,7 @@ returns : tie.Need-returns
 unfolding roundAnswer
 returns c =
     let r = c .before .refusal in
-    rw (sym (r .ensures)) (answered-refused (r .result) _ _ _ (c .if1 .taken))
+    rw (sym (r .ensures)) (answered-refused (r .result) (r .result) _ _ _ refl (c .if1 .taken))
 
 go-requires : tie.Need-go-requires
 go-requires c κs =
