@@ -38,6 +38,7 @@ module _ (n : ℕ) (t : List ℕ) (accepted : tableRefusal n t ≡ 0) where
       at-least (inl e) = omega (arith, few)
       at-least (inr f) =
           ended-exact (loaded n t) w (ran 65535 0 (loaded n t) .1) .0 (rw (← (made .state)) (eqb-true (ran 65535 0 (loaded n t) .0 .clock .stage) FINISHED f))
+
       at-most : Dec (total (loaded n t) < ran 65535 0 (loaded n t) .1) → ran 65535 0 (loaded n t) .1 ≤ total (loaded n t)
       at-most (yes l) =
           absurd (not-both (finished (steps (total (loaded n t)) (loaded n t))) (eq-eqb _ FINISHED (total-least (loaded n t) w .ends)) (made .going (total (loaded n t)) l))

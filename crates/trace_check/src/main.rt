@@ -50,22 +50,19 @@ fn rounds(first: Survey) {
     }
 }
 
-fn surveyed(units: u16, words: &[u16]) {
-    let answer = Survey::new().load(units, words);
-    let first = answer.survey;
-    rounds(first);
+fn surveyed(units: u16, end: usize, words: &[u16]) {
+    if end <= words.len() {
+        let answer = Survey::new().load(units, &words[..end]);
+        let first = answer.survey;
+        rounds(first);
+    }
 }
 
 fn read(file: &[u8]) {
     let mut words = [0u16; 2048];
     let found = files::read(file, &mut words);
     match found {
-        Reading::Read { units, links } => {
-            let end = 2 * (links as usize);
-            if end <= 2048 {
-                surveyed(units, &words[..end]);
-            }
-        }
+        Reading::Read { units, links } => surveyed(units, 2 * (links as usize), &words),
         Reading::Refused(_) => {
             io::write_all(STDOUT_FILENO, b"not read\n");
         }
