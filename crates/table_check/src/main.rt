@@ -1,0 +1,119 @@
+// Surveys each file that an argument names, round by round: a line with its name, then every table after the load and after each round.
+use files::Reading;
+use survey::Reply;
+use survey::Survey;
+
+mod say;
+
+// The tables by unit, by place and by link.
+fn plain(s: Survey) {
+    let units = s.table.units;
+    let links = s.table.links;
+    say::row(b"color", units, &s.components.color);
+    say::row(b"parent", units, &s.tree.parent);
+    say::row(b"dist", units, &s.tree.dist);
+    say::row(b"descendants", units, &s.order.nd);
+    say::row(b"place", units, &s.order.pre);
+    say::row(b"least", units, &s.range.low);
+    say::row(b"greatest", units, &s.range.high);
+    say::row(b"little", units, &s.range.little);
+    say::row(b"big", units, &s.range.big);
+    say::row(b"segments-least", units, &s.global.low);
+    say::row(b"segments-greatest", units, &s.global.high);
+    say::row(b"joins-parent", units, &s.aux.parents);
+    say::row(b"joins-link", links, &s.aux.links);
+    say::row(b"class", units, &s.aux.color);
+    say::row(b"link-class", links, &s.labels.class);
+    say::row(b"label", links, &s.labels.label);
+}
+
+// The tables by directed tree link.
+fn arcs(s: Survey) {
+    let units = s.table.units;
+    say::arc_row(b"follower", true, units, &s.tree.parent, &s.tour.next);
+    say::arc_row(b"predecessor", true, units, &s.tree.parent, &s.tour.pred);
+    say::arc_row(b"working", true, units, &s.tree.parent, &s.ranking.jump);
+    say::arc_row(b"sum", false, units, &s.tree.parent, &s.ranking.sum);
+    say::arc_row(b"forward", false, units, &s.tree.parent, &s.order.forward);
+}
+
+// Prints the state; whether the survey goes on.
+fn state(s: Survey) -> bool {
+    let answer = s.status();
+    let reply = answer.reply;
+    match reply {
+        Reply::Status {
+            stage,
+            countdown,
+            rounds,
+            requests,
+        } => {
+            say::head(stage, countdown, rounds, requests);
+            plain(s);
+            if 3 <= stage {
+                arcs(s);
+            }
+            stage != 11
+        }
+        _ => false,
+    }
+}
+
+// All rounds, at most as many as any survey takes.
+fn rounds(first: Survey) {
+    let mut s = first;
+    let mut i: u16 = 0;
+    let mut goes = state(s);
+    while i < 805 {
+        if goes {
+            let answer = s.round();
+            let next = answer.survey;
+            s = next;
+            goes = state(s);
+        }
+        i += 1;
+    }
+}
+
+fn surveyed(units: u16, end: usize, words: &[u16]) {
+    if end <= words.len() {
+        let answer = Survey::new().load(units, &words[..end]);
+        let first = answer.survey;
+        rounds(first);
+    }
+}
+
+fn read(file: &[u8]) {
+    let mut words = [0u16; 2048];
+    let found = files::read(file, &mut words);
+    match found {
+        Reading::Read { units, links } => surveyed(units, 2 * (links as usize), &words),
+        Reading::Refused(_) => (),
+    }
+}
+
+// The file of argument `i`.
+fn one(i: usize) {
+    let mut name = io::buffer();
+    let length = os::arg(i, &mut name);
+    say::text(&name[..length]);
+    say::newline();
+    let fd = os::open_read(&name[..length]);
+    if fd < 0 {
+        os::fail(&name[..length]);
+        return;
+    }
+    let mut input = io::large_buffer();
+    let got = io::read_full(fd, &mut input);
+    libc::close(fd);
+    read(&input[..got]);
+}
+
+fn main() {
+    let count = os::arg_count();
+    let mut i = 1;
+    while i < count {
+        one(i);
+        i += 1;
+    }
+}
