@@ -1,21 +1,17 @@
 -- What the code of each stage's round computes: the groups that change and the clock, from what the round reads. On a kept state that is a step.
-use mathlib.Core.Path.{_≡_, refl, sym, ap, _∙_}
-use mathlib.Core.Bool.{Bool, true, false, cond, _||_}
+use mathlib.Core.Path.{_≡_}
+use mathlib.Core.Bool.{true, false, cond}
 use mathlib.Core.Logic.{_⊎_, inl, inr}
 use mathlib.Core.List.{List}
 use Prim.Native.Nat.{ℕ, _+_, _*_, _-_, _≤_, _<_, min, max}
 use native.Mathlib.Omega.{arith}
-use lib.Dec.{eqb, leb}
-use borrow.Author.Tests.{eqb-false}
+use lib.Dec.{eqb}
 use Rattle.lists.specs.Tests.{either}
 use Rattle.lists.specs.All.{every-exact}
-use Rattle.lists.specs.Folds.{every}
 use Rattle.table.specs.Table.{maxUnits}
 use Rattle.table.specs.Passes.{passes}
 use Rattle.rules.specs.Bounds.{nameOk}
 use Rattle.rules.specs.BoundLaws.{Names, name-exact}
-use Rattle.rules.specs.Ceilings.{ceiling}
-use Rattle.rules.specs.CeilingLaws.{ceiling-small}
 use Rattle.numbers.specs.Lg.{lg}
 use Rattle.numbers.specs.LgLaws.{lg-least}
 use Rattle.rules.specs.Components.{colorRound, colorEnds}
@@ -51,11 +47,11 @@ use Rattle.survey.specs.State
 use Rattle.survey.specs.State.{units, links, FINISHED}
 use Rattle.survey.specs.WellFormed.{wellFormed}
 use Rattle.survey.specs.Kept.{Kept, kept-exact}
-use Rattle.survey.specs.StepKept.{made-below, stage-small}
+use Rattle.survey.specs.StepKept.{made-below}
 use Rattle.survey.specs.Step
 use Rattle.survey.specs.Step.{step, nextClock}
 use Rattle.survey.specs.StageLaws
-use Rattle.survey.specs.Ready.{Ready, lastAt}
+use Rattle.survey.specs.Ready.{lastAt}
 
 -- ---- stage 1
 

@@ -30,7 +30,7 @@ least-of-requires-2 c κs = search needs
 
 returns : tie.Need-returns
 unfolding nextClock
-returns c = cc
+returns c = rw (c .least-of2 .ensures, c .before .before .least-of .ensures, c .before .before .before .before .choose2 .ensures, c .before .before .before .before .before .before .choose .ensures)
 
 pub ticked-spec : {M : Type 1} → statement M
 ticked-spec =

@@ -21,7 +21,7 @@ ticked-requires c κs = search needs
 
 returns : tie.Need-returns
 unfolding componentsStep
-returns c = cc
+returns c = rw (c .ticked .ensures, c .before .is-last .ensures, c .before .before .color-ends .ensures, c .before .before .before .before .before .before .before .color-round .ensures)
 
 pub components-step-spec : {M : Type 1} → statement M
 components-step-spec =

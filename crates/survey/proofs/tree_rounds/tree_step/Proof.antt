@@ -15,7 +15,7 @@ ticked-requires c κs = search needs
 
 returns : tie.Need-returns
 unfolding treeStep
-returns c = cc
+returns c = rw (c .before .before .ticked .ensures, c .before .before .before .is-last .ensures, c .before .before .before .before .tree-round .ensures .0, c .before .before .before .before .tree-round .ensures .1 .0, c .before .before .before .before .tree-round .ensures .1 .1)
 
 pub tree-step-spec : {M : Type 1} → statement M
 tree-step-spec = tie.close (tie.spec tree-round-requires is-last-requires ticked-requires returns)
