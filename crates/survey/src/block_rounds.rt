@@ -133,7 +133,7 @@ fn range_doubled(units: u16, i: u16, group: Range, global: Global, after: Clock)
 }
 
 // Stage 7.
-pub fn range_step<'a>(
+pub(crate) fn range_step<'a>(
     units: u16,
     links: u16,
     ends: &'a [u16],
@@ -157,7 +157,7 @@ pub fn range_step<'a>(
 }
 
 // Stage 8.
-pub fn edges_step<'a>(
+pub(crate) fn edges_step<'a>(
     units: u16,
     links: u16,
     ends: &'a [u16],
@@ -196,7 +196,7 @@ pub fn edges_step<'a>(
 }
 
 // Stage 9.
-pub fn aux_step<'a>(
+pub(crate) fn aux_step<'a>(
     units: u16,
     links: u16,
     ends: &'a [u16],
@@ -235,7 +235,7 @@ pub fn aux_step<'a>(
 }
 
 // Stage 10: classes, then labels.
-pub fn labels_step<'a>(
+pub(crate) fn labels_step<'a>(
     units: u16,
     links: u16,
     ends: &'a [u16],

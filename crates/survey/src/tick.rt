@@ -8,7 +8,7 @@ ghost use Rattle.survey.specs.Ready.{Ready, lastAt};
 ghost use Rattle.survey.specs.Step.{nextClock};
 
 // Whether this round is its stage's last: by the stage's rule or at its ceiling.
-pub fn is_last(units: u16, ends: bool, clock: Clock) -> bool
+pub(crate) fn is_last(units: u16, ends: bool, clock: Clock) -> bool
     requires { ⌜ Ready units clock ⌝ }
     ensures { λ r. ⌜ r ≡ lastAt units ends clock ⌝ }
 {
@@ -18,7 +18,7 @@ pub fn is_last(units: u16, ends: bool, clock: Clock) -> bool
 }
 
 // The clock after a round with so many requests.
-pub fn ticked(units: u16, last: bool, requests: u16, clock: Clock) -> Clock
+pub(crate) fn ticked(units: u16, last: bool, requests: u16, clock: Clock) -> Clock
     requires { ⌜ Ready units clock ⌝ }
     requires { ⌜ requests ≤ 512 ⌝ }
     ensures { λ r. ⌜ r ≡ nextClock last requests clock ⌝ }

@@ -45,7 +45,7 @@ pub struct OrderStep {
 }
 
 // Stage 1.
-pub fn components_step(
+pub(crate) fn components_step(
     units: u16,
     links: u16,
     ends: &[u16],
@@ -68,7 +68,7 @@ pub fn components_step(
 }
 
 // Stage 2.
-pub fn tree_step<'a>(
+pub(crate) fn tree_step<'a>(
     units: u16,
     links: u16,
     ends: &'a [u16],
@@ -97,7 +97,7 @@ pub fn tree_step<'a>(
 }
 
 // Stage 3: followers, then predecessors with the start of the first ranking.
-pub fn tour_step(
+pub(crate) fn tour_step(
     units: u16,
     parent: &[u16],
     clock: Clock,
@@ -160,7 +160,7 @@ fn doubled(units: u16, group: Ranking) -> Ranking
 }
 
 // Stage 4.
-pub fn ranking_step(units: u16, clock: Clock, group: Ranking) -> RankingStep
+pub(crate) fn ranking_step(units: u16, clock: Clock, group: Ranking) -> RankingStep
     requires { ⌜ Ready units clock ⌝ }
     ensures { λ r. ⌜ r ≡ rankingStep units clock group ⌝ }
 {
@@ -175,7 +175,7 @@ pub fn ranking_step(units: u16, clock: Clock, group: Ranking) -> RankingStep
 }
 
 // Stage 5: forward marks, then descendants with the start of the second ranking.
-pub fn marks_step<'a>(
+pub(crate) fn marks_step<'a>(
     units: u16,
     color: &'a [u16],
     parent: &'a [u16],
@@ -225,7 +225,7 @@ pub fn marks_step<'a>(
 }
 
 // Stage 6: a ranking round; the last one writes the places.
-pub fn places_step<'a>(
+pub(crate) fn places_step<'a>(
     units: u16,
     color: &'a [u16],
     parent: &'a [u16],

@@ -1,11 +1,11 @@
 // Printing rows of tables.
 use libc::STDOUT_FILENO;
 
-pub fn text(s: &[u8]) {
+pub(crate) fn text(s: &[u8]) {
     io::write_all(STDOUT_FILENO, s);
 }
 
-pub fn newline() {
+pub(crate) fn newline() {
     io::write_all(STDOUT_FILENO, b"\n");
 }
 
@@ -31,7 +31,7 @@ fn said(word: &[u8], n: u16) {
     number(n);
 }
 
-pub fn head(stage: u16, countdown: u16, rounds: u16, requests: u16) {
+pub(crate) fn head(stage: u16, countdown: u16, rounds: u16, requests: u16) {
     said(b"round ", rounds);
     said(b" stage ", stage);
     said(b" countdown ", countdown);
@@ -48,7 +48,7 @@ fn entries(count: u16, t: &[u16]) {
     }
 }
 
-pub fn row(name: &[u8], count: u16, t: &[u16]) {
+pub(crate) fn row(name: &[u8], count: u16, t: &[u16]) {
     text(name);
     entries(count, t);
     newline();
@@ -118,7 +118,7 @@ fn all_arcs<'a>(names: bool, units: u16, parent: &'a [u16], t: &'a [u16]) {
     }
 }
 
-pub fn arc_row<'a>(name: &[u8], names: bool, units: u16, parent: &'a [u16], t: &'a [u16]) {
+pub(crate) fn arc_row<'a>(name: &[u8], names: bool, units: u16, parent: &'a [u16], t: &'a [u16]) {
     text(name);
     all_arcs(names, units, parent, t);
     newline();
