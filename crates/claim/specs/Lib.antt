@@ -3,3 +3,6 @@ pub mod PlayLaws
 pub mod Claim
 pub mod Words
 pub mod WordLaws
+pub mod WordSteps
+pub mod KindLaws
+pub mod StoreLaws

@@ -48,7 +48,7 @@ encoded (Status stage countdown rounds requests) = 3 ∷ stage ∷ countdown ∷
 encoded (Unit v color parent place single) = 4 ∷ v ∷ color ∷ parent ∷ place ∷ flag single ∷ 0 ∷ 0 ∷ []
 encoded (Link j label lone) = 5 ∷ j ∷ label ∷ flag lone ∷ 0 ∷ 0 ∷ 0 ∷ 0 ∷ []
 encoded (Read n m) = 6 ∷ n ∷ m ∷ 0 ∷ 0 ∷ 0 ∷ 0 ∷ 0 ∷ []
-encoded (Written k) = 7 ∷ k / 65536 % 65536 ∷ k % 65536 ∷ 0 ∷ 0 ∷ 0 ∷ 0 ∷ 0 ∷ []
+encoded (Written k) = 7 ∷ k / 65536 ∷ k % 65536 ∷ 0 ∷ 0 ∷ 0 ∷ 0 ∷ 0 ∷ []
 
 -- ---- the list
 

@@ -43,9 +43,16 @@ printedFile input =
 unfoldable pub printed : List ℕ → List ℕ
 printed input = let whole = printedFile input in cond (ltb MAX-INPUT (length input)) (refusalLine 1) whole
 
--- the lent slice after printing, and the number of bytes: as it was, and 0, where it is too short
-unfoldable pub printedOver : List ℕ → List ℕ → List ℕ
-printedOver input out = cond (ltb (length out) (length (printed input))) out (printed input ++ drop (length (printed input)) out)
+-- a slice after a text was laid over its front, and the number of bytes: as it was, and 0, where it is too short
+unfoldable pub laidOver : List ℕ → List ℕ → List ℕ
+laidOver text out = cond (ltb (length out) (length text)) out (text ++ drop (length text) out)
 
-unfoldable pub printedCount : List ℕ → ℕ → ℕ
-printedCount input places = cond (ltb places (length (printed input))) 0 (length (printed input))
+unfoldable pub laidCount : List ℕ → ℕ → ℕ
+laidCount text places = cond (ltb places (length text)) 0 (length text)
+
+-- the lent slice after printing, and the number of bytes printed
+abbrev pub printedOver : List ℕ → List ℕ → List ℕ
+printedOver input out = laidOver (printed input) out
+
+abbrev pub printedCount : List ℕ → ℕ → ℕ
+printedCount input places = laidCount (printed input) places

@@ -10,6 +10,7 @@ pub mod StepKept
 pub mod StepLaws
 pub mod Ready
 pub mod Arms
+pub mod AskLaws
 pub mod LoadLaws
 pub mod Run
 pub mod Going

@@ -1,8 +1,10 @@
 // The survey's state and its calls.
 mod block_rounds;
 mod clock;
+mod file_calls;
 mod kept;
 mod load;
+mod questions;
 mod reply;
 mod report;
 mod run;

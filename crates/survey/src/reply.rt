@@ -1,5 +1,7 @@
 // What a call hands back: the state, and beside it the answer or only the number of a refusal.
 use super::state::Survey;
+ghost use mathlib.Core.Path.{_≡_};
+ghost use Rattle.survey.specs.Calls.{numberOf};
 
 pub enum Reply {
     // Only the number comes back.
@@ -35,6 +37,24 @@ pub enum Reply {
     },
     // A report or a file of so many characters was written.
     Written(u32),
+}
+
+impl Reply {
+    // Document 01's number: 0 where the call was not refused.
+    pub fn number(self) -> u8
+        ensures { λ r. ⌜ r ≡ numberOf self ⌝ }
+    {
+        match self {
+            Reply::Refused(number) => number,
+            Reply::Done => 0,
+            Reply::Made(_) => 0,
+            Reply::Status { .. } => 0,
+            Reply::Unit { .. } => 0,
+            Reply::Link { .. } => 0,
+            Reply::Read { .. } => 0,
+            Reply::Written(_) => 0,
+        }
+    }
 }
 
 pub struct Answer {

@@ -1,4 +1,4 @@
-// What a finished survey answers: the questions' replies and the report.
+// What a finished survey answers: the questions' replies and the report (10, 12, 14).
 ghost use mathlib.Core.Path.{_≡_};
 ghost use mathlib.Core.List.{_++_};
 ghost use Prim.Native.Nat.{_*_, _≤_};
@@ -7,11 +7,53 @@ ghost use Rattle.lists.specs.Folds.{count};
 ghost use Rattle.lists.specs.Tables.{gathered};
 ghost use Rattle.survey.specs.Report.{unitColor, unitParent, unitPlace, unitSingle, linkLabel, linkLone, unitLine, linkLine, report, reportLength, reportOver};
 ghost use Rattle.survey.specs.State.{units, links};
+ghost use Rattle.survey.specs.Calls.{reportRefusal, reportAnswer, reported};
+use super::kept;
+use super::reply::Answer;
 use super::reply::Reply;
 use super::state::Survey;
 
+impl Survey {
+    // Bytes past the report stay; on a refusal all do.
+    pub fn report(self, out: &mut [u8]) -> Answer
+        ensures reply { λ r. ⌜ r ≡ reportAnswer (length (now (out .entry))) self ⌝ }
+        ensures lent { λ _. ⌜ now (out .exit) ≡ reported self (now (out .entry)) ⌝ }
+    {
+        let refused = refusal(self, out.len());
+        if refused != 0 {
+            return Answer {
+                survey: self,
+                reply: Reply::Refused(refused),
+            };
+        }
+        write(self, out);
+        Answer {
+            survey: self,
+            reply: Reply::Written(
+                26 + 23 * (self.table.units as u32) + 15 * (self.table.links as u32),
+            ),
+        }
+    }
+}
+
+// The number of the first cause among 10, 12, 14.
+fn refusal(s: Survey, places: usize) -> u8
+    ensures { λ r. ⌜ r ≡ reportRefusal s places ⌝ }
+{
+    if !kept::well_formed(s) {
+        return 10;
+    }
+    if s.clock.stage != 11 {
+        return 12;
+    }
+    if places < 26 + 23 * (s.table.units as usize) + 15 * (s.table.links as usize) {
+        return 14;
+    }
+    0
+}
+
 // The fields of unit `v`'s line.
-pub fn unit_reply(s: Survey, v: u16) -> Reply
+pub(crate) fn unit_reply(s: Survey, v: u16) -> Reply
     ensures { λ r. ⌜ r ≡ Reply.Unit v (unitColor s v) (unitParent s v) (unitPlace s v) (unitSingle s v) ⌝ }
 {
     let i = v as usize;
@@ -25,7 +67,7 @@ pub fn unit_reply(s: Survey, v: u16) -> Reply
 }
 
 // The fields of link `j`'s line.
-pub fn link_reply(s: Survey, j: u16) -> Reply
+pub(crate) fn link_reply(s: Survey, j: u16) -> Reply
     ensures { λ r. ⌜ r ≡ Reply.Link j (linkLabel s j) (linkLone s j) ⌝ }
 {
     Reply::Link {
@@ -78,7 +120,7 @@ fn lines(s: Survey, out: &mut [u8])
 }
 
 // The report at the front of the slice; nothing where it does not fit, or a count is past its table, as in no well-formed state.
-pub fn write(s: Survey, out: &mut [u8])
+fn write(s: Survey, out: &mut [u8])
     ensures { λ _. ⌜ now (out .exit) ≡ reportOver s (now (out .entry)) ⌝ }
 {
     if 256 < s.table.units {
