@@ -3,7 +3,7 @@ ghost use mathlib.Core.Path.{_≡_};
 ghost use Rattle.claim.specs.Words.{playWords};
 use survey::Survey;
 
-mod calls;
+mod made;
 mod replies;
 
 // The calls given as words, three a call (its kind and two numbers). The replies go to a lent table, eight words each, and the reports to parts
@@ -19,7 +19,7 @@ pub fn play(survey: Survey, calls: &[u16], replies: &mut [u16], out: &mut [u8]) 
         let kind = slices::word(calls, 3 * i);
         let a = slices::word(calls, 3 * i + 1);
         let b = slices::word(calls, 3 * i + 2);
-        let answer = calls::make(s, kind, a, b, out);
+        let answer = made::call(s, kind, a, b, out);
         let reply = answer.reply;
         let after = answer.survey;
         replies::store(reply, 8 * i, replies);

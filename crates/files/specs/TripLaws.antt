@@ -127,57 +127,59 @@ module _ (n : ℕ) (t : List ℕ) (chars : ℕ) where
 module _ (s : List ℕ) (places : ℕ) where
   -- the reading was refused
   module _ (k : ℕ) (e : readReply s places ≡ Reading.Refused k) where
-    unreadWith : (k ≡ readRefusal (linesOf s) places) × (readRefusal (linesOf s) places ≡ 0 → ⊥)
+    -- its number is the refusal's
+    pub unread-told : (k ≡ readRefusal (linesOf s) places) × (readRefusal (linesOf s) places ≡ 0 → ⊥)
     unfolding readReply
-    unreadWith =
+    unread-told =
         let q = unread-says (eqb (readRefusal (linesOf s) places) 0) (unitsIn (linesOf s)) (linkFrames (linesOf s)) (readRefusal (linesOf s) places) k e in
         (q .1, eqb-false (readRefusal (linesOf s) places) 0 (q .0))
 
     unread-refusal : (chars : ℕ) → rewriteRefusal s places chars ≡ readRefusal (linesOf s) places
     unfolding rewriteRefusal
-    unread-refusal chars = rw (ne-eqb (readRefusal (linesOf s) places) 0 (unreadWith .1))
+    unread-refusal chars = rw (ne-eqb (readRefusal (linesOf s) places) 0 (unread-told .1))
 
     pub rewrite-refused : (chars : ℕ) → Writing.Refused k ≡ rewriteReply s places chars
     unfolding rewriteReply
-    rewrite-refused chars = rw (unread-refusal chars, ne-eqb (readRefusal (linesOf s) places) 0 (unreadWith .1), unreadWith .0)
+    rewrite-refused chars = rw (unread-refusal chars, ne-eqb (readRefusal (linesOf s) places) 0 (unread-told .1), unread-told .0)
 
     pub rewrite-kept : (out : List ℕ) → out ≡ rewrittenFile s places out
     unfolding rewrittenFile
-    rewrite-kept out = rw (unread-refusal (length out), ne-eqb (readRefusal (linesOf s) places) 0 (unreadWith .1))
+    rewrite-kept out = rw (unread-refusal (length out), ne-eqb (readRefusal (linesOf s) places) 0 (unread-told .1))
 
   -- it was not
   module _ (u m : ℕ) (e : readReply s places ≡ Read u m) where
-    readWith : (readRefusal (linesOf s) places ≡ 0) × (u ≡ unitsIn (linesOf s)) × (m ≡ linkFrames (linesOf s))
+    -- what the reply says
+    pub read-told : (readRefusal (linesOf s) places ≡ 0) × (u ≡ unitsIn (linesOf s)) × (m ≡ linkFrames (linesOf s))
     unfolding readReply
-    readWith =
+    read-told =
         let q = read-says (eqb (readRefusal (linesOf s) places) 0) (unitsIn (linesOf s)) (linkFrames (linesOf s)) (readRefusal (linesOf s) places) u m e in
         (eqb-true (readRefusal (linesOf s) places) 0 (q .0), q .1, q .2)
 
     ends-long : length (endsIn (linesOf s)) ≡ 2 * m
     ends-long =
-        let a = accepted-file s places (readWith .0) in
-        ap length (a .ends) ∙ length-ends (linkFrames (linesOf s)) (drop 9 s) ∙ ap (λ (x : ℕ). 2 * x) (sym (readWith .2))
+        let a = accepted-file s places (read-told .0) in
+        ap length (a .ends) ∙ length-ends (linkFrames (linesOf s)) (drop 9 s) ∙ ap (λ (x : ℕ). 2 * x) (sym (read-told .2))
 
     -- the first 2 m words are the ends
     pub read-front : (words : List ℕ) → places ≡ length words → take (2 * m) (readWords s words) ≡ endsIn (linesOf s)
     unfolding readWords
     read-front words c =
-        rw (← c, readWith .0) (take-at (endsIn (linesOf s)) (drop (length (endsIn (linesOf s))) words) (2 * m) ends-long)
+        rw (← c, read-told .0) (take-at (endsIn (linesOf s)) (drop (length (endsIn (linesOf s))) words) (2 * m) ends-long)
 
     pub read-long : (words : List ℕ) → places ≡ length words → 2 * m ≤ length words
-    read-long words c = omega (arith, accepted-sound (linesOf s) places (readWith .0) .fits, readWith .2, c)
+    read-long words c = omega (arith, accepted-sound (linesOf s) places (read-told .0) .fits, read-told .2, c)
 
     same-writing : (chars : ℕ) → rewriteRefusal s places chars ≡ writeRefusal (unitsIn (linesOf s)) (endsIn (linesOf s)) chars
     unfolding rewriteRefusal
-    same-writing chars = rw (readWith .0)
+    same-writing chars = rw (read-told .0)
 
     same-length : fileLength (linkCount (endsIn (linesOf s))) ≡ length s
-    same-length = sym (length-file (unitsIn (linesOf s)) (endsIn (linesOf s))) ∙ ap length (read-written s places (readWith .0))
+    same-length = sym (length-file (unitsIn (linesOf s)) (endsIn (linesOf s))) ∙ ap length (read-written s places (read-told .0))
 
     pub rewrite-written : (chars : ℕ) → writeReply u (endsIn (linesOf s)) chars ≡ rewriteReply s places chars
     unfolding writeReply rewriteReply
-    rewrite-written chars = rw (same-writing chars, readWith .1, ← same-length)
+    rewrite-written chars = rw (same-writing chars, read-told .1, ← same-length)
 
     pub rewrite-bytes : (out : List ℕ) → writtenFile u (endsIn (linesOf s)) out ≡ rewrittenFile s places out
     unfolding writtenFile rewrittenFile
-    rewrite-bytes out = rw (same-writing (length out), readWith .1, read-written s places (readWith .0))
+    rewrite-bytes out = rw (same-writing (length out), read-told .1, read-written s places (read-told .0))

@@ -10,17 +10,14 @@ pub mod StepKept
 pub mod StepLaws
 pub mod Ready
 pub mod Arms
-pub mod AskLaws
 pub mod LoadLaws
 pub mod Run
 pub mod Going
 pub mod RunLaws
 pub mod Report
 pub mod ReportLaws
-pub mod ReportWritten
 pub mod Calls
 pub mod AnswerLaws
 pub mod RunAnswers
-pub mod ReportCalled
 pub mod CallCauses
 pub mod Cases

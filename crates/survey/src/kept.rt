@@ -15,18 +15,20 @@ ghost use Rattle.survey.specs.WellFormed.{tableOk, madeOk, clockOk, entr
 
 const FINISHED: u16 = 11;
 
-pub(crate) fn well_formed(s: Survey) -> bool
-    ensures { λ r. ⌜ r ≡ wellFormed s ⌝ }
-{
-    let t = s.table;
-    if !table_ok(t) {
-        return false;
+impl Survey {
+    pub fn well_formed(self) -> bool
+        ensures { λ r. ⌜ r ≡ wellFormed self ⌝ }
+    {
+        let t = self.table;
+        if !table_ok(t) {
+            return false;
+        }
+        // Only a table that passes has units few enough for ceilings.
+        if !clock_ok(t.units, self.clock) {
+            return false;
+        }
+        entries_ok(self)
     }
-    // Only a table that passes has units few enough for ceilings.
-    if !clock_ok(t.units, s.clock) {
-        return false;
-    }
-    entries_ok(s)
 }
 
 fn table_ok(table: Table) -> bool

@@ -1,12 +1,9 @@
-// The survey's state and its calls.
+// The survey's state and the calls that work on it: load, round, run and status.
 mod block_rounds;
 mod clock;
-mod file_calls;
 mod kept;
 mod load;
-mod questions;
 mod reply;
-mod report;
 mod run;
 mod state;
 mod status;

@@ -1,6 +1,5 @@
 // Rounds and runs. The stages' rounds stand in the run's loop: each replaces its own groups, and the rest of the state stays where it is.
 use super::block_rounds;
-use super::kept;
 use super::reply::Answer;
 use super::reply::Reply;
 use super::state::Survey;
@@ -54,7 +53,7 @@ impl Survey {
 fn refusal(s: Survey) -> u8
     ensures { λ r. ⌜ r ≡ roundRefusal s ⌝ }
 {
-    if !kept::well_formed(s) {
+    if !s.well_formed() {
         return 10;
     }
     if s.clock.stage == 11 {

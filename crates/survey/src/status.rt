@@ -1,6 +1,5 @@
 // Status: 10.
 use super::clock;
-use super::kept;
 use super::reply::Answer;
 use super::reply::Reply;
 use super::state::Survey;
@@ -11,7 +10,7 @@ impl Survey {
     pub fn status(self) -> Answer
         ensures { λ r. ⌜ r ≡ statusAnswer self ⌝ }
     {
-        if !kept::well_formed(self) {
+        if !self.well_formed() {
             return Answer {
                 survey: self,
                 reply: Reply::Refused(10),

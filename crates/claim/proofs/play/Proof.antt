@@ -47,8 +47,8 @@ add-word-2 c = search needs
 word-requires-3 : tie.Need-word-requires-3 Inv-loop μ-loop
 word-requires-3 c κs = search needs
 
-make-requires : tie.Need-make-requires Inv-loop μ-loop
-make-requires c κs = search needs
+call-requires : tie.Need-call-requires Inv-loop μ-loop
+call-requires c κs = search needs
 
 mul-store : tie.Need-mul-store Inv-loop μ-loop
 mul-store c = search needs
@@ -69,7 +69,7 @@ loop-again c =
     let w = l .loop in
     let going = c .before .before .before .before .before .before .before .before .before .before .before .before .loop-test .taken in
     let next = next-call (a .calls .now) (w .i) (w .s) (w .replies) (w .out) (omega (arith, going)) in
-    let m = c .before .before .before .before .before .before .before .make in
+    let m = c .before .before .before .before .before .before .before .call in
     let t = c .before .before .store in
     let made =
     call-made (drop (3 * (w .i + 1)) (a .calls .now)) (w .i) _ _ _ (w .s) (w .replies) (w .out) _ _ _ (m .result) _ _ (c .before .before .before .before .before .before .before .before .before .before .before .word .ensures) (c .before .before .before .before .before .before .before .before .before .before .word2 .ensures) (c .before .before .before .before .before .before .before .before .before .word3 .ensures) (m .ensures .0) (t .ensures) (m .ensures .1) in
@@ -103,7 +103,7 @@ play-spec =
     mul-word-3
     add-word-2
     word-requires-3
-    make-requires
+    call-requires
     mul-store
     store-requires
     add-i

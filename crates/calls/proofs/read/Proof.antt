@@ -1,0 +1,48 @@
+-- The reply of `files`, beside the state.
+use mathlib.Core.Path.{sym, ap, _∙_}
+use lib.ListN.{length}
+use borrow.Author.Needs.{needs}
+use Rattle.calls.specs.AskLaws.{readingAnswer, read-answer}
+use Rattle.calls.proofs.read.Statement.{statement}
+use Rattle.calls.proofs.read.Tie as tie
+
+read-requires : tie.Need-read-requires
+read-requires c κs = search needs
+
+enum-known-found : tie.Need-enum-known-found
+enum-known-found c = search needs
+
+enum-known-found-2 : tie.Need-enum-known-found-2
+enum-known-found-2 c = search needs
+
+same-length : tie.Need-same-length
+same-length c = search needs
+
+returns : tie.Need-returns
+returns c =
+    let a = c .before .before .before .before .before .before .before .before .before .args in
+    let r = c .before .before .before .before .before .read in
+    let told = sym (c .before .found .given .1) ∙ r .ensures .0 in
+    (ap (readingAnswer (a .survey)) told ∙ read-answer (a .file .now) (length (a .words .now)) (a .survey), r .ensures .1)
+
+same-length-2 : tie.Need-same-length-2
+same-length-2 c = search needs
+
+returns-2 : tie.Need-returns-2
+returns-2 c =
+    let a = c .before .before .before .before .before .before .before .before .before .args in
+    let r = c .before .before .before .before .before .read in
+    let told = sym (c .before .found2 .given .1) ∙ r .ensures .0 in
+    (ap (readingAnswer (a .survey)) told ∙ read-answer (a .file .now) (length (a .words .now)) (a .survey), r .ensures .1)
+
+pub read-spec : {M : Type 1} → statement M
+read-spec =
+    tie.close
+    (tie.spec
+    read-requires
+    enum-known-found
+    enum-known-found-2
+    same-length
+    returns
+    same-length-2
+    returns-2)

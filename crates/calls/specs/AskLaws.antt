@@ -1,0 +1,96 @@
+-- The refusals of the questions and of the report by their tests, in order, and the answers of the file calls by what `files` replies.
+use mathlib.Core.Path.{_≡_, refl, sym}
+use mathlib.Core.Bool.{Bool, true, false}
+use mathlib.Core.Logic.{_⊎_, inl, inr}
+use mathlib.Core.List.{List}
+use Prim.Native.Nat.{ℕ, _≤_, _<_}
+use lib.Dec.{eqb, ltb}
+use borrow.Author.Tests.{eq-eqb, ne-eqb, lt-ltb, le-ltb}
+use Rattle.lists.specs.Tests.{either}
+use Rattle.table.specs.Refusals.{written}
+use Rattle.files.specs.File.{linesOf, readRefusal, readReply, writeRefusal, writeReply}
+use Rattle.files.specs.declared.Reading.{Reading}
+use Rattle.files.specs.declared.Reading.the-variants as reading
+use Rattle.files.specs.declared.Writing.{Writing}
+use Rattle.files.specs.declared.Writing.the-variants as writing
+use Rattle.survey.specs.declared.state.Survey.{Survey}
+use Rattle.survey.specs.declared.reply.Answer.{Answer}
+use Rattle.survey.specs.declared.reply.Reply.{Reply}
+use Rattle.survey.specs.declared.reply.Reply.the-variants.{Refused, Read, Written}
+use Rattle.survey.specs.State.{units, links, finished, FINISHED}
+use Rattle.survey.specs.WellFormed.{wellFormed}
+use Rattle.survey.specs.Report.{report, reportLength}
+use Rattle.survey.specs.Calls.{questionRefusal, reportRefusal, reported, readAnswer, writeAnswer}
+
+module _ (s : Survey) where
+  -- ---- questions
+
+  pub question-malformed : (exists : Bool) → wellFormed s ≡ false → 10 ≡ questionRefusal s exists
+  unfolding questionRefusal
+  question-malformed exists w = rw w refl
+
+  pub question-early : (exists : Bool) → wellFormed s ≡ true → (s .clock .stage ≡ FINISHED → ⊥) → 12 ≡ questionRefusal s exists
+  unfolding questionRefusal
+  question-early exists w h = rw (w, ne-eqb (s .clock .stage) FINISHED h) refl
+
+  pub question-none : (exists : Bool) → wellFormed s ≡ true → s .clock .stage ≡ FINISHED → exists ≡ true → 0 ≡ questionRefusal s exists
+  unfolding questionRefusal
+  question-none exists w e x = rw (w, eq-eqb (s .clock .stage) FINISHED e, x) refl
+
+  pub question-missing : (exists : Bool) → wellFormed s ≡ true → s .clock .stage ≡ FINISHED → exists ≡ false → 13 ≡ questionRefusal s exists
+  unfolding questionRefusal
+  question-missing exists w e x = rw (w, eq-eqb (s .clock .stage) FINISHED e, x) refl
+
+  -- ---- report
+
+  module _ (places : ℕ) where
+    pub report-malformed : wellFormed s ≡ false → 10 ≡ reportRefusal s places
+    unfolding reportRefusal
+    report-malformed w = rw w refl
+
+    pub report-early : wellFormed s ≡ true → (s .clock .stage ≡ FINISHED → ⊥) → 12 ≡ reportRefusal s places
+    unfolding reportRefusal
+    report-early w h = rw (w, ne-eqb (s .clock .stage) FINISHED h) refl
+
+    pub report-short : wellFormed s ≡ true → s .clock .stage ≡ FINISHED → places < reportLength (units s) (links s) → 14 ≡ reportRefusal s places
+    unfolding reportRefusal
+    report-short w e l = rw (w, eq-eqb (s .clock .stage) FINISHED e, lt-ltb places (reportLength (units s) (links s)) l) refl
+
+    pub report-none : wellFormed s ≡ true → s .clock .stage ≡ FINISHED → reportLength (units s) (links s) ≤ places → 0 ≡ reportRefusal s places
+    unfolding reportRefusal
+    report-none w e l = rw (w, eq-eqb (s .clock .stage) FINISHED e, le-ltb places (reportLength (units s) (links s)) l) refl
+
+-- a refusal writes nothing
+pub written-refused : (k : ℕ) (l out : List ℕ) → (k ≡ 0 → ⊥) → out ≡ written k l out
+written-refused k l out h = rw (ne-eqb k 0 h) refl
+
+-- ---- files
+
+-- the answer of a file call, from the reply of `files`
+abbrev pub readingAnswer : Survey → Reading → Answer
+readingAnswer s (reading.Read n m) = record { survey = s; reply = Read n m }
+readingAnswer s (reading.Refused k) = record { survey = s; reply = Refused k }
+
+abbrev pub writingAnswer : Survey → Writing → Answer
+writingAnswer s (writing.Written k) = record { survey = s; reply = Written k }
+writingAnswer s (writing.Refused k) = record { survey = s; reply = Refused k }
+
+pub read-answer : (input : List ℕ) (places : ℕ) (s : Survey)
+    → readingAnswer s (readReply input places) ≡ readAnswer input places s
+unfolding readAnswer readReply
+read-answer input places s = go (either (eqb (readRefusal (linesOf input) places) 0))
+  where
+    go : (eqb (readRefusal (linesOf input) places) 0 ≡ true) ⊎ (eqb (readRefusal (linesOf input) places) 0 ≡ false)
+        → readingAnswer s (readReply input places) ≡ readAnswer input places s
+    go (inl e) = rw e refl
+    go (inr e) = rw e refl
+
+pub write-answer : (n : ℕ) (t : List ℕ) (places : ℕ) (s : Survey)
+    → writingAnswer s (writeReply n t places) ≡ writeAnswer n t places s
+unfolding writeAnswer writeReply
+write-answer n t places s = go (either (eqb (writeRefusal n t places) 0))
+  where
+    go : (eqb (writeRefusal n t places) 0 ≡ true) ⊎ (eqb (writeRefusal n t places) 0 ≡ false)
+        → writingAnswer s (writeReply n t places) ≡ writeAnswer n t places s
+    go (inl e) = rw e refl
+    go (inr e) = rw e refl

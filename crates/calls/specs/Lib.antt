@@ -1,0 +1,3 @@
+pub mod ReportWritten
+pub mod ReportCalled
+pub mod AskLaws

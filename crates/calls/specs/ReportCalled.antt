@@ -1,0 +1,37 @@
+-- A report that is not refused is the one that the writer lays down.
+use mathlib.Core.Path.{_≡_}
+use mathlib.Core.Bool.{not}
+use mathlib.Core.List.{List}
+use Prim.Native.Nat.{ℕ, _≤_}
+use native.Mathlib.Omega.{arith}
+use lib.Dec.{ltb}
+use lib.ListN.{length}
+use borrow.Author.Tests.{ltb-false, not-false}
+use Rattle.table.specs.RefusalLaws.{passed-test}
+use Rattle.table.specs.Passes.{passes}
+use Rattle.survey.specs.declared.state.Survey.{Survey}
+use Rattle.survey.specs.State.{units, links, words, finished}
+use Rattle.survey.specs.Kept.{Kept, kept-exact}
+use Rattle.survey.specs.WellFormed.{wellFormed}
+use Rattle.survey.specs.Report.{reportLength, reportOver}
+use Rattle.survey.specs.ReportLaws.{length-report}
+use Rattle.calls.specs.ReportWritten.{report-fits}
+use Rattle.survey.specs.Calls.{reportRefusal, reported}
+
+module _ (s : Survey) (out : List ℕ) (accepted : reportRefusal s (length out) ≡ 0) where
+  kept : Kept s
+  unfolding reportRefusal
+  kept = kept-exact s .0 (not-false (wellFormed s) (passed-test (not (wellFormed s)) 10 _ (omega arith) accepted .0))
+
+  fits : reportLength (units s) (links s) ≤ length out
+  unfolding reportRefusal
+  fits =
+      let later = passed-test (not (wellFormed s)) 10 _ (omega arith) accepted .1 in
+      let last = passed-test (not (finished s)) 12 _ (omega arith) later .1 in
+      ltb-false (length out) (reportLength (units s) (links s)) (passed-test (ltb (length out) (reportLength (units s) (links s))) 14 0 (omega arith) last .0)
+
+  pub reported-over : reportOver s out ≡ reported s out
+  unfolding reported
+  reported-over =
+      rw (accepted, length-report s)
+      (report-fits s out (passes (units s) (words s) (kept .passes) .fewUnits) (kept .few) fits)

@@ -1,0 +1,138 @@
+-- The report laid down over a slice: the first line, then each part to the lent rest past those before it.
+use mathlib.Core.Path.{_≡_, refl, ap, _∙_}
+use mathlib.Core.List.{List, _∷_, _++_}
+use Prim.Native.Nat.{ℕ, _+_, _*_, _≤_, _<_}
+use native.Mathlib.Omega.{arith}
+use lib.ListN.{length, drop, length-append}
+use borrow.Author.Tests.{le-leb, lt-leb}
+use Rattle.lists.specs.Lent.{lent, back, back-next}
+use Rattle.lists.specs.Tables.{gathered}
+use Rattle.lists.specs.Gathered.{gathered-cong}
+use Rattle.lists.specs.Folds.{count}
+use Rattle.table.specs.Table.{maxUnits, maxLinks}
+use Rattle.frames.specs.Frame.{wordBytes, lineOf, lineOver}
+use Rattle.frames.specs.FrameRests.{lineOver-fits, line-next}
+use Rattle.answers.specs.Flags.{flagTable, flag-at}
+use Rattle.answers.specs.Lines.{unitBody, linkBody, linesOf, linesOver, linesOver-fits}
+use Rattle.survey.specs.declared.state.Survey.{Survey}
+use Rattle.survey.specs.State.{units, links}
+use Rattle.survey.specs.Report.{unitSingle, linkLone, headLine, unitLine, linkLine, tailLine, report, reportLength, reportOver}
+use Rattle.survey.specs.ReportLaws.{length-head, length-report, units-long, links-long}
+
+-- ---- by the tests
+
+module _ (s : Survey) (out : List ℕ) where
+  pub report-units : maxUnits < units s → out ≡ reportOver s out
+  unfolding reportOver
+  report-units h = rw (lt-leb (units s) maxUnits h)
+
+  pub report-links : units s ≤ maxUnits → maxLinks < links s → out ≡ reportOver s out
+  unfolding reportOver
+  report-links n h = rw (le-leb (units s) maxUnits n, lt-leb (links s) maxLinks h)
+
+  pub report-short : units s ≤ maxUnits → links s ≤ maxLinks → length out < reportLength (units s) (links s) → out ≡ reportOver s out
+  unfolding reportOver
+  report-short n m h =
+      rw (le-leb (units s) maxUnits n, le-leb (links s) maxLinks m, lt-leb (reportLength (units s) (links s)) (length out) h)
+
+  pub report-fits : units s ≤ maxUnits → links s ≤ maxLinks → reportLength (units s) (links s) ≤ length out
+      → reportOver s out ≡ report s ++ drop (reportLength (units s) (links s)) out
+  unfolding reportOver
+  report-fits n m h =
+      rw (le-leb (units s) maxUnits n, le-leb (links s) maxLinks m, le-leb (reportLength (units s) (links s)) (length out) h, length-report s)
+
+-- ---- the lines of units and of links, from the tables and the flags
+
+abbrev pub singleFlags : Survey → List ℕ
+singleFlags s = flagTable maxUnits (units s) (unitSingle s)
+
+abbrev pub loneFlags : Survey → List ℕ
+loneFlags s = flagTable maxLinks (links s) (linkLone s)
+
+module _ (s : Survey) (out : List ℕ) (n : units s ≤ maxUnits) (fits : 23 * units s ≤ length out) where
+  abbrev unitSays : ℕ → List ℕ
+  unitSays = unitBody (s .components .color) (s .tree .parent) (s .order .pre) (singleFlags s)
+
+  units-same : linesOf (units s) unitSays ≡ gathered (units s) (unitLine s)
+  unfolding unitLine
+  units-same =
+      gathered-cong (units s) (λ (v : ℕ). lineOf (unitSays v)) (unitLine s)
+      (λ (v : ℕ) (l : v < units s). rw (flag-at maxUnits (units s) (unitSingle s) v l (omega arith)))
+
+  pub units-laid : linesOver 23 (units s) (unitBody (s .components .color) (s .tree .parent) (s .order .pre) (singleFlags s)) out
+      ≡ gathered (units s) (unitLine s) ++ drop (23 * units s) out
+  units-laid = linesOver-fits 23 (units s) unitSays out fits ∙ ap (λ (l : List ℕ). l ++ drop (23 * units s) out) units-same
+
+module _ (s : Survey) (out : List ℕ) (m : links s ≤ maxLinks) (fits : 15 * links s ≤ length out) where
+  abbrev linkSays : ℕ → List ℕ
+  linkSays = linkBody (s .labels .label) (loneFlags s)
+
+  links-same : linesOf (links s) linkSays ≡ gathered (links s) (linkLine s)
+  unfolding linkLine
+  links-same =
+      gathered-cong (links s) (λ (j : ℕ). lineOf (linkSays j)) (linkLine s)
+      (λ (j : ℕ) (l : j < links s). rw (flag-at maxLinks (links s) (linkLone s) j l (omega arith)))
+
+  pub links-laid : linesOver 15 (links s) (linkBody (s .labels .label) (loneFlags s)) out ≡ gathered (links s) (linkLine s) ++ drop (15 * links s) out
+  links-laid = linesOver-fits 15 (links s) linkSays out fits ∙ ap (λ (l : List ℕ). l ++ drop (15 * links s) out) links-same
+
+-- ---- the parts one after the other
+
+abbrev pub headSays : Survey → List ℕ
+headSays s = 0x11 ∷ wordBytes (s .clock .rounds) ++ wordBytes (s .clock .requests)
+
+abbrev pub tailSays : Survey → List ℕ
+tailSays s = 0x1F ∷ wordBytes (count (units s) (unitSingle s)) ++ wordBytes (count (links s) (linkLone s))
+
+abbrev pub unitEnd : Survey → ℕ
+unitEnd s = 13 + 23 * units s
+
+abbrev pub linkEnd : Survey → ℕ
+linkEnd s = unitEnd s + 15 * links s
+
+-- a slice whose rest from a place on is overwritten by a part
+abbrev pub laidAt : ℕ → List ℕ → ℕ → List ℕ → List ℕ
+laidAt at part long xs = back at xs (part ++ drop long (lent at xs))
+
+-- the first line, the units and the links laid down
+abbrev pub linksDown : Survey → List ℕ → List ℕ
+linksDown s out =
+    laidAt (unitEnd s) (gathered (links s) (linkLine s)) (15 * links s)
+    (laidAt 13 (gathered (units s) (unitLine s)) (23 * units s) (lineOver (headSays s) out))
+
+module _ (s : Survey) (out : List ℕ) (fits : reportLength (units s) (links s) ≤ length out) where
+  abbrev unitPart : List ℕ
+  unitPart = gathered (units s) (unitLine s)
+
+  abbrev linkPart : List ℕ
+  linkPart = gathered (links s) (linkLine s)
+
+  after-head : lineOver (headSays s) out ≡ headLine s ++ drop 13 out
+  unfolding headLine
+  after-head = lineOver-fits (headSays s) out (omega arith)
+
+  after-units : laidAt 13 unitPart (23 * units s) (headLine s ++ drop 13 out) ≡ (headLine s ++ unitPart) ++ drop (unitEnd s) out
+  after-units = back-next (λ (r : List ℕ). unitPart ++ drop (23 * units s) r) unitPart (headLine s) out 13 (23 * units s) (length-head s) refl
+
+  units-end : length (headLine s ++ unitPart) ≡ unitEnd s
+  units-end = length-append (headLine s) unitPart ∙ omega (arith, length-head s, units-long s)
+
+  after-links : laidAt (unitEnd s) linkPart (15 * links s) ((headLine s ++ unitPart) ++ drop (unitEnd s) out)
+      ≡ ((headLine s ++ unitPart) ++ linkPart) ++ drop (linkEnd s) out
+  after-links =
+      back-next (λ (r : List ℕ). linkPart ++ drop (15 * links s) r) linkPart (headLine s ++ unitPart) out (unitEnd s) (15 * links s) units-end refl
+
+  links-end : length ((headLine s ++ unitPart) ++ linkPart) ≡ linkEnd s
+  links-end = length-append (headLine s ++ unitPart) linkPart ∙ omega (arith, units-end, links-long s)
+
+  after-tail : back (linkEnd s) (((headLine s ++ unitPart) ++ linkPart) ++ drop (linkEnd s) out)
+      (lineOver (tailSays s) (lent (linkEnd s) (((headLine s ++ unitPart) ++ linkPart) ++ drop (linkEnd s) out)))
+      ≡ report s ++ drop (reportLength (units s) (links s)) out
+  unfolding report tailLine
+  after-tail =
+      let e : linkEnd s + 13 ≡ reportLength (units s) (links s) = omega arith in
+      rw (← e) (line-next (tailSays s) ((headLine s ++ unitPart) ++ linkPart) out (linkEnd s) links-end (omega arith))
+
+  pub report-laid : back (linkEnd s) (linksDown s out) (lineOver (tailSays s) (lent (linkEnd s) (linksDown s out)))
+      ≡ report s ++ drop (reportLength (units s) (links s)) out
+  report-laid = rw (after-head, after-units, after-links) after-tail

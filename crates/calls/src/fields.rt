@@ -1,0 +1,30 @@
+// The fields of a report's lines, as the questions answer them.
+ghost use mathlib.Core.Path.{_≡_};
+ghost use Rattle.survey.specs.Report.{unitColor, unitParent, unitPlace, unitSingle, linkLabel, linkLone};
+use survey::Reply;
+use survey::Survey;
+
+// The fields of unit `v`'s line.
+pub(crate) fn unit_reply(s: Survey, v: u16) -> Reply
+    ensures { λ r. ⌜ r ≡ Reply.Unit v (unitColor s v) (unitParent s v) (unitPlace s v) (unitSingle s v) ⌝ }
+{
+    let i = v as usize;
+    Reply::Unit {
+        unit: v,
+        color: slices::word(&s.components.color, i),
+        parent: slices::word(&s.tree.parent, i),
+        place: slices::word(&s.order.pre, i),
+        single: answers::single(s.table.links, &s.table.ends, &s.labels.label, v),
+    }
+}
+
+// The fields of link `j`'s line.
+pub(crate) fn link_reply(s: Survey, j: u16) -> Reply
+    ensures { λ r. ⌜ r ≡ Reply.Link j (linkLabel s j) (linkLone s j) ⌝ }
+{
+    Reply::Link {
+        position: j,
+        label: slices::word(&s.labels.label, j as usize),
+        lone: answers::lone(s.table.links, &s.labels.label, j),
+    }
+}

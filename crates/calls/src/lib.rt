@@ -1,0 +1,137 @@
+// The calls that ask: questions to a finished survey, its report, and files read and written. Each hands the state back beside its answer; a
+// refusal gives only the number, and nothing is written.
+ghost use mathlib.Core.Path.{_≡_};
+ghost use lib.ListN.{length};
+ghost use Rattle.files.specs.File.{readWords, writtenFile};
+ghost use Rattle.survey.specs.Calls.{questionRefusal, unitAnswer, linkAnswer, reportRefusal, reportAnswer, reported, readAnswer, writeAnswer};
+use files::Reading;
+use files::Writing;
+use survey::Answer;
+use survey::Reply;
+use survey::Survey;
+
+mod fields;
+mod lines;
+
+// The stage of a finished survey.
+const FINISHED: u16 = 11;
+
+// What is known of a unit: 10, 12, 13.
+pub fn unit(survey: Survey, unit: u16) -> Answer
+    ensures { λ r. ⌜ r ≡ unitAnswer unit survey ⌝ }
+{
+    let refused = question_refusal(survey, unit < survey.table.units);
+    if refused != 0 {
+        return Answer {
+            survey,
+            reply: Reply::Refused(refused),
+        };
+    }
+    Answer {
+        survey,
+        reply: fields::unit_reply(survey, unit),
+    }
+}
+
+// What is known of a link: 10, 12, 13.
+pub fn link(survey: Survey, position: u16) -> Answer
+    ensures { λ r. ⌜ r ≡ linkAnswer position survey ⌝ }
+{
+    let refused = question_refusal(survey, position < survey.table.links);
+    if refused != 0 {
+        return Answer {
+            survey,
+            reply: Reply::Refused(refused),
+        };
+    }
+    Answer {
+        survey,
+        reply: fields::link_reply(survey, position),
+    }
+}
+
+// The number of the first cause, given whether the unit or position exists.
+fn question_refusal(s: Survey, exists: bool) -> u8
+    ensures { λ r. ⌜ r ≡ questionRefusal s exists ⌝ }
+{
+    if !s.well_formed() {
+        return 10;
+    }
+    if s.clock.stage != FINISHED {
+        return 12;
+    }
+    if exists { 0 } else { 13 }
+}
+
+// The report at the front of `out`: 10, 12, 14. Bytes past it stay.
+pub fn report(survey: Survey, out: &mut [u8]) -> Answer
+    ensures reply { λ r. ⌜ r ≡ reportAnswer (length (now (out .entry))) survey ⌝ }
+    ensures lent { λ _. ⌜ now (out .exit) ≡ reported survey (now (out .entry)) ⌝ }
+{
+    let refused = report_refusal(survey, out.len());
+    if refused != 0 {
+        return Answer {
+            survey,
+            reply: Reply::Refused(refused),
+        };
+    }
+    lines::write(survey, out);
+    Answer {
+        survey,
+        reply: Reply::Written(
+            26 + 23 * (survey.table.units as u32) + 15 * (survey.table.links as u32),
+        ),
+    }
+}
+
+// The number of the first cause among 10, 12, 14.
+fn report_refusal(s: Survey, places: usize) -> u8
+    ensures { λ r. ⌜ r ≡ reportRefusal s places ⌝ }
+{
+    if !s.well_formed() {
+        return 10;
+    }
+    if s.clock.stage != FINISHED {
+        return 12;
+    }
+    if places < 26 + 23 * (s.table.units as usize) + 15 * (s.table.links as usize) {
+        return 14;
+    }
+    0
+}
+
+// A file's ends into words: 1, 2, 3, 6, 14. Words past the last end stay.
+pub fn read(survey: Survey, file: &[u8], words: &mut [u16]) -> Answer
+    ensures reply { λ r. ⌜ r ≡ readAnswer (now (file .entry)) (length (now (words .entry))) survey ⌝ }
+    ensures lent { λ _. ⌜ now (words .exit) ≡ readWords (now (file .entry)) (now (words .entry)) ⌝ }
+{
+    let found = files::read(file, words);
+    match found {
+        Reading::Refused(number) => Answer {
+            survey,
+            reply: Reply::Refused(number),
+        },
+        Reading::Read { units, links } => Answer {
+            survey,
+            reply: Reply::Read { units, links },
+        },
+    }
+}
+
+// The file of a unit count and a table: 4 to 9, 14. Bytes past it stay.
+pub fn write(survey: Survey, units: u16, words: &[u16], out: &mut [u8]) -> Answer
+    ensures reply { λ r. ⌜ r ≡ writeAnswer units (now (words .entry)) (length (now (out .entry))) survey ⌝ }
+    ensures lent { λ _. ⌜ now (out .exit) ≡ writtenFile units (now (words .entry)) (now (out .entry)) ⌝ }
+{
+    let done = files::write(units, words, out);
+    match done {
+        Writing::Refused(number) => Answer {
+            survey,
+            reply: Reply::Refused(number),
+        },
+        Writing::Written(characters) => Answer {
+            survey,
+            reply: Reply::Written(characters),
+        },
+    }
+}
