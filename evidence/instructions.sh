@@ -1,0 +1,29 @@
+#!/bin/sh
+# Instructions of the proved library over those of the plain version, counted by valgrind, for the largest sites.
+# Each figure is the difference between a run of 1 + TIMES surveys and a run of 1, so that the start of the program is not in it.
+set -eu
+cd "$(dirname "$0")"
+TIMES=${1:-3}
+cargo build --quiet --release --features face --bin bench
+bench=target/release/bench
+
+# The instructions of one run: SIDE WORK SITE TIMES
+count() {
+    valgrind --tool=callgrind --callgrind-out-file=/dev/null "$bench" one "$@" 2>&1 | awk '/Collected/ { print $NF; found = 1 } END { exit !found }'
+}
+
+# The instructions of one survey: SIDE WORK SITE
+survey() {
+    few=$(count "$1" "$2" "$3" 1)
+    many=$(count "$1" "$2" "$3" $((TIMES + 1)))
+    echo $(((many - few) / TIMES))
+}
+
+printf '%-8s %-6s %12s %12s %8s\n' site work proved plain ratio
+for work in words bytes; do
+    for site in path ring full star ladder; do
+        proved=$(survey proved $work $site)
+        plain=$(survey plain $work $site)
+        printf '%-8s %-6s %12d %12d %8s\n' $site $work "$proved" "$plain" "$(echo "$proved $plain" | awk '{ printf "%.2f", $1 / $2 }')"
+    done
+done

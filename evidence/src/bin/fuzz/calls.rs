@@ -1,0 +1,115 @@
+//! One call made by both sides, and all that it leaves compared.
+
+use crate::lent::Lent;
+use plain::Survey;
+use plain::face::PROVED;
+use plain::words::PLAIN;
+
+/// A call on a state, with the slice for its reply as it is lent.
+#[derive(Clone, Debug)]
+pub enum Call {
+    Load { units: u16, table: Vec<u16> },
+    Round,
+    Run { budget: u16, reply: Vec<u16> },
+    Status { reply: Vec<u16> },
+    Unit { unit: u16, reply: Vec<u16> },
+    Link { position: u16, reply: Vec<u16> },
+    Report { out: Vec<u8> },
+}
+
+impl Call {
+    pub fn name(&self) -> &'static str {
+        match self {
+            Call::Load { .. } => "load",
+            Call::Round => "round",
+            Call::Run { .. } => "run",
+            Call::Status { .. } => "status",
+            Call::Unit { .. } => "unit",
+            Call::Link { .. } => "link",
+            Call::Report { .. } => "state report",
+        }
+    }
+}
+
+const WORD_MARGIN: u16 = 0xC3A5;
+const BYTE_MARGIN: u8 = 0xA5;
+
+/// Both sides got the same number.
+fn agree(proved: u32, plain: u32) -> Result<u32, String> {
+    if proved == plain { Ok(plain) } else { Err(format!("returned: proved {proved}, plain {plain}")) }
+}
+
+pub fn lent_state(words: &[u16]) -> Lent<u16> {
+    Lent::new(words, WORD_MARGIN)
+}
+
+/// Makes the call; the number that both returned, or where they differ.
+pub fn both(state: &mut Lent<u16>, call: &Call) -> Result<u32, String> {
+    let number = match call {
+        Call::Load { units, table } => {
+            let mut table = Lent::new(table, WORD_MARGIN);
+            let proved = (PROVED.load)(state.proved(), *units, table.proved());
+            let plain = (PLAIN.load)(state.plain(), *units, table.plain());
+            let number = agree(proved, plain)?;
+            table.difference("table")?;
+            Ok(number)
+        }
+        Call::Round => agree((PROVED.round)(state.proved()), (PLAIN.round)(state.plain())),
+        Call::Run { budget, reply } => {
+            replied(reply, |lent| ((PROVED.run)(state.proved(), *budget, lent.proved()), (PLAIN.run)(state.plain(), *budget, lent.plain())))
+        }
+        Call::Status { reply } => {
+            replied(reply, |lent| ((PROVED.status)(state.proved(), lent.proved()), (PLAIN.status)(state.plain(), lent.plain())))
+        }
+        Call::Unit { unit, reply } => {
+            replied(reply, |lent| ((PROVED.unit)(state.proved(), *unit, lent.proved()), (PLAIN.unit)(state.plain(), *unit, lent.plain())))
+        }
+        Call::Link { position, reply } => replied(reply, |lent| {
+            ((PROVED.link)(state.proved(), *position, lent.proved()), (PLAIN.link)(state.plain(), *position, lent.plain()))
+        }),
+        Call::Report { out } => {
+            let mut out = Lent::new(out, BYTE_MARGIN);
+            let proved = (PROVED.state_report)(state.proved(), out.proved());
+            let plain = (PLAIN.state_report)(state.plain(), out.plain());
+            let number = agree(proved, plain)?;
+            out.difference("report")?;
+            Ok(number)
+        }
+    }?;
+    state.difference("state").map_err(|difference| named(&difference))?;
+    Ok(number)
+}
+
+fn replied(reply: &[u16], call: impl FnOnce(&mut Lent<u16>) -> (u32, u32)) -> Result<u32, String> {
+    let mut lent = Lent::new(reply, WORD_MARGIN);
+    let (proved, plain) = call(&mut lent);
+    let number = agree(proved, plain)?;
+    lent.difference("reply")?;
+    Ok(number)
+}
+
+/// What the program prints for a file; the number of characters that both returned.
+pub fn both_report(input: &[u8], out: &[u8]) -> Result<(u32, Vec<u8>), String> {
+    let mut input = Lent::new(input, BYTE_MARGIN);
+    let mut out = Lent::new(out, BYTE_MARGIN);
+    let proved = (PROVED.report)(input.proved(), out.proved());
+    let plain = (PLAIN.report)(input.plain(), out.plain());
+    let written = agree(proved, plain)?;
+    input.difference("input")?;
+    out.difference("out")?;
+    Ok((written, out.plain().to_vec()))
+}
+
+/// Names the table of a state's word.
+fn named(difference: &str) -> String {
+    let at: Option<usize> = difference.strip_prefix("state[").and_then(|rest| rest.split(']').next()).and_then(|at| at.parse().ok());
+    let survey = Survey::new();
+    let mut first = 0;
+    for (name, _, part) in survey.parts() {
+        if let Some(at) = at.filter(|at| (first..first + part.len()).contains(at)) {
+            return format!("{difference}, that is {name}[{}]", at - first);
+        }
+        first += part.len();
+    }
+    difference.to_string()
+}

@@ -1,0 +1,167 @@
+//! The cases: what is lent and which calls are made.
+
+use crate::calls::{Call, both, both_report, lent_state};
+use crate::lent::Lent;
+use crate::tally::Tally;
+use plain::damage::{any_file, any_words, spoil_site};
+use plain::random::Random;
+use plain::sites::any_site;
+use plain::states::{any_kept, loaded};
+use plain::{Survey, report_length, report_of_file};
+
+/// The place of the stage among the words of a state.
+const STAGE: usize = 2050;
+
+/// Room for the longest report.
+const MOST: usize = 21_274;
+
+/// A slice as long as its contents need, longer, or too short.
+fn some_length(random: &mut Random, needed: usize) -> usize {
+    match random.below(16) {
+        0 => 0,
+        1 => needed.saturating_sub(1),
+        2 => random.below(needed + 1),
+        3..=5 => needed + random.below(40),
+        _ => needed,
+    }
+}
+
+fn words(random: &mut Random, length: usize) -> Vec<u16> {
+    (0..length).map(|_| random.word()).collect()
+}
+
+fn bytes(random: &mut Random, length: usize) -> Vec<u8> {
+    (0..length).map(|_| random.word() as u8).collect()
+}
+
+fn reply(random: &mut Random, needed: usize) -> Vec<u16> {
+    let length = some_length(random, needed);
+    words(random, length)
+}
+
+fn budget(random: &mut Random) -> u16 {
+    match random.below(16) {
+        0 => 0,
+        1 | 2 => 1,
+        3..=9 => random.below(40) as u16,
+        10..=12 => random.below(300) as u16,
+        13 => random.below(900) as u16,
+        14 => random.word(),
+        _ => u16::MAX,
+    }
+}
+
+/// A number that is below the count, mostly.
+fn number(random: &mut Random, count: u16) -> u16 {
+    match random.below(8) {
+        0 => random.word(),
+        1 => count,
+        2 => count.wrapping_sub(1),
+        _ => random.below(usize::from(count).max(1)) as u16,
+    }
+}
+
+/// Any call but a load, with numbers that fit the state's counts, whatever these are.
+fn any_call(random: &mut Random, state: &[u16]) -> Call {
+    let (units, links) = (state.first().copied().unwrap_or(0), state.get(1).copied().unwrap_or(0));
+    match random.below(7) {
+        0 => Call::Round,
+        1 | 2 => Call::Run { budget: budget(random), reply: reply(random, 1) },
+        3 => Call::Status { reply: reply(random, 4) },
+        4 => Call::Unit { unit: number(random, units), reply: reply(random, 5) },
+        5 => Call::Link { position: number(random, links), reply: reply(random, 3) },
+        _ => {
+            let needed = report_length(usize::from(units), usize::from(links)).min(MOST);
+            let length = some_length(random, needed);
+            Call::Report { out: bytes(random, length) }
+        }
+    }
+}
+
+/// What a difference was found in: the call, and what it was lent.
+fn found(call: &str, lent: &str, difference: &str) -> String {
+    format!("{difference}\ncall: {call}\nlent: {lent}")
+}
+
+fn one_call(tally: &mut Tally, state: &mut Lent<u16>, call: &Call) -> Result<(), String> {
+    let number =
+        both(state, call).map_err(|difference| found(&format!("{call:?}"), &format!("state {:?}", state.before()), &difference))?;
+    tally.number(call.name(), number);
+    if let (Call::Round | Call::Run { .. }, 0) = (call, number) {
+        tally.stage(state.before()[STAGE]);
+    }
+    state.go_on();
+    Ok(())
+}
+
+/// Runs one case.
+pub fn run(random: &mut Random, tally: &mut Tally) -> Result<(), String> {
+    match random.below(16) {
+        0..=6 => file(random, tally),
+        7..=8 => load(random, tally),
+        9..=12 => state(random, tally),
+        _ => list(random, tally),
+    }
+}
+
+fn file(random: &mut Random, tally: &mut Tally) -> Result<(), String> {
+    let (kind, input) = any_file(random);
+    tally.kind(kind);
+    let needed = report_of_file(&input, &mut [0; MOST]);
+    let length = some_length(random, needed);
+    let out = bytes(random, length);
+    let (written, printed) = both_report(&input, &out)
+        .map_err(|difference| found(&format!("report, out {out:?}"), &input.escape_ascii().to_string(), &difference))?;
+    let printed = &printed[..written as usize];
+    match printed {
+        [] => tally.number("report", 14),
+        [b'1', b'E', high, low, ..] => {
+            let digits = [*high, *low];
+            let number = std::str::from_utf8(&digits).ok().and_then(|digits| u32::from_str_radix(digits, 16).ok());
+            tally.number("report", number.unwrap_or(u32::MAX));
+        }
+        _ => tally.number("report", 0),
+    }
+    Ok(())
+}
+
+fn load(random: &mut Random, tally: &mut Tally) -> Result<(), String> {
+    let mut site = any_site(random);
+    let faulty = random.once_in(2);
+    if faulty {
+        spoil_site(random, &mut site);
+    }
+    tally.kind(if faulty { "load of a faulty table" } else { "load of a table" });
+    let (_, words) = any_words(random);
+    one_call(tally, &mut lent_state(&words), &Call::Load { units: site.units, table: site.table })
+}
+
+fn state(random: &mut Random, tally: &mut Tally) -> Result<(), String> {
+    let (kind, words) = any_words(random);
+    tally.kind(kind);
+    let call = any_call(random, &words);
+    one_call(tally, &mut lent_state(&words), &call)
+}
+
+/// A list of calls, each on the state that the last one left, from a load or from any kept state.
+fn list(random: &mut Random, tally: &mut Tally) -> Result<(), String> {
+    let survey = if random.once_in(2) {
+        tally.kind("list of calls after a load");
+        loaded(&any_site(random))
+    } else {
+        tally.kind("list of calls after a kept state");
+        any_kept(random)
+    };
+    let mut state = lent_state(&survey.to_words());
+    let calls = random.between(2, 24);
+    for _ in 0..calls {
+        let mut call = any_call(random, state.before());
+        if random.once_in(60) {
+            let site = any_site(random);
+            call = Call::Load { units: site.units, table: site.table };
+        }
+        one_call(tally, &mut state, &call)?;
+    }
+    debug_assert_eq!(state.before().len(), Survey::WORDS);
+    Ok(())
+}

@@ -1,0 +1,249 @@
+//! Survey files, whole and damaged; and states with words changed in any way.
+
+use crate::random::Random;
+use crate::sites::{Site, any_site};
+use crate::{ABSENT, MAX_INPUT, Survey};
+
+/// The line of a frame, whatever its bytes are.
+fn line(body: &[u8]) -> Vec<u8> {
+    let check = body.iter().fold(0u8, |left, &byte| left.wrapping_sub(byte));
+    let mut digits: String = body.iter().chain([&check]).map(|byte| format!("{byte:02X}")).collect();
+    digits.push('\n');
+    digits.into_bytes()
+}
+
+fn frame(kind: u8, numbers: &[u16]) -> Vec<u8> {
+    let mut body = vec![kind];
+    body.extend(numbers.iter().flat_map(|number| number.to_be_bytes()));
+    line(&body)
+}
+
+/// The lines of a file, with nothing checked.
+fn lines_of(site: &Site) -> Vec<Vec<u8>> {
+    let mut lines = vec![frame(0x01, &[site.units])];
+    lines.extend(site.table.chunks(2).map(|ends| frame(0x02, ends)));
+    lines.push(frame(0x0F, &[site.links() as u16]));
+    lines
+}
+
+/// A word near a limit that the site has, or any.
+fn odd_word(random: &mut Random, units: u16, links: u16) -> u16 {
+    let near = random.pick(&[0, 1, units, units.wrapping_mul(2), links, 256, 804, 1024, 2048, 8158, 32768, ABSENT]);
+    match random.below(4) {
+        0 => near,
+        1 => near.wrapping_sub(1),
+        2 => near.wrapping_add(1),
+        _ => random.word(),
+    }
+}
+
+/// A table with a fault, most of the time: an end that is missing, equal ends, a link again, a word too many, too many links.
+pub fn spoil_site(random: &mut Random, site: &mut Site) {
+    for _ in 0..random.between(1, 2) {
+        let (units, links) = (site.units, site.links());
+        match random.below(7) {
+            0 => site.units = odd_word(random, units, links as u16),
+            1 => site.table.push(odd_word(random, units, links as u16)),
+            2 => {
+                let more = random.between(1000, 1100);
+                while site.table.len() < 2 * more {
+                    site.table.push(random.word() % units.max(1));
+                }
+            }
+            _ if links == 0 => site.table.extend([0, 0]),
+            3 => {
+                let at = random.below(2 * links);
+                site.table[at] = odd_word(random, units, links as u16);
+            }
+            4 => {
+                let at = 2 * random.below(links);
+                site.table[at + 1] = site.table[at];
+            }
+            _ => {
+                let at = 2 * random.below(links);
+                let mut again = [site.table[at], site.table[at + 1]];
+                random.shuffle(&mut again);
+                let to = 2 * random.below(links + 1);
+                site.table.splice(to..to, again);
+            }
+        }
+    }
+}
+
+/// A file and the name of its kind.
+pub fn any_file(random: &mut Random) -> (&'static str, Vec<u8>) {
+    let mut site = any_site(random);
+    let mut lines = lines_of(&site);
+    let kind = match random.below(32) {
+        0..=7 => "valid file",
+        8..=11 => {
+            spoil_site(random, &mut site);
+            lines = lines_of(&site);
+            "file of a faulty table"
+        }
+        12..=13 => {
+            let last = lines.len() - 1;
+            lines[last] = frame(0x0F, &[odd_word(random, site.units, site.links() as u16)]);
+            "file with a wrong count"
+        }
+        14..=15 => {
+            let (a, b) = (random.below(lines.len()), random.below(lines.len()));
+            lines.swap(a, b);
+            "file with lines swapped"
+        }
+        16 => {
+            let again = lines[random.below(lines.len())].clone();
+            lines.insert(random.below(lines.len() + 1), again);
+            "file with a line twice"
+        }
+        17 => {
+            lines.remove(random.below(lines.len()));
+            "file without a line"
+        }
+        18..=19 => {
+            let at = random.below(lines.len());
+            lines[at] = odd_line(random);
+            "file with an odd line"
+        }
+        20..=27 => return damaged(random, lines.concat()),
+        28 => return joined(random, lines.concat()),
+        29 => return ("noise", noise(random)),
+        30 if random.once_in(8) => return long(random, lines),
+        30 => return ("empty file", Vec::new()),
+        _ => return ("two files", [lines.concat(), lines_of(&any_site(random)).concat()].concat()),
+    };
+    (kind, lines.concat())
+}
+
+/// A line whose sum is right and something else is not, or a bare one.
+fn odd_line(random: &mut Random) -> Vec<u8> {
+    let kind = random.pick(&[0x00, 0x01, 0x02, 0x03, 0x0F, 0x11, 0x12, 0x13, 0x1E, 0x1F, 0xFF]);
+    let mut body = vec![kind];
+    body.extend((0..random.below(12)).map(|_| random.word() as u8));
+    match random.below(4) {
+        0 => vec![b'\n'],
+        1 => line(&body).to_ascii_lowercase(),
+        _ => line(&body),
+    }
+}
+
+/// Bytes changed, cut away or put in.
+fn damaged(random: &mut Random, mut file: Vec<u8>) -> (&'static str, Vec<u8>) {
+    let kind = match random.below(6) {
+        0 => {
+            for _ in 0..1 << random.below(5) {
+                let at = random.below(file.len());
+                file[at] ^= 1 << random.below(8);
+            }
+            "file with bits flipped"
+        }
+        1 => {
+            for _ in 0..random.between(1, 4) {
+                let at = random.below(file.len());
+                file[at] = random.pick(b"0123456789ABCDEFGabcdef \n\r\0:/@\x80\xFF");
+            }
+            "file with bytes changed"
+        }
+        2 => {
+            file.truncate(random.below(file.len()));
+            "file cut at its end"
+        }
+        3 => {
+            file.drain(..random.between(1, file.len()));
+            "file cut at its start"
+        }
+        4 => {
+            let from = random.below(file.len());
+            let to = random.between(from, file.len().min(from + 20));
+            file.drain(from..to);
+            "file with a gap"
+        }
+        _ => {
+            for _ in 0..random.between(1, 20) {
+                file.insert(random.below(file.len() + 1), random.pick(b"0123456789ABCDEF\n\r "));
+            }
+            "file made longer"
+        }
+    };
+    (kind, file)
+}
+
+/// The front of a file and the rest of another.
+fn joined(random: &mut Random, file: Vec<u8>) -> (&'static str, Vec<u8>) {
+    let other = lines_of(&any_site(random)).concat();
+    let (front, rest) = (random.below(file.len() + 1), random.below(other.len() + 1));
+    ("files joined", [&file[..front], &other[rest..]].concat())
+}
+
+fn noise(random: &mut Random) -> Vec<u8> {
+    let digits = random.once_in(2);
+    (0..random.below(200)).map(|_| if digits { random.pick(b"0123456789ABCDEF\n") } else { random.word() as u8 }).collect()
+}
+
+/// As long as an input may be, and longer.
+fn long(random: &mut Random, mut lines: Vec<Vec<u8>>) -> (&'static str, Vec<u8>) {
+    let more = frame(0x02, &[0, 1]);
+    let last = lines.pop().unwrap_or_default();
+    let mut file = lines.concat();
+    while file.len() + more.len() + last.len() <= MAX_INPUT {
+        file.extend(&more);
+    }
+    file.extend(&last);
+    match random.below(3) {
+        0 => {}
+        1 => file.resize(random.between(MAX_INPUT - 1, MAX_INPUT + 2), b'0'),
+        _ => {
+            let twice = [&file[..], &more[..], &file[..]].concat();
+            file = twice[..random.between(MAX_INPUT, twice.len())].to_vec();
+        }
+    }
+    (if file.len() > MAX_INPUT { "file above 65,535 bytes" } else { "file near 65,535 bytes" }, file)
+}
+
+/// Words of a state changed in any way.
+pub fn spoil_words(random: &mut Random, words: &mut [u16]) {
+    const CLOCK: usize = 2050;
+    let (units, links) = (words[0], words[1]);
+    // where the entries of units, links and the clock are
+    let table = 2 + 2 * usize::from(links.min(1024));
+    for _ in 0..1 << random.below(4) {
+        let at = match random.below(8) {
+            0 => random.below(2),
+            1 => CLOCK + random.below(4),
+            2 => random.below(table),
+            3 => table.min(CLOCK - 1),
+            _ => random.below(words.len()),
+        };
+        words[at] = match random.below(6) {
+            0 => words[at].wrapping_add(1),
+            1 => words[at].wrapping_sub(1),
+            2 => words[random.below(words.len())],
+            _ => odd_word(random, units, links),
+        };
+    }
+}
+
+/// A state that may be anything, and the name of its kind.
+pub fn any_words(random: &mut Random) -> (&'static str, Vec<u16>) {
+    let kept = |random: &mut Random| crate::states::any_kept(random).to_words();
+    match random.below(16) {
+        0..=4 => ("state after a load", crate::states::reached(random).to_words()),
+        5..=9 => ("kept state", kept(random)),
+        10..=12 => {
+            let mut words = kept(random);
+            spoil_words(random, &mut words);
+            ("state with words changed", words)
+        }
+        13 => {
+            let word = random.pick(&[0, 0, 1, 11, ABSENT]);
+            ("state of one word", vec![word; Survey::WORDS])
+        }
+        14 => ("state of random words", (0..Survey::WORDS).map(|_| random.word()).collect()),
+        _ => {
+            let mut words = kept(random);
+            let length = random.pick(&[0, 1, 2, 2050, Survey::WORDS - 1, Survey::WORDS + 1, 2 * Survey::WORDS]);
+            words.resize(length, 0);
+            ("state of another length", words)
+        }
+    }
+}

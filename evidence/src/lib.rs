@@ -1,0 +1,46 @@
+//! The link survey in plain Rust, written from document 01 and docs/DECISIONS.md and from nothing of the proved code: a second
+//! opinion for the tests, and the measure of the proved library's speed.
+//!
+//! The W-numbers in comments are rows of docs/DECISIONS.md.
+
+mod answers;
+mod calls;
+mod ceilings;
+mod files;
+mod frames;
+mod kept;
+pub mod parts;
+mod refusal;
+mod report;
+mod stages;
+mod survey;
+mod table;
+
+/// What the calls give on lent words, as in the C face.
+pub mod words;
+
+#[cfg(feature = "face")]
+pub mod face;
+
+pub mod damage;
+pub mod random;
+pub mod sites;
+pub mod states;
+
+pub use answers::{LinkAnswer, UnitAnswer};
+pub use calls::Status;
+pub use ceilings::{ceiling, countdown, lg};
+pub use files::{Contents, file_length, read_file, write_file};
+pub use refusal::Refusal;
+pub use report::{MAX_INPUT, report_length, report_of_file};
+pub use survey::Survey;
+pub use table::check_table;
+
+/// The mark "absent". It compares as this number.
+pub const ABSENT: u16 = 65535;
+pub const MAX_UNITS: usize = 256;
+pub const MAX_LINKS: usize = 1024;
+/// The bound of a stored number that names nothing.
+pub const MAX_NUMBER: u16 = 2048;
+/// The stage of a finished survey.
+pub const FINISHED: u16 = 11;

@@ -1,0 +1,25 @@
+/// Why a call is turned down. The number of each is document 01's.
+#[derive(Clone, Copy, Debug, PartialEq, Eq)]
+#[repr(u8)]
+pub enum Refusal {
+    FaultyLine = 1,
+    OutOfOrder = 2,
+    CountDiffers = 3,
+    BadUnitCount = 4,
+    OddWords = 5,
+    TooManyLinks = 6,
+    EndMissing = 7,
+    EqualEnds = 8,
+    RepeatedLink = 9,
+    NotKept = 10,
+    Finished = 11,
+    NotFinished = 12,
+    NoSuchName = 13,
+    TooShort = 14,
+}
+
+impl Refusal {
+    pub fn number(self) -> u8 {
+        self as u8
+    }
+}

@@ -1,0 +1,114 @@
+//! The plain version against the rules said slowly, on states that a load reaches and on kept states that none does.
+
+mod rules;
+
+use plain::random::Random;
+use plain::sites::any_site;
+use plain::states::{any_kept, loaded};
+use plain::{Survey, countdown};
+
+fn same(ours: &Survey, theirs: &Survey, case: &str) {
+    for ((name, _, ours), (_, _, theirs)) in ours.parts().iter().zip(&theirs.parts()) {
+        assert!(ours == theirs, "{case}: {name}\nours   {ours:?}\ntheirs {theirs:?}");
+    }
+}
+
+fn answers_agree(survey: &Survey, case: &str) {
+    for unit in 0..survey.units {
+        assert_eq!(survey.unit(unit).unwrap().single, rules::single(survey, unit), "{case}: unit {unit}");
+    }
+    for position in 0..survey.links {
+        assert_eq!(survey.link(position).unwrap().lone, rules::lone(survey, position), "{case}: link {position}");
+    }
+}
+
+/// Steps both to the end: each round leaves the same state, kept again, with a lesser countdown.
+fn follow(mut survey: Survey, case: &str) {
+    while !survey.finished() {
+        let slow = rules::step(&survey);
+        let before = countdown(survey.units, survey.stage, survey.made);
+        let case = format!("{case}, stage {} round {}", survey.stage, survey.made);
+        survey.round().unwrap();
+        same(&survey, &slow, &case);
+        assert!(survey.kept(), "{case}");
+        assert!(countdown(survey.units, survey.stage, survey.made) < before, "{case}");
+    }
+    answers_agree(&survey, case);
+}
+
+/// The slow rules take a while: half of the sites of many units are left out.
+fn small(survey: &Survey, random: &mut Random) -> bool {
+    survey.units <= 40 || random.once_in(2)
+}
+
+#[test]
+fn from_loads() {
+    for case in 0..600 {
+        let random = &mut Random::new(1, case);
+        let survey = loaded(&any_site(random));
+        if small(&survey, random) {
+            follow(survey, &format!("load {case}"));
+        }
+    }
+}
+
+#[test]
+fn from_any_kept_state() {
+    for case in 0..20_000 {
+        let random = &mut Random::new(2, case);
+        let survey = any_kept(random);
+        assert!(survey.kept(), "state {case}");
+        if small(&survey, random) {
+            follow(survey, &format!("state {case}"));
+        }
+    }
+}
+
+#[test]
+fn a_run_is_its_rounds() {
+    for case in 0..300 {
+        let random = &mut Random::new(3, case);
+        let mut by_rounds = any_kept(random);
+        let mut by_run = by_rounds.clone();
+        let budget = random.below(100) as u16;
+        let mut made = 0;
+        if by_rounds.finished() {
+            continue;
+        }
+        while made < budget && !by_rounds.finished() {
+            by_rounds.round().unwrap();
+            made += 1;
+        }
+        assert_eq!(by_run.run(budget), Ok(made));
+        same(&by_run, &by_rounds, &format!("run {case}"));
+    }
+}
+
+#[test]
+fn words_there_and_back() {
+    for case in 0..100 {
+        let survey = any_kept(&mut Random::new(4, case));
+        let words = survey.to_words();
+        assert_eq!(words.len(), Survey::WORDS);
+        same(&Survey::from_words(&words).unwrap(), &survey, "words");
+        assert_eq!(Survey::from_words(&words[1..]), None);
+        assert_eq!((words[0], words[1], words[2050], words[2053]), (survey.units, survey.links, survey.stage, survey.requests));
+    }
+}
+
+/// One word of a kept state out of its bound, and it is kept no more.
+#[test]
+fn every_entry_is_judged() {
+    let random = &mut Random::new(5, 0);
+    let survey = any_kept(random);
+    let words = survey.to_words();
+    for i in 0..words.len() {
+        // all else is at most 2,048
+        let requests = i == 2053;
+        for out in [if requests { 8159 } else { 2049 }, 65534] {
+            let mut words = words.clone();
+            words[i] = out;
+            assert!(!Survey::from_words(&words).unwrap().kept(), "word {i} = {out}");
+        }
+    }
+}

@@ -1,0 +1,127 @@
+//! Files and tables against document 01's list of refusals, each number judged over the whole input by a search of its own.
+
+use plain::damage::{any_file, spoil_site};
+use plain::random::Random;
+use plain::sites::any_site;
+use plain::{check_table, file_length, read_file, write_file};
+
+/// The bytes of a line, if it is whole.
+fn frame(line: &[u8]) -> Option<Vec<u8>> {
+    let digits = std::str::from_utf8(line.strip_suffix(b"\n")?).ok()?;
+    if digits.len() % 2 == 1 || !digits.chars().all(|c| "0123456789ABCDEF".contains(c)) {
+        return None;
+    }
+    let bytes: Vec<u8> = (0..digits.len()).step_by(2).map(|i| u8::from_str_radix(&digits[i..i + 2], 16).unwrap()).collect();
+    let length = match bytes.first()? {
+        0x01 | 0x0F => 4,
+        0x02 => 6,
+        _ => return None,
+    };
+    let sum: u32 = bytes.iter().map(|&byte| u32::from(byte)).sum();
+    (bytes.len() == length && sum.is_multiple_of(256)).then_some(bytes)
+}
+
+fn number(bytes: &[u8], at: usize) -> u16 {
+    256 * u16::from(bytes[at]) + u16::from(bytes[at + 1])
+}
+
+/// The unit count and the words of a file, or the number of its refusal.
+fn read_slowly(input: &[u8]) -> Result<(u16, Vec<u16>), u8> {
+    let frames: Option<Vec<Vec<u8>>> = input.split_inclusive(|&c| c == b'\n').map(frame).collect();
+    let frames = frames.ok_or(1)?;
+    let kinds: Vec<u8> = frames.iter().map(|bytes| bytes[0]).collect();
+    match kinds[..] {
+        [0x01, ref links @ .., 0x0F] if links.iter().all(|&kind| kind == 0x02) => {}
+        _ => return Err(2),
+    }
+    let links = &frames[1..frames.len() - 1];
+    if usize::from(number(&frames[frames.len() - 1], 1)) != links.len() {
+        return Err(3);
+    }
+    if links.len() > 1024 {
+        return Err(6);
+    }
+    Ok((number(&frames[0], 1), links.iter().flat_map(|bytes| [number(bytes, 1), number(bytes, 3)]).collect()))
+}
+
+fn check_slowly(units: u16, table: &[u16]) -> Result<(), u8> {
+    let links: Vec<&[u16]> = table.chunks(2).collect();
+    let alike = |i: usize, j: usize| links[i] == links[j] || (links[i][0] == links[j][1] && links[i][1] == links[j][0]);
+    if units == 0 || units > 256 {
+        Err(4)
+    } else if table.len() % 2 == 1 {
+        Err(5)
+    } else if table.len() > 2048 {
+        Err(6)
+    } else if table.iter().any(|&end| end >= units) {
+        Err(7)
+    } else if links.iter().any(|ends| ends[0] == ends[1]) {
+        Err(8)
+    } else if (0..links.len()).any(|j| (0..j).any(|i| alike(i, j))) {
+        Err(9)
+    } else {
+        Ok(())
+    }
+}
+
+#[test]
+fn read() {
+    let mut seen = [0; 15];
+    for case in 0..20_000 {
+        let random = &mut Random::new(11, case);
+        let (kind, input) = any_file(random);
+        let mut words = [7; 2049];
+        let ours = read_file(&input, &mut words).map_err(|refusal| refusal.number());
+        match read_slowly(&input) {
+            Err(number) => {
+                assert_eq!(ours, Err(number), "case {case}, {kind}");
+                assert_eq!(words, [7; 2049], "case {case}, {kind}");
+                seen[usize::from(number)] += 1;
+            }
+            Ok((units, table)) => {
+                let contents = ours.unwrap();
+                assert_eq!((contents.units, 2 * usize::from(contents.links)), (units, table.len()), "case {case}, {kind}");
+                assert!(words[..table.len()] == table && words[table.len()..].iter().all(|&word| word == 7), "case {case}, {kind}");
+                if !table.is_empty() {
+                    let mut short = vec![7; table.len() - 1];
+                    assert_eq!(read_file(&input, &mut short).map_err(|refusal| refusal.number()), Err(14), "case {case}, {kind}");
+                    assert!(short.iter().all(|&word| word == 7), "case {case}, {kind}");
+                }
+                seen[0] += 1;
+            }
+        }
+    }
+    assert!([0, 1, 2, 3, 6].iter().all(|&number| seen[number] > 20), "{seen:?}");
+}
+
+#[test]
+fn check_and_write() {
+    let mut seen = [0; 15];
+    for case in 0..10_000 {
+        let random = &mut Random::new(12, case);
+        let mut site = any_site(random);
+        if random.once_in(2) {
+            spoil_site(random, &mut site);
+        }
+        let ours = check_table(site.units, &site.table).map_err(|refusal| refusal.number());
+        assert_eq!(ours, check_slowly(site.units, &site.table), "case {case}");
+        seen[usize::from(ours.err().unwrap_or(0))] += 1;
+
+        let length = file_length(site.links());
+        let mut out = vec![7; length + 2];
+        match ours {
+            Err(number) => {
+                assert_eq!(write_file(site.units, &site.table, &mut out).map_err(|refusal| refusal.number()), Err(number), "case {case}");
+                assert!(out.iter().all(|&byte| byte == 7), "case {case}");
+            }
+            Ok(()) => {
+                assert_eq!(write_file(site.units, &site.table, &mut out), Ok(length), "case {case}");
+                assert_eq!(read_slowly(&out[..length]), Ok((site.units, site.table.clone())), "case {case}");
+                assert_eq!(out[length..], [7, 7], "case {case}");
+                let short = write_file(site.units, &site.table, &mut out[..length - 1]);
+                assert_eq!(short.map_err(|refusal| refusal.number()), Err(14), "case {case}");
+            }
+        }
+    }
+    assert!([0, 4, 5, 6, 7, 8, 9].iter().all(|&number| seen[number] > 20), "{seen:?}");
+}

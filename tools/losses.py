@@ -1,0 +1,150 @@
+"""What the loss of a unit or of a link does to a site: by flooding what is left, never from a report."""
+from survey_text import ABSENT
+
+
+def neighbours_of(site):
+    """For each unit the pairs of a neighbour and the link's position."""
+    near = [[] for _ in range(site.units)]
+    for j, (a, b) in enumerate(site.links):
+        near[a].append((b, j))
+        near[b].append((a, j))
+    return near
+
+
+def parts(near, lost_unit=None, lost_link=None):
+    """The groups of units that are still linked up, each ascending, by their least unit."""
+    found = []
+    seen = {lost_unit}
+    for start in range(len(near)):
+        if start in seen:
+            continue
+        seen.add(start)
+        part = [start]
+        for v in part:
+            for w, j in near[v]:
+                if w not in seen and j != lost_link:
+                    seen.add(w)
+                    part.append(w)
+        found.append(sorted(part))
+    return found
+
+
+def part_numbers(found):
+    return {v: k for k, part in enumerate(found) for v in part}
+
+
+class Losses:
+    """Every unit and every link taken away once."""
+
+    def __init__(self, site):
+        self.site = site
+        near = neighbours_of(site)
+        self.groups = parts(near)
+        group = part_numbers(self.groups)
+        self.unit_parts = {}  # unit: the parts of its group after its loss, where they are more than one
+        self.link_parts = {}  # position: the two parts of its group after its loss, where it parts them
+        block = list(range(len(site.links)))
+
+        def least(j):
+            while block[j] != j:
+                j = block[j]
+            return j
+
+        for v in range(site.units):
+            left = parts(near, lost_unit=v)
+            of = part_numbers(left)
+            of_group = [part for part in left if group[part[0]] == group[v]]
+            if len(of_group) > 1:
+                self.unit_parts[v] = of_group
+            # two links at v lie on a ring exactly when their other ends are linked up without v
+            first = {}
+            for w, j in near[v]:
+                i = least(first.setdefault(of[w], j))
+                j = least(j)
+                block[max(i, j)] = min(i, j)
+        self.labels = [least(j) for j in range(len(site.links))]
+        for j, (a, b) in enumerate(site.links):
+            left = parts(near, lost_link=j)
+            of = part_numbers(left)
+            if of[a] != of[b]:
+                self.link_parts[j] = [left[k] for k in sorted({of[a], of[b]})]
+
+    def backed(self):
+        """The links of each label that has more than one."""
+        sets = {}
+        for j, label in enumerate(self.labels):
+            sets.setdefault(label, []).append(j)
+        return [links for links in sets.values() if len(links) > 1]
+
+
+def contradictions(losses, report):
+    """Where a report of as many units and links says something else than the links of the file."""
+    site = losses.site
+    group = part_numbers(losses.groups)
+    linked = {frozenset(pair) for pair in site.links}
+    for v, line in enumerate(report.units):
+        if line.single != (v in losses.unit_parts):
+            told, found = ("is", "parts nothing") if line.single else ("is not", "parts its group")
+            yield f"the report says that unit {v} {told} a single point, but its loss {found}"
+        least = losses.groups[group[v]][0]
+        if line.color != least:
+            yield f"the report gives unit {v} the colour {line.color}, but the least unit linked up with it is {least}"
+        if (line.parent == ABSENT) != (v == least):
+            yield f"the report says that unit {v} has {'no' if line.parent == ABSENT else 'a'} parent, but the least unit of its group is {least}"
+        elif line.parent != ABSENT and frozenset((v, line.parent)) not in linked:
+            yield f"the report gives unit {v} the parent {line.parent}, but no link joins the two"
+    if sorted(line.place for line in report.units) != list(range(site.units)):
+        yield "the places in the report are not the numbers from 0 on, each once"
+    for j, line in enumerate(report.links):
+        name = f"link {j} ({site.links[j][0]}-{site.links[j][1]})"
+        if line.lone != (j in losses.link_parts):
+            told, found = ("is", "parts nothing") if line.lone else ("is not", "parts its group")
+            yield f"the report says that {name} {told} lone, but its loss {found}"
+        if line.label != losses.labels[j]:
+            yield f"the report gives {name} the label {line.label}, but the first link that backs it up, or itself, is {losses.labels[j]}"
+
+
+# ---- in words
+
+
+def listed(numbers):
+    """3, 5 to 9, 12: four or more in a row are shortened"""
+    runs = []
+    for k in sorted(numbers):
+        if runs and k == runs[-1][1] + 1:
+            runs[-1][1] = k
+        else:
+            runs.append([k, k])
+    words = []
+    for a, b in runs:
+        words += [f"{a} to {b}"] if b > a + 2 else [str(k) for k in range(a, b + 1)]
+    return ", ".join(words)
+
+
+def counted(k, thing):
+    return f"{k} {thing}" if k == 1 else f"{k or 'no'} {thing}s"
+
+
+def parted(left):
+    """The smallest part first."""
+    left = sorted(left, key=lambda part: (len(part), part))
+    if len(left) == 2:
+        return f"parts {listed(left[0])} from {listed(left[1])}"
+    alone = [part[0] for part in left if len(part) == 1]
+    said = [f"each of {listed(alone)} alone"] if len(alone) > 1 else [str(v) for v in alone]
+    return f"leaves {len(left)} parts: " + "; ".join(said + [listed(part) for part in left if len(part) > 1])
+
+
+def words(losses, report):
+    site = losses.site
+    yield f"{counted(site.units, 'unit')}, {counted(len(site.links), 'link')}; {report.rounds} rounds, {counted(report.requests, 'ranking request')}"
+    yield f"{counted(len(losses.unit_parts), 'single point')}, {counted(len(losses.link_parts), 'lone link')}"
+    if len(losses.groups) > 1:
+        yield f"{len(losses.groups)} groups that no link joins: " + "; ".join(listed(part) for part in losses.groups)
+    for v, left in losses.unit_parts.items():
+        yield f"unit {v} is a single point: its loss {parted(left)}"
+    for j, left in losses.link_parts.items():
+        a, b = site.links[j]
+        yield f"link {j} ({a}-{b}) is lone: its loss {parted(left)}"
+    for links in losses.backed():
+        yield f"links {listed(links)} back each other up"

@@ -1,0 +1,73 @@
+"""The documents against the repository: python3 tools/test_docs.py
+
+Every name of a definition or theorem, every must-fail edit and every path that a document gives must be there, and what docs/PROOFS.md says of
+public functions must hold.
+"""
+import glob
+import os
+import re
+import unittest
+
+ROOT = os.path.dirname(os.path.dirname(os.path.abspath(__file__)))
+DOCUMENTS = [os.path.join(ROOT, "README.md")] + sorted(glob.glob(os.path.join(ROOT, "docs", "*.md")))
+
+
+def contents(path):
+    with open(path, encoding="utf-8") as file:
+        return file.read()
+
+
+def quoted(path):
+    """What stands between backquotes, blocks of code left out."""
+    return re.findall(r"`([^`\n]+)`", re.sub(r"(?ms)^```.*?^```", "", contents(path)))
+
+
+def declares(text, name):
+    """A module declares a name: as a definition, a theorem, a field, a record or a data type."""
+    return re.search(rf"(?m)^\s*(?:abbrev |unfoldable )?(?:pub )?(?:record |data )?{re.escape(name)}(?=[\s:])", text) is not None
+
+
+class Documents(unittest.TestCase):
+    def each(self, pattern, there):
+        """Every quoted text of the pattern names something that is there."""
+        found = [(document, m) for document in DOCUMENTS for m in (re.fullmatch(pattern, text) for text in quoted(document)) if m]
+        self.assertTrue(found)
+        for document, match in found:
+            with self.subTest(f"{os.path.basename(document)}: {match[0]}"):
+                self.assertTrue(there(match))
+
+    def test_names(self):
+        def there(match):
+            path = os.path.join(ROOT, "crates", match[1], "specs", match[2] + ".antt")
+            return os.path.exists(path) and declares(contents(path), match[3])
+
+        self.each(r"(\w+)/([A-Z]\w*)\.(?!antt$|md$)([^\s.]+)", there)
+
+    def test_edits(self):
+        self.each(r"(\w+)/must-fail/(\w+)", lambda m: os.path.exists(os.path.join(ROOT, "crates", m[1], "must-fail", m[2] + ".edit")))
+
+    def test_paths(self):
+        self.each(r"(?:\.ci|crates|docs|examples|include|tools)/[\w./-]*", lambda m: os.path.exists(os.path.join(ROOT, m[0])))
+
+    def test_links(self):
+        for document in DOCUMENTS:
+            for target in re.findall(r"\]\(([^)#:]+)\)", contents(document)):
+                with self.subTest(f"{os.path.basename(document)}: {target}"):
+                    self.assertTrue(os.path.exists(os.path.join(os.path.dirname(document), target)))
+
+
+class PublicFunctions(unittest.TestCase):
+    def test_contracts(self):
+        found = 0
+        for path in glob.glob(os.path.join(ROOT, "crates", "*", "src", "**", "*.rt"), recursive=True):
+            # the words of a function up to the brace that stands alone before its body
+            for name, head in re.findall(r"(?ms)^\s*pub (?:extern \"C\" )?fn (\w+)(.*?)^\s*\{$", contents(path)):
+                found += 1
+                with self.subTest(f"{os.path.relpath(path, ROOT)}: {name}"):
+                    self.assertNotIn("requires", head)
+                    self.assertIn("ensures", head)
+        self.assertGreater(found, 0)
+
+
+if __name__ == "__main__":
+    unittest.main()
