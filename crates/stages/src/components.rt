@@ -1,9 +1,11 @@
 // Stage 1: the least unit of each component, by propagation. What the units say and the test for its end serve stage 9 too.
 use values::tables;
 ghost use mathlib.Core.Path.{_≡_};
-ghost use Prim.Native.Nat.{ℕ};
+ghost use mathlib.Core.Bool.{false};
+ghost use Prim.Native.Nat.{ℕ, min};
 ghost use Rattle.lists.specs.Tables.{over};
 ghost use Rattle.lists.specs.Folds.{agree};
+ghost use Rattle.rules.specs.HeardLaws.{hears};
 ghost use Rattle.rules.specs.Components.{leastHeard, colorSaid, colorRound, colorEnds};
 
 // Each unit's own number.
@@ -30,16 +32,31 @@ pub fn said(units: u16, made: u16, color: [u16; 256]) -> [u16; 256]
     }
 }
 
+// A link of `a` and `b`, as `tables::hear` has it. Where both ends exist that is tested once, for all that is read and stored.
+fn hear_link(n: u16, said: &[u16], a: u16, b: u16, t: &mut [u16])
+    ensures { λ _. ⌜ now (t .exit) ≡ hears false n (now (said .entry)) a b (now (t .entry)) ⌝ }
+{
+    if values::both(a < n, b < n) {
+        let x = tables::at(said, a);
+        let y = tables::at(said, b);
+        tables::take_in(false, n, t, a, y);
+        tables::take_in(false, n, t, b, x);
+    } else {
+        tables::hear(false, n, said, a, b, t);
+    }
+}
+
 // The least that each unit hears, itself included, over the links.
 fn least_heard(units: u16, links: u16, ends: &[u16], value: [u16; 256]) -> [u16; 256]
     ensures { λ r. ⌜ r ≡ over units (leastHeard links (now (ends .entry)) value) value ⌝ }
 {
+    let n = values::least_of(units, 256);
     let mut new = value;
     let mut j = 0;
     while j < links {
         let a = tables::end_a(ends, j);
         let b = tables::end_b(ends, j);
-        tables::hear(false, units, &value, a, b, &mut new);
+        hear_link(n, &value, a, b, &mut new);
         j += 1;
     }
     new
@@ -52,25 +69,25 @@ pub fn color_round(units: u16, links: u16, made: u16, ends: &[u16], color: [u16;
     least_heard(units, links, ends, said(units, made, color))
 }
 
-// Whether two tables agree below `units`.
+// The lesser of two lengths.
+fn lesser(x: usize, y: usize) -> usize
+    ensures { λ r. ⌜ r ≡ min x y ⌝ }
+{
+    if x < y { x } else { y }
+}
+
+// Whether two tables agree below `units`. Every entry is compared, without a branch.
 pub fn agree<'a>(units: u16, before: &'a [u16], after: &'a [u16]) -> bool
     ensures { λ r. ⌜ r ≡ agree units (now (before .entry)) (now (after .entry)) ⌝ }
 {
-    let count = units as usize;
+    let count = lesser(units as usize, lesser(before.len(), after.len()));
+    let mut same = true;
     let mut i = 0;
     while i < count {
-        if before.len() <= i {
-            return true;
-        }
-        if after.len() <= i {
-            return true;
-        }
-        if before[i] != after[i] {
-            return false;
-        }
+        same = values::both(same, slices::word(before, i) == slices::word(after, i));
         i += 1;
     }
-    true
+    same
 }
 
 // Whether the stage ends: with the first later round that changes nothing.

@@ -3,8 +3,10 @@ use values::arcs;
 use values::firsts;
 use values::tables;
 ghost use mathlib.Core.Path.{_≡_};
-ghost use mathlib.Core.Bool.{cond};
+ghost use mathlib.Core.Bool.{cond, _||_};
 ghost use Prim.Native.Nat.{_+_, _*_, min};
+ghost use lib.Dec.{eqb};
+ghost use lib.ListN.{getD};
 ghost use Rattle.lists.specs.Tables.{over};
 ghost use Rattle.rules.specs.Basics.{ABSENT};
 ghost use Rattle.rules.specs.Tour;
@@ -12,39 +14,41 @@ ghost use Rattle.rules.specs.TourLaws.{storedNext, nextStored, startBy, predIn,
 
 const NONE: u16 = 65535;
 
-// Whether `w` is a tree neighbour of `v`.
-fn tree_neighbor(parent: &[u16], v: u16, w: u16) -> bool
-    ensures { λ r. ⌜ r ≡ Tour.treeNeighbor (now (parent .entry)) v w ⌝ }
+// Whether `w` is a tree neighbour of `v`, whose own parent is `own`.
+fn tree_neighbor(parent: &[u16], v: u16, own: u16, w: u16) -> bool
+    ensures { λ r. ⌜ r ≡ (eqb (getD (now (parent .entry)) w 0) v || eqb own w) ⌝ }
 {
-    values::either(tables::at(parent, w) == v, tables::at(parent, v) == w)
+    values::either(tables::at(parent, w) == v, own == w)
 }
 
-// The least tree neighbour of `v`.
+// The least tree neighbour of `v`: the first that the scan meets.
 fn least_neighbor(units: u16, parent: &[u16], v: u16) -> u16
     ensures { λ r. ⌜ r ≡ Tour.leastNeighbor units (now (parent .entry)) v ⌝ }
 {
-    let mut x = NONE;
+    let own = tables::at(parent, v);
     let mut w = 0;
     while w < units {
-        let y = values::choose(tree_neighbor(parent, v, w), w, NONE);
-        x = values::least_of(x, y);
+        if tree_neighbor(parent, v, own, w) {
+            return w;
+        }
         w += 1;
     }
-    x
+    NONE
 }
 
-// The least tree neighbour of `v` that is greater than `u`.
+// The least tree neighbour of `v` that is greater than `u`: the first that a scan from there on meets.
 fn greater_neighbor(units: u16, parent: &[u16], v: u16, u: u16) -> u16
     ensures { λ r. ⌜ r ≡ Tour.greaterNeighbor units (now (parent .entry)) v u ⌝ }
 {
-    let mut x = NONE;
-    let mut w = 0;
+    let own = tables::at(parent, v);
+    let mut w = u;
     while w < units {
-        let y = values::choose(values::both(tree_neighbor(parent, v, w), u < w), w, NONE);
-        x = values::least_of(x, y);
+        if values::both(tree_neighbor(parent, v, own, w), u < w) {
+            return w;
+        }
         w += 1;
     }
-    x
+    NONE
 }
 
 // The tree neighbour of `v` after `u`, cyclically.

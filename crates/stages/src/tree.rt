@@ -1,13 +1,17 @@
-// Stage 2: breadth first. One pass over the links gives each unit its candidate, then each table goes entry by entry.
+// Stage 2: breadth first. One pass over the links gives each unit its candidate, one over the units both tables and the end.
 use values::tables;
 ghost use mathlib.Core.Path.{_≡_};
+ghost use mathlib.Core.Bool.{cond, not};
 ghost use Prim.Native.Nat.{ℕ, _<_};
+ghost use lib.Dec.{eqb};
 ghost use lib.ListN.{getD};
 ghost use Rattle.lists.specs.Tables.{over};
 ghost use Rattle.lists.specs.Folds.{some};
 ghost use Rattle.table.specs.Table.{maxUnits};
-ghost use Rattle.rules.specs.Tree.{chosenParent, parentRound, distRound, treeEnds};
+ghost use Rattle.rules.specs.Basics;
+ghost use Rattle.rules.specs.Tree.{visitedBefore, chosenParent, parentRound, distRound, treeEnds};
 ghost use Rattle.rules.specs.TreeLaws.{offered, offers, visitsBy, parentBy, distBy};
+ghost use Rattle.stages.specs.Chosen.{offersIf};
 
 const ABSENT: u16 = 65535;
 
@@ -18,11 +22,18 @@ pub struct TreeRound {
     pub ends: bool,
 }
 
+// Whether unit `w` was visited in the round before.
+fn was_visited(made: u16, dist: &[u16], w: u16) -> bool
+    ensures { λ r. ⌜ r ≡ visitedBefore made (now (dist .entry)) w ⌝ }
+{
+    tables::at(dist, w) == values::less(made, 1)
+}
+
 // Unit `w`, if it was visited in the round before.
 fn offer(made: u16, dist: &[u16], w: u16) -> u16
     ensures { λ r. ⌜ r ≡ offered made (now (dist .entry)) w ⌝ }
 {
-    values::choose(tables::at(dist, w) == values::less(made, 1), w, ABSENT)
+    values::choose(was_visited(made, dist, w), w, ABSENT)
 }
 
 // A link of `a` and `b`: each is offered the other.
@@ -31,6 +42,17 @@ fn offer_both(made: u16, dist: &[u16], a: u16, b: u16, cand: &mut [u16])
 {
     tables::take_in(false, 256, cand, a, offer(made, dist, b));
     tables::take_in(false, 256, cand, b, offer(made, dist, a));
+}
+
+// A link of `a` and `b`, passed over where neither has anything to offer, as most have in most rounds.
+fn offer_link(made: u16, dist: &[u16], a: u16, b: u16, cand: &mut [u16])
+    ensures { λ _. ⌜ now (cand .exit) ≡ offersIf made (now (dist .entry)) a b (now (cand .entry)) ⌝ }
+{
+    let from_a = was_visited(made, dist, a);
+    let from_b = was_visited(made, dist, b);
+    if values::either(from_a, from_b) {
+        offer_both(made, dist, a, b, cand);
+    }
 }
 
 // The parent that each unit would take.
@@ -42,7 +64,7 @@ fn chosen<'a>(links: u16, made: u16, ends: &'a [u16], dist: &'a [u16]) -> [u16; 
     while j < links {
         let a = tables::end_a(ends, j);
         let b = tables::end_b(ends, j);
-        offer_both(made, dist, a, b, &mut cand);
+        offer_link(made, dist, a, b, &mut cand);
         j += 1;
     }
     cand
@@ -57,91 +79,49 @@ fn visits<'a>(made: u16, color: &'a [u16], dist: &'a [u16], cand: &'a [u16], v: 
 }
 
 // The parent of unit `v` after the round.
-fn parent_after<'a>(
-    made: u16,
-    color: &'a [u16],
-    dist: &'a [u16],
-    cand: &'a [u16],
-    parent: &'a [u16],
-    v: u16,
-) -> u16
-    ensures { λ r. ⌜ r ≡ parentBy made (now (color .entry)) (now (dist .entry)) (now (cand .entry)) (now (parent .entry)) v ⌝ }
+fn parent_after<'a>(visited: bool, made: u16, cand: &'a [u16], parent: &'a [u16], v: u16) -> u16
+    ensures { λ r. ⌜ r ≡ cond visited (cond (eqb made 0) Basics.ABSENT (getD (now (cand .entry)) v 0)) (getD (now (parent .entry)) v 0) ⌝ }
 {
     let taken = values::choose(made == 0, ABSENT, tables::at(cand, v));
-    values::choose(
-        visits(made, color, dist, cand, v),
-        taken,
-        tables::at(parent, v),
-    )
+    values::choose(visited, taken, tables::at(parent, v))
 }
 
-fn parents<'a>(
+// The round, from the chosen parents: one pass over the units that have entries, without branches; past them only the test is left.
+fn visit<'a>(
     units: u16,
     made: u16,
     color: &'a [u16],
-    dist: &'a [u16],
     cand: &'a [u16],
     parent: [u16; 256],
-) -> [u16; 256]
-    ensures { λ r. ⌜ r ≡ over units (parentBy made (now (color .entry)) (now (dist .entry)) (now (cand .entry)) parent) parent ⌝ }
-{
-    let mut new = parent;
-    let mut v = 0;
-    while v < units {
-        let x = parent_after(made, color, dist, cand, &parent, v);
-        tables::store(&mut new, v, x);
-        v += 1;
-    }
-    new
-}
-
-// The distance of unit `v` after the round.
-fn dist_after<'a>(made: u16, color: &'a [u16], dist: &'a [u16], cand: &'a [u16], v: u16) -> u16
-    ensures { λ r. ⌜ r ≡ distBy made (now (color .entry)) (now (dist .entry)) (now (cand .entry)) v ⌝ }
-{
-    values::choose(
-        visits(made, color, dist, cand, v),
-        made,
-        tables::at(dist, v),
-    )
-}
-
-fn dists<'a>(
-    units: u16,
-    made: u16,
-    color: &'a [u16],
-    cand: &'a [u16],
     dist: [u16; 256],
-) -> [u16; 256]
-    ensures { λ r. ⌜ r ≡ over units (distBy made (now (color .entry)) dist (now (cand .entry))) dist ⌝ }
+) -> TreeRound
+    ensures parents { λ r. ⌜ r .parent ≡ over units (parentBy made (now (color .entry)) dist (now (cand .entry)) parent) parent ⌝ }
+    ensures dists { λ r. ⌜ r .dist ≡ over units (distBy made (now (color .entry)) dist (now (cand .entry))) dist ⌝ }
+    ensures ends { λ r. ⌜ r .ends ≡ not (some units (visitsBy made (now (color .entry)) dist (now (cand .entry)))) ⌝ }
 {
-    let mut new = dist;
-    let mut v = 0;
-    while v < units {
-        let x = dist_after(made, color, &dist, cand, v);
-        tables::store(&mut new, v, x);
-        v += 1;
-    }
-    new
-}
-
-// Whether some unit is visited.
-fn any_visited<'a>(
-    units: u16,
-    made: u16,
-    color: &'a [u16],
-    dist: &'a [u16],
-    cand: &'a [u16],
-) -> bool
-    ensures { λ r. ⌜ r ≡ some units (visitsBy made (now (color .entry)) (now (dist .entry)) (now (cand .entry))) ⌝ }
-{
+    let mut new_parent = parent;
+    let mut new_dist = dist;
     let mut any = false;
     let mut v = 0;
-    while v < units {
-        any = values::either(any, visits(made, color, dist, cand, v));
+    let count = values::least_of(units, 256);
+    while v < count {
+        let visited = visits(made, color, &dist, cand, v);
+        let x = parent_after(visited, made, cand, &parent, v);
+        let d = values::choose(visited, made, tables::at(&dist, v));
+        tables::store(&mut new_parent, v, x);
+        tables::store(&mut new_dist, v, d);
+        any = values::either(any, visited);
         v += 1;
     }
-    any
+    while v < units {
+        any = values::either(any, visits(made, color, &dist, cand, v));
+        v += 1;
+    }
+    TreeRound {
+        parent: new_parent,
+        dist: new_dist,
+        ends: !any,
+    }
 }
 
 // A round.
@@ -159,12 +139,5 @@ pub fn tree_round<'a>(
     ensures ends { λ r. ⌜ r .ends ≡ treeEnds units links made (now (ends .entry)) (now (color .entry)) dist ⌝ }
 {
     let cand = chosen(links, made, ends, &dist);
-    let new_parent = parents(units, made, color, &dist, &cand, parent);
-    let any = any_visited(units, made, color, &dist, &cand);
-    let new_dist = dists(units, made, color, &cand, dist);
-    TreeRound {
-        parent: new_parent,
-        dist: new_dist,
-        ends: !any,
-    }
+    visit(units, made, color, &cand, parent, dist)
 }

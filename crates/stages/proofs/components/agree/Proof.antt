@@ -1,53 +1,40 @@
--- The test from `i` on is the test of the whole.
-use mathlib.Core.Path.{_≡_, sym, _∙_}
-use Prim.Native.Nat.{_≤_, _-_}
+-- Entry by entry, as far as both have entries.
+use mathlib.Core.Path.{_≡_, _∙_}
+use mathlib.Core.Bool.{_&&_}
+use Prim.Native.Nat.{_≤_, _<_, _-_, min}
+use native.Mathlib.Nat.{le-antisymm}
 use native.Mathlib.Omega.{arith}
-use lib.ListN.{drop}
-use mathlib.Core.Logic.{inl, inr}
+use lib.Dec.{eqb}
+use lib.ListN.{length, getD}
 use Rattle.lists.specs.Folds.{agree}
-use Rattle.lists.specs.Agree.{agree-here, agree-later, agree-counted, agree-ended}
+use Rattle.stages.specs.Agreed.{agree-more, agree-least}
 use borrow.Author.Needs.{needs}
 use Rattle.stages.proofs.components.agree.Statement.{statement}
 use Rattle.stages.proofs.components.agree.Tie as tie
 
 abbrev Inv-loop : tie.InvT-loop
-Inv-loop units before after count i₀ i = (i ≤ units) × (agree units before after ≡ agree (units - i) (drop i before) (drop i after))
+Inv-loop units before after count same₀ i₀ same i = (i ≤ count) × (same ≡ agree i before after)
 
 abbrev μ-loop : tie.MeasureT-loop
-μ-loop units before after count i₀ i = units - i
+μ-loop units before after count same₀ i₀ same i = count - i
+
+lesser-requires : tie.Need-lesser-requires Inv-loop μ-loop
+lesser-requires c κs = search needs
+
+lesser-requires-2 : tie.Need-lesser-requires-2 Inv-loop μ-loop
+lesser-requires-2 c κs = search needs
 
 loop-holds : tie.Need-loop-holds Inv-loop μ-loop
-loop-holds c = let e : c .args .units - 0 ≡ c .args .units = omega arith in (search needs, rw e)
+loop-holds c = search needs
 
-returns : tie.Need-returns Inv-loop μ-loop
-returns c =
-    let s = c .before .before in
-    let a = s .before .args in
-    sym (s .loop .inv .1 ∙ agree-ended (a .units) (a .before .now) (a .after .now) (s .loop .i) (inl (c .if1 .taken)))
+word-requires : tie.Need-word-requires Inv-loop μ-loop
+word-requires c κs = search needs
 
-returns-2 : tie.Need-returns-2 Inv-loop μ-loop
-returns-2 c =
-    let s = c .before .before .before in
-    let a = s .before .args in
-    sym (s .loop .inv .1 ∙ agree-ended (a .units) (a .before .now) (a .after .now) (s .loop .i) (inr (c .if2 .taken)))
+word-requires-2 : tie.Need-word-requires-2 Inv-loop μ-loop
+word-requires-2 c κs = search needs
 
-mul-if3 : tie.Need-mul-if3 Inv-loop μ-loop
-mul-if3 c = search needs
-
-shared-slice-read-if3 : tie.Need-shared-slice-read-if3 Inv-loop μ-loop
-shared-slice-read-if3 c = search needs
-
-mul-if3-2 : tie.Need-mul-if3-2 Inv-loop μ-loop
-mul-if3-2 c = search needs
-
-shared-slice-read-if3-2 : tie.Need-shared-slice-read-if3-2 Inv-loop μ-loop
-shared-slice-read-if3-2 c = search needs
-
-returns-3 : tie.Need-returns-3 Inv-loop μ-loop
-returns-3 c =
-    let s = c .before .before .before .before .before .before in
-    let a = s .before .args in
-    sym (s .loop .inv .1 ∙ agree-here (a .units) (a .before .now) (a .after .now) (s .loop .i) (search needs) (search needs) (search needs) (c .if3 .taken))
+both-requires : tie.Need-both-requires Inv-loop μ-loop
+both-requires c κs = search needs
 
 add-i : tie.Need-add-i Inv-loop μ-loop
 add-i c = search needs
@@ -57,15 +44,23 @@ loop-less c = search needs
 
 loop-again : tie.Need-loop-again Inv-loop μ-loop
 loop-again c =
-    let s = c .before .before .before .before .before .before in
-    let a = s .before .args in
-    (search needs, s .loop .inv .1 ∙ agree-later (a .units) (a .before .now) (a .after .now) (s .loop .i) (search needs) (search needs) (search needs) (c .if3 .left))
+    let s = c .before .before .before .before in
+    let a = s .before .before .before .before .before .args in
+    let put
+    : c .both .result ≡ (s .loop .same && eqb (getD (a .before .now) (s .loop .i) 0) (getD (a .after .now) (s .loop .i) 0))
+    = rw (c .before .before .word .ensures, c .before .word2 .ensures) at (c .both .ensures) in
+    let in-both : s .loop .i < min (length (a .before .now)) (length (a .after .now)) =
+    omega (arith, c .before .before .before .loop-test .taken, s .before .lesser2 .ensures, s .before .before .lesser .ensures) in
+    (search needs, agree-more (s .loop .i) (a .before .now) (a .after .now) _ _ (omega arith) (omega arith) (s .loop .inv .1) put)
 
-returns-4 : tie.Need-returns-4 Inv-loop μ-loop
-returns-4 c =
+returns : tie.Need-returns Inv-loop μ-loop
+returns c =
     let s = c .before in
-    let a = s .before .args in
-    sym (s .loop .inv .1 ∙ agree-counted (a .units) (a .before .now) (a .after .now) (s .loop .i) (c .loop-test .left))
+    let a = s .before .before .before .before .before .args in
+    let all : s .before .lesser2 .result ≡ min (a .units) (min (length (a .before .now)) (length (a .after .now))) = rw (s .before .before .lesser .ensures) at (s .before .lesser2 .ensures) in
+    let ended : s .loop .i ≡ min (a .units) (min (length (a .before .now)) (length (a .after .now))) = le-antisymm (s .loop .inv .0) (c .loop-test .left) ∙ all in
+    let same : s .loop .same ≡ agree (min (a .units) (min (length (a .before .now)) (length (a .after .now)))) (a .before .now) (a .after .now) = rw ended at (s .loop .inv .1) in
+    same ∙ agree-least (a .units) (a .before .now) (a .after .now)
 
 pub agree-spec : {M : Type 1} → statement M
 agree-spec =
@@ -73,15 +68,13 @@ agree-spec =
     (tie.spec
     Inv-loop
     μ-loop
+    lesser-requires
+    lesser-requires-2
     loop-holds
-    returns
-    returns-2
-    mul-if3
-    shared-slice-read-if3
-    mul-if3-2
-    shared-slice-read-if3-2
-    returns-3
+    word-requires
+    word-requires-2
+    both-requires
     add-i
     loop-less
     loop-again
-    returns-4)
+    returns)

@@ -3,7 +3,8 @@ use mathlib.Core.Path.{_≡_}
 use Prim.Native.Nat.{_≤_, _-_}
 use lib.ListN.{length}
 use Rattle.table.specs.Table.{endA, endB}
-use Rattle.rules.specs.TreeLaws.{chosenTable, offers, chosen-none, chosen-more, chosen-all}
+use Rattle.rules.specs.TreeLaws.{chosenTable, chosen-none, chosen-all}
+use Rattle.stages.specs.Chosen.{offersIf, chosen-more-if}
 use borrow.Author.Needs.{needs}
 use Rattle.stages.proofs.tree.chosen.Statement.{statement}
 use Rattle.stages.proofs.tree.chosen.Tie as tie
@@ -28,11 +29,11 @@ end-a-requires c κs = search needs
 end-b-requires : tie.Need-end-b-requires Inv-loop μ-loop
 end-b-requires c κs = search needs
 
-slice-aggregate-offer-both : tie.Need-slice-aggregate-offer-both Inv-loop μ-loop
-slice-aggregate-offer-both c = search needs
+slice-aggregate-offer-link : tie.Need-slice-aggregate-offer-link Inv-loop μ-loop
+slice-aggregate-offer-link c = search needs
 
-offer-both-requires : tie.Need-offer-both-requires Inv-loop μ-loop
-offer-both-requires c κs = search needs
+offer-link-requires : tie.Need-offer-link-requires Inv-loop μ-loop
+offer-link-requires c κs = search needs
 
 add-j : tie.Need-add-j Inv-loop μ-loop
 add-j c = search needs
@@ -45,10 +46,10 @@ loop-again c =
     let s = c .before .before .before .before .before .before in
     let a = s .before .before .before .before .args in
     let put
-    : c .before .offer-both .last .1 .1 .1 .1 .0
-    ≡ offers (a .made) (a .dist .now) (endA (a .ends .now) (s .loop .j)) (endB (a .ends .now) (s .loop .j)) (s .loop .cand)
+    : c .before .offer-link .last .1 .1 .1 .1 .0
+    ≡ offersIf (a .made) (a .dist .now) (endA (a .ends .now) (s .loop .j)) (endB (a .ends .now) (s .loop .j)) (s .loop .cand)
     = cc in
-    (search needs, search needs, chosen-more (a .made) (a .ends .now) (a .dist .now) (s .loop .j) _ _ _ (s .loop .inv .2) put)
+    (search needs, search needs, chosen-more-if (a .made) (a .ends .now) (a .dist .now) (s .loop .j) _ _ _ (s .loop .inv .2) put)
 
 returns : tie.Need-returns Inv-loop μ-loop
 returns c =
@@ -66,8 +67,8 @@ chosen-spec =
     loop-holds
     end-a-requires
     end-b-requires
-    slice-aggregate-offer-both
-    offer-both-requires
+    slice-aggregate-offer-link
+    offer-link-requires
     add-j
     loop-less
     loop-again

@@ -1,4 +1,4 @@
--- By the test.
+-- By the two tests.
 use borrow.Author.Needs.{needs}
 use Rattle.stages.proofs.tree.parent_after.Statement.{statement}
 use Rattle.stages.proofs.tree.parent_after.Tie as tie
@@ -8,9 +8,6 @@ at-requires c κs = search needs
 
 choose-requires : tie.Need-choose-requires
 choose-requires c κs = search needs
-
-visits-requires : tie.Need-visits-requires
-visits-requires c κs = search needs
 
 at-requires-2 : tie.Need-at-requires-2
 at-requires-2 c κs = search needs
@@ -23,5 +20,4 @@ returns c = cc
 
 pub parent-after-spec : {M : Type 1} → statement M
 parent-after-spec =
-    tie.close
-    (tie.spec at-requires choose-requires visits-requires at-requires-2 choose-requires-2 returns)
+    tie.close (tie.spec at-requires choose-requires at-requires-2 choose-requires-2 returns)

@@ -1,0 +1,4 @@
+pub mod Passes
+pub mod Agreed
+pub mod Firsts
+pub mod Chosen

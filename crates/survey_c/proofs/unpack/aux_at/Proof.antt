@@ -1,0 +1,36 @@
+-- Each table from its place on.
+use mathlib.Core.Path.{refl}
+use borrow.Author.Needs.{needs}
+use Rattle.survey_c.specs.Layout.{auxAt}
+use Rattle.survey_c.proofs.unpack.aux_at.Statement.{statement}
+use Rattle.survey_c.proofs.unpack.aux_at.Tie as tie
+
+units-at-requires : tie.Need-units-at-requires
+units-at-requires c κs = search needs
+
+add-links-at : tie.Need-add-links-at
+add-links-at c = search needs
+
+links-at-requires : tie.Need-links-at-requires
+links-at-requires c κs = search needs
+
+add-units-at : tie.Need-add-units-at
+add-units-at c = search needs
+
+units-at-requires-2 : tie.Need-units-at-requires-2
+units-at-requires-2 c κs = search needs
+
+returns : tie.Need-returns
+unfolding auxAt
+returns c = rw (c .before .before .units-at .ensures, c .before .links-at .ensures, c .units-at2 .ensures) refl
+
+pub aux-at-spec : {M : Type 1} → statement M
+aux-at-spec =
+    tie.close
+    (tie.spec
+    units-at-requires
+    add-links-at
+    links-at-requires
+    add-units-at
+    units-at-requires-2
+    returns)

@@ -1,0 +1,5 @@
+pub mod Layout
+pub mod CopyLaws
+pub mod Laid
+pub mod Face
+pub mod FaceLaws
