@@ -2,7 +2,7 @@
 """What removal_check must print: python3 tools/removal_counts.py > crates/removal_check/stdout
 
 Draws the tables that removal_check draws, and counts single points, lone links and labels in ways of its own: rings are listed one by one on
-the small tables, and on all tables two links that meet at a unit go together when their other ends are linked up without it."""
+the small tables, and on all tables two links go together until the removal of a unit parts them."""
 
 from itertools import combinations, permutations
 from pathlib import Path
@@ -107,7 +107,7 @@ def small(units):
 
 
 def flooded(near, start, removed):
-    """The set of bits of what is linked up with start when the units of another set are removed."""
+    """What is linked up with start when the units of another set are removed, as a set of bits."""
     reached = todo = 1 << start
     while todo:
         unit = todo & -todo
@@ -118,21 +118,31 @@ def flooded(near, start, removed):
     return reached
 
 
+def groups(near, x):
+    """The group of each unit without unit x."""
+    found = [0] * len(near)
+    for v in range(len(near)):
+        if v != x and not found[v]:
+            group = flooded(near, v, 1 << x)
+            for u in range(v, len(near)):
+                if group >> u & 1:
+                    found[u] = group
+    return found
+
+
 def counted(units, links):
     near = [0] * units
     for a, b in links:
         near[a] |= 1 << b
         near[b] |= 1 << a
-    classes = list(range(len(links)))
+    classes = [0] * len(links)
     singles = 0
     for x in range(units):
-        met = [(j, a + b - x) for j, (a, b) in enumerate(links) if x in (a, b)]
-        sides = [flooded(near, other, 1 << x) for _, other in met]
-        singles += any(side != sides[0] for side in sides)
-        for (j, _), side in zip(met, sides):
-            first = met[sides.index(side)][0]
-            old, new = classes[j], classes[first]
-            classes = [new if c == old else c for c in classes]
+        group = groups(near, x)
+        singles += len({group[v] for v in range(units) if near[x] >> v & 1}) > 1
+        keys = [(c, group[b if a == x else a]) for c, (a, b) in zip(classes, links)]
+        numbers = {key: i for i, key in enumerate(keys)}
+        classes = [numbers[key] for key in keys]
     lones = 0
     for a, b in links:
         near[a] ^= 1 << b

@@ -1,47 +1,6 @@
-// Links between any two units: all pairs, those that a number picks, or some by chance.
+// Links between two units by chance, across a drawing.
 use super::chance;
 use super::draw;
-
-fn all_with(pairs: &mut [u16], before: u16, lower: u16, last: u16) -> u16 {
-    let mut links = before;
-    let mut higher = lower;
-    while higher < last {
-        higher += 1;
-        links = draw::link(pairs, links, lower, higher);
-    }
-    links
-}
-
-// All pairs of units, by the lower and then the higher.
-pub(crate) fn all(pairs: &mut [u16], units: u16) -> u16 {
-    let mut links: u16 = 0;
-    let mut lower: u16 = 0;
-    while lower < units {
-        links = all_with(pairs, links, lower, units - 1);
-        lower += 1;
-    }
-    links
-}
-
-fn word_if(bit: u16, link: u16) -> u16 {
-    if bit == 1 { link } else { 0 }
-}
-
-// Keeps the links whose bits are 1, the first link having the lowest bit. Words past the last link kept are 0.
-pub(crate) fn picked(pairs: &mut [u16], links: u16, number: u16) -> u16 {
-    let mut kept: u16 = 0;
-    let mut rest = number;
-    let mut j: u16 = 0;
-    while j < links {
-        let link = slices::word(pairs, j as usize);
-        slices::put(pairs, j as usize, 0);
-        slices::put(pairs, kept as usize, word_if(rest % 2, link));
-        kept += rest % 2;
-        rest = rest / 2;
-        j += 1;
-    }
-    kept
-}
 
 fn linked(pairs: &[u16], links: u16, one: u16, other: u16) -> bool {
     let mut j: u16 = 0;
@@ -72,7 +31,14 @@ fn other(in_runs: bool, a: u16, c: u16) -> u16 {
 }
 
 // So many tries to link two units by chance, both of one run of sixteen where `in_runs` says so.
-pub(crate) fn chords(in_runs: bool, pairs: &mut [u16], before: u16, seed: u64, units: u16, tries: u16) -> u16 {
+pub(crate) fn chords(
+    in_runs: bool,
+    pairs: &mut [u16],
+    before: u16,
+    seed: u64,
+    units: u16,
+    tries: u16,
+) -> u16 {
     let mut links = before;
     let mut i: u16 = 0;
     while i < tries {

@@ -2,7 +2,6 @@
 use super::groups;
 use super::groups::NONE;
 use super::removal;
-use files::Writing;
 use libc::STDOUT_FILENO;
 use std::num::wrapping_add_u16;
 use std::num::wrapping_add_u64;
@@ -55,8 +54,8 @@ fn words_of(pairs: &[u16], count: u16, words: &mut [u16]) {
     }
 }
 
-// 1 where the library calls unit `v` a single point, 0 where not, 2 where it does not answer.
-fn single(s: Survey, v: u16) -> u16 {
+// Unit `v`, which the second survey calls a single point or not.
+fn unit_asked(s: Survey, v: u16, second: bool, counts: &mut [u64; 7]) {
     let answer = calls::unit(s, v);
     let reply = answer.reply;
     match reply {
@@ -66,13 +65,13 @@ fn single(s: Survey, v: u16) -> u16 {
             parent,
             place,
             single,
-        } => flag(single),
-        _ => 2,
+        } => seen(counts, SINGLES, single, single == second),
+        _ => seen(counts, SINGLES, false, false),
     }
 }
 
-// 1 where the library calls link `j` lone, 0 where not, 2 where it does not answer.
-fn lone(s: Survey, j: u16) -> u16 {
+// Link `j`, which the second survey calls lone or not and gives a label.
+fn link_asked(s: Survey, j: u16, second: bool, second_label: u16, counts: &mut [u64; 7]) {
     let answer = calls::link(s, j);
     let reply = answer.reply;
     match reply {
@@ -80,43 +79,42 @@ fn lone(s: Survey, j: u16) -> u16 {
             position,
             label,
             lone,
-        } => flag(lone),
-        _ => 2,
+        } => {
+            seen(counts, LONES, lone, lone == second);
+            seen(counts, LABELS, label == j, label == second_label);
+        }
+        _ => seen(counts, LABELS, false, false),
     }
 }
 
-// The library's label of link `j`.
-fn label(s: Survey, j: u16) -> u16 {
-    let answer = calls::link(s, j);
-    let reply = answer.reply;
-    match reply {
-        Reply::Link {
-            position,
-            label,
-            lone,
-        } => label,
-        _ => NONE,
-    }
-}
-
-fn units_asked(s: Survey, units: u16, pairs: &[u16; 1024], joins: u16, labels: &mut [u16; 1024], counts: &mut [u64; 7]) {
+fn units_asked(
+    s: Survey,
+    units: u16,
+    pairs: &[u16; 1024],
+    joins: u16,
+    labels: &mut [u16],
+    counts: &mut [u64; 7],
+) {
     let mut v: u16 = 0;
     while v < units {
-        let here = single(s, v);
-        let second = flag(removal::unit(pairs, joins, v, labels));
-        seen(counts, SINGLES, here == 1, here == second);
+        let single = removal::unit(pairs, joins, v, labels);
+        unit_asked(s, v, single, counts);
         v += 1;
     }
 }
 
-fn links_asked(s: Survey, links: u16, pairs: &[u16; 1024], joins: u16, labels: &[u16; 1024], counts: &mut [u64; 7]) {
+fn links_asked(
+    s: Survey,
+    links: u16,
+    pairs: &[u16; 1024],
+    joins: u16,
+    labels: &[u16],
+    counts: &mut [u64; 7],
+) {
     let mut j: u16 = 0;
     while j < links {
-        let here = lone(s, j);
-        let second = flag(removal::link(pairs, joins, j));
-        seen(counts, LONES, here == 1, here == second);
-        let name = label(s, j);
-        seen(counts, LABELS, name == j, name == slices::word(labels, j as usize));
+        let lone = removal::link(pairs, joins, j);
+        link_asked(s, j, lone, slices::word(labels, j as usize), counts);
         j += 1;
     }
 }
@@ -125,6 +123,7 @@ fn asked(s: Survey, units: u16, links: u16, pairs: &[u16; 1024], counts: &mut [u
     let mut whole = [0u16; 256];
     let mut labels = [0u16; 1024];
     let joins = groups::without(pairs, NONE, NONE, &mut whole);
+    groups::alone(&mut labels);
     units_asked(s, units, pairs, joins, &mut labels, counts);
     links_asked(s, links, pairs, joins, &labels, counts);
     add(counts, TABLES, 1);
@@ -132,20 +131,21 @@ fn asked(s: Survey, units: u16, links: u16, pairs: &[u16; 1024], counts: &mut [u
     add(counts, LINKS, links);
 }
 
-fn printed(file: &[u8], length: usize) {
-    if length <= file.len() {
-        io::write_all(STDOUT_FILENO, &file[..length]);
+// Prints the words of a table: those of its file, two for each link.
+fn shown(units: u16, words: &[u16]) {
+    io::write_all(STDOUT_FILENO, b"surveys differ, units and ends of links:");
+    said(units);
+    let mut i = 0;
+    while i < words.len() {
+        said(words[i]);
+        i += 1;
     }
+    io::write_all(STDOUT_FILENO, b"\n");
 }
 
-// Prints a table as a survey file.
-fn shown(units: u16, words: &[u16]) {
-    let mut file = [0u8; 13330];
-    let done = files::write(units, words, &mut file);
-    match done {
-        Writing::Written(characters) => printed(&file, characters as usize),
-        Writing::Refused(_) => printed(b"a table that is refused\n", 24),
-    }
+fn said(word: u16) {
+    io::write_all(STDOUT_FILENO, b" ");
+    io::print_decimal(STDOUT_FILENO, word as u64);
 }
 
 // The library's survey, made to its end, and the second survey. Where they differ the table is printed.
@@ -161,7 +161,14 @@ fn surveyed(units: u16, links: u16, words: &[u16], pairs: &[u16; 1024], counts: 
 }
 
 // The same with the first `end` words.
-fn first_words(units: u16, links: u16, end: usize, words: &[u16], pairs: &[u16; 1024], counts: &mut [u64; 7]) {
+fn first_words(
+    units: u16,
+    links: u16,
+    end: usize,
+    words: &[u16],
+    pairs: &[u16; 1024],
+    counts: &mut [u64; 7],
+) {
     if end <= words.len() {
         surveyed(units, links, &words[..end], pairs, counts);
     }

@@ -69,20 +69,39 @@ fn second(shape: u16, at: u16, v: u16) -> u16 {
 fn third(shape: u16, at: u16, v: u16, last: bool) -> u16 {
     match shape {
         RING => back_if(last && 2 <= at, v, at),
-        WHEEL => if 3 <= at { back_if(last, v, at - 1) } else { NONE },
+        WHEEL => if 3 <= at {
+            back_if(last, v, at - 1)
+        } else {
+            NONE
+        },
         _ => NONE,
     }
 }
 
 // Links unit `v`, `at` places into its part, to units before it.
-fn joined(shape: u16, pairs: &mut [u16], before: u16, seed: u64, at: u16, v: u16, last: bool) -> u16 {
+fn joined(
+    shape: u16,
+    pairs: &mut [u16],
+    before: u16,
+    seed: u64,
+    at: u16,
+    v: u16,
+    last: bool,
+) -> u16 {
     let one = link(pairs, before, first(shape, seed, at, v), v);
     let two = link(pairs, one, second(shape, at, v), v);
     link(pairs, two, third(shape, at, v, last), v)
 }
 
 // A part of the units from `from` on and below `to`.
-pub(crate) fn part(shape: u16, pairs: &mut [u16], before: u16, seed: u64, from: u16, to: u16) -> u16 {
+pub(crate) fn part(
+    shape: u16,
+    pairs: &mut [u16],
+    before: u16,
+    seed: u64,
+    from: u16,
+    to: u16,
+) -> u16 {
     let mut links = before;
     let mut v = from;
     while v < to {

@@ -9,6 +9,7 @@ mod removal;
 mod row;
 mod shapes;
 mod shuffle;
+mod small;
 
 use libc::STDOUT_FILENO;
 use std::num::wrapping_add_u64;
@@ -29,29 +30,20 @@ fn tables_of(kind: u16) -> u16 {
     }
 }
 
-// The table of `units` units whose pairs are the bits of `number`.
-fn small(units: u16, number: u16, counts: &mut [u64; 7]) {
-    let mut pairs = [0u16; 1024];
-    let all = across::all(&mut pairs, units);
-    let links = across::picked(&mut pairs, all, number);
-    compare::table(units, links, &pairs, counts);
-}
-
-// Table `turn` of a shape.
-fn large(shape: u16, turn: u16, counts: &mut [u64; 7]) {
-    let mut pairs = [0u16; 1024];
-    let seed = (shape as u64) * 65536 + (turn as u64) * 16 + 16;
-    let units = shapes::unit_count(shape, turn, seed);
-    let links = shapes::drawn(shape, &mut pairs, seed, units);
-    shuffle::shuffled(&mut pairs, units, links, seed);
-    compare::table(units, links, &pairs, counts);
-}
-
+// Draws and compares one table of a kind: the small one with that number, or the one of that turn.
 fn one(kind: u16, i: u16, counts: &mut [u64; 7]) {
+    let mut pairs = [0u16; 1024];
     if kind < SMALL {
-        small(kind + 1, i, counts);
+        let units = kind + 1;
+        let links = small::drawn(&mut pairs, units, i);
+        compare::table(units, links, &pairs, counts);
     } else {
-        large(kind - SMALL, i, counts);
+        let shape = kind - SMALL;
+        let seed = (shape as u64) * 65536 + (i as u64) * 16 + 16;
+        let units = shapes::unit_count(shape, i, seed);
+        let links = shapes::drawn(shape, &mut pairs, seed, units);
+        shuffle::shuffled(&mut pairs, units, links, seed);
+        compare::table(units, links, &pairs, counts);
     }
 }
 
@@ -90,7 +82,10 @@ fn line(kind: u16, totals: &mut [u64; 7]) {
 }
 
 fn main() {
-    io::write_all(STDOUT_FILENO, b"tables, units, links, single points, lone links, labels, differences:\n");
+    io::write_all(
+        STDOUT_FILENO,
+        b"tables, units, links, single points, lone links, labels, differences:\n",
+    );
     let mut totals = [0u64; 7];
     let mut kind: u16 = 0;
     while kind < KINDS {

@@ -1,47 +1,50 @@
-// The second survey: one unit or one link after the other is removed, and the groups that are left are counted. Without unit x the group that
-// it was in falls into as many groups as there are joins fewer; where those are two or more, two other units of it are parted.
-ghost use Prim.Native.Nat.{_<_};
+// The second survey: one unit or one link after the other is removed, and the groups that are left are looked at.
 use super::groups;
 use super::groups::NONE;
 
-// The group that holds what is left of a link without unit `x`: that of an end other than `x`.
-fn side(left: &[u16; 256], link: u16, x: u16) -> u16 {
-    if link / 256 == x { left[(link % 256) as usize] } else { left[(link / 256) as usize] }
-}
-
-// The first link that has the label of link `j` and lies on its side.
-fn first_alike(labels: &[u16; 1024], pairs: &[u16; 1024], left: &[u16; 256], x: u16, j: u16) -> u16
-    requires { ⌜ j < 1024 ⌝ }
-{
-    let label = labels[j as usize];
-    let here = side(left, pairs[j as usize], x);
-    let mut k = label;
-    while k < j {
-        if labels[k as usize] == label && side(left, pairs[k as usize], x) == here {
-            return k;
-        }
-        k += 1;
+// The other end of a link at unit `x`.
+fn other_end(link: u16, x: u16) -> u16 {
+    if link / 256 == link % 256 {
+        return NONE;
     }
-    j
+    if link / 256 == x {
+        return link % 256;
+    }
+    if link % 256 == x { link / 256 } else { NONE }
 }
 
-// Links of one label that lie on two sides get two labels. From the last link down: a link looks at the old labels of those before it.
-fn divide(labels: &mut [u16; 1024], pairs: &[u16; 1024], left: &[u16; 256], x: u16) {
-    let mut j: u16 = 1024;
-    while 0 < j {
-        j -= 1;
-        let first = first_alike(labels, pairs, left, x, j);
-        labels[j as usize] = first;
+// Link `j` has its place at unit `x`, in the group of its other end. It goes together with the first link there.
+fn meet(link: u16, j: u16, x: u16, left: &[u16], first: &mut [u16], labels: &mut [u16]) {
+    let end = other_end(link, x);
+    if end == NONE {
+        return;
+    }
+    let group = slices::word(left, end as usize) as usize;
+    let seen = slices::word(first, group);
+    if seen == NONE {
+        slices::put(first, group, j);
+        return;
+    }
+    groups::merge(labels, seen, j);
+}
+
+fn meet_all(pairs: &[u16; 1024], x: u16, left: &[u16], first: &mut [u16], labels: &mut [u16]) {
+    let mut j: u16 = 0;
+    while j < 1024 {
+        meet(pairs[j as usize], j, x, left, first, labels);
+        j += 1;
     }
 }
 
-// Removes unit `x`: whether it is a single point. The labels are divided by the sides.
-// A ring holds two links exactly when no unit's removal parts them: two routes from one to the other that share no unit make the ring, and
-// there are such routes unless one unit lies on every route. So labels that begin as 0 are right when every unit has been removed.
-pub(crate) fn unit(pairs: &[u16; 1024], joins: u16, x: u16, labels: &mut [u16; 1024]) -> bool {
+// Removes unit `x`. The group that it was in falls into as many groups as there are joins fewer: where those are two or more, two other units
+// that were linked up are parted, and it is a single point.
+// A ring holds two links that meet at `x` exactly when their other ends are linked up without `x`, and neighbours on a ring meet so. Labels that
+// begin each by itself are therefore right when every unit has been removed.
+pub(crate) fn unit(pairs: &[u16; 1024], joins: u16, x: u16, labels: &mut [u16]) -> bool {
     let mut left = [0u16; 256];
+    let mut first = [NONE; 256];
     let fewer = groups::without(pairs, x, NONE, &mut left);
-    divide(labels, pairs, &left, x);
+    meet_all(pairs, x, &left, &mut first, labels);
     fewer < joins && 1 < joins - fewer
 }
 

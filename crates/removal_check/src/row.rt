@@ -21,7 +21,11 @@ fn begins(way: u16, at: u16) -> u16 {
 
 // The unit before `at` to which the part is linked.
 fn hook(way: u16, seed: u64, at: u16) -> u16 {
-    if way == BY_LINK && 0 < at { chance::below(seed, at, at) } else { NONE }
+    if way == BY_LINK && 0 < at {
+        chance::below(seed, at, at)
+    } else {
+        NONE
+    }
 }
 
 // The end of the part at `at`.
@@ -33,13 +37,24 @@ fn end(whole: bool, seed: u64, at: u16, units: u16) -> u16
     if whole {
         return units;
     }
-    if units - at <= more { units } else { at + 1 + more }
+    if units - at <= more {
+        units
+    } else {
+        at + 1 + more
+    }
 }
 
 fn placed(shape: u16, pairs: &mut [u16], before: u16, seed: u64, at: u16, to: u16) -> u16 {
     let way = shapes::way(shape, chance::below(seed ^ 1, at, 3));
     let links = draw::link(pairs, before, hook(way, seed ^ 2, at), at);
-    draw::part(shapes::part(shape, chance::below(seed ^ 4, at, 9)), pairs, links, seed ^ 8, begins(way, at), to)
+    draw::part(
+        shapes::part(shape, chance::below(seed ^ 4, at, 9)),
+        pairs,
+        links,
+        seed ^ 8,
+        begins(way, at),
+        to,
+    )
 }
 
 // The parts of a table of the shape.

@@ -70,22 +70,31 @@ fn tries(shape: u16, units: u16) -> u16 {
 // The links of a table, before they are shuffled.
 pub(crate) fn drawn(shape: u16, pairs: &mut [u16], seed: u64, units: u16) -> u16 {
     let links = row::row(shape, pairs, seed, units);
-    across::chords(shape == FULL_IN_RUNS, pairs, links, seed ^ 2, units, tries(shape, units))
+    across::chords(
+        shape == FULL_IN_RUNS,
+        pairs,
+        links,
+        seed ^ 2,
+        units,
+        tries(shape, units),
+    )
+}
+
+fn most(shape: u16, turn: u16) -> u16 {
+    if turn % 4 != 0 {
+        return 46;
+    }
+    if shape == DENSE { 60 } else { 256 }
 }
 
 // The unit count of table `turn`: often small, sometimes up to the most there are, and that in the first one.
 pub(crate) fn unit_count(shape: u16, turn: u16, seed: u64) -> u16 {
-    if turn == 0 || FULL <= shape { most(shape) } else { at_least_six(chance::below(seed, 0, span(shape, turn))) }
-}
-
-fn most(shape: u16) -> u16 {
-    if shape == DENSE { 60 } else { 256 }
-}
-
-fn span(shape: u16, turn: u16) -> u16 {
-    if turn % 4 == 0 { most(shape) } else { 46 }
-}
-
-fn at_least_six(n: u16) -> u16 {
-    if n < 6 { 6 } else { n }
+    if FULL <= shape {
+        return 256;
+    }
+    if turn == 0 {
+        return most(shape, 0);
+    }
+    let chosen = chance::below(seed, 0, most(shape, turn));
+    if chosen < 6 { 6 } else { chosen }
 }

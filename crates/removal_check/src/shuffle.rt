@@ -28,7 +28,11 @@ fn renamed(link: u16, units: u16, choice: u16, shift: u16) -> u16 {
 }
 
 fn turned(link: u16, yes: bool) -> u16 {
-    if yes { draw::word(link % 256, link / 256) } else { link }
+    if yes {
+        draw::word(link % 256, link / 256)
+    } else {
+        link
+    }
 }
 
 // Link `i` changes places with itself or one before it.

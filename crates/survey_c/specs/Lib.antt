@@ -3,3 +3,7 @@ pub mod CopyLaws
 pub mod Laid
 pub mod Face
 pub mod FaceLaws
+pub mod Parts
+pub mod WordsBack
+pub mod SurveyBack
+pub mod Holds

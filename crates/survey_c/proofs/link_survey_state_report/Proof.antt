@@ -1,6 +1,5 @@
 -- By the length of the state, and then as the report answers.
 use borrow.Author.Needs.{needs}
-use Rattle.survey.specs.Calls.{reportAnswer}
 use Rattle.survey_c.specs.FaceLaws.{other-report, made-report}
 use Rattle.survey_c.proofs.link_survey_state_report.Statement.{statement}
 use Rattle.survey_c.proofs.link_survey_state_report.Tie as tie

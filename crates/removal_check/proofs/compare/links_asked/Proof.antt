@@ -13,20 +13,8 @@ abbrev μ-loop : tie.MeasureT-loop
 loop-holds : tie.Need-loop-holds Inv-loop μ-loop
 loop-holds c = search needs
 
-lone-requires : tie.Need-lone-requires Inv-loop μ-loop
-lone-requires c κs = tt
-
 link-requires : tie.Need-link-requires Inv-loop μ-loop
 link-requires c κs = tt
-
-flag-requires : tie.Need-flag-requires Inv-loop μ-loop
-flag-requires c κs = tt
-
-seen-requires : tie.Need-seen-requires Inv-loop μ-loop
-seen-requires c κs = tt
-
-label-requires : tie.Need-label-requires Inv-loop μ-loop
-label-requires c κs = tt
 
 cast-word : tie.Need-cast-word Inv-loop μ-loop
 cast-word c = search needs
@@ -34,8 +22,8 @@ cast-word c = search needs
 word-requires : tie.Need-word-requires Inv-loop μ-loop
 word-requires c κs = tt
 
-seen-requires-2 : tie.Need-seen-requires-2 Inv-loop μ-loop
-seen-requires-2 c κs = tt
+link-asked-requires : tie.Need-link-asked-requires Inv-loop μ-loop
+link-asked-requires c κs = tt
 
 add-j : tie.Need-add-j Inv-loop μ-loop
 add-j c = search needs
@@ -56,14 +44,10 @@ links-asked-spec =
     Inv-loop
     μ-loop
     loop-holds
-    lone-requires
     link-requires
-    flag-requires
-    seen-requires
-    label-requires
     cast-word
     word-requires
-    seen-requires-2
+    link-asked-requires
     add-j
     loop-less
     loop-again

@@ -1,11 +1,13 @@
 -- A unit a turn.
 use Prim.Native.Nat.{_≤_, _-_}
+use mathlib.Core.Path.{_≡_}
+use lib.ListN.{length}
 use borrow.Author.Needs.{needs}
 use Rattle.removal_check.proofs.compare.units_asked.Statement.{statement}
 use Rattle.removal_check.proofs.compare.units_asked.Tie as tie
 
 abbrev Inv-loop : tie.InvT-loop
-Inv-loop s units pairs joins labels₀ counts₀ v₀ labels counts v = v ≤ units
+Inv-loop s units pairs joins labels₀ counts₀ v₀ labels counts v = (v ≤ units) × (length labels ≡ length labels₀)
 
 abbrev μ-loop : tie.MeasureT-loop
 μ-loop s units pairs joins labels₀ counts₀ v₀ labels counts v = units - v
@@ -13,17 +15,11 @@ abbrev μ-loop : tie.MeasureT-loop
 loop-holds : tie.Need-loop-holds Inv-loop μ-loop
 loop-holds c = search needs
 
-single-requires : tie.Need-single-requires Inv-loop μ-loop
-single-requires c κs = tt
-
 unit-requires : tie.Need-unit-requires Inv-loop μ-loop
 unit-requires c κs = tt
 
-flag-requires : tie.Need-flag-requires Inv-loop μ-loop
-flag-requires c κs = tt
-
-seen-requires : tie.Need-seen-requires Inv-loop μ-loop
-seen-requires c κs = tt
+unit-asked-requires : tie.Need-unit-asked-requires Inv-loop μ-loop
+unit-asked-requires c κs = tt
 
 add-v : tie.Need-add-v Inv-loop μ-loop
 add-v c = search needs
@@ -33,6 +29,9 @@ loop-less c = search needs
 
 loop-again : tie.Need-loop-again Inv-loop μ-loop
 loop-again c = search needs
+
+same-length : tie.Need-same-length Inv-loop μ-loop
+same-length c = search needs
 
 returns : tie.Need-returns Inv-loop μ-loop
 returns c = tt
@@ -44,11 +43,10 @@ units-asked-spec =
     Inv-loop
     μ-loop
     loop-holds
-    single-requires
     unit-requires
-    flag-requires
-    seen-requires
+    unit-asked-requires
     add-v
     loop-less
     loop-again
+    same-length
     returns)

@@ -1,35 +1,37 @@
--- A unit a turn.
+-- A mark a turn.
 use Prim.Native.Nat.{_≤_, _-_}
+use mathlib.Core.Path.{_≡_}
+use lib.ListN.{length}
 use borrow.Author.Needs.{needs}
 use Rattle.removal_check.proofs.groups.alone.Statement.{statement}
 use Rattle.removal_check.proofs.groups.alone.Tie as tie
 
 abbrev Inv-loop : tie.InvT-loop
-Inv-loop marks₀ v₀ marks v = v ≤ 256
+Inv-loop marks₀ i₀ marks i = (i ≤ 1024) × (length marks ≡ length marks₀)
 
 abbrev μ-loop : tie.MeasureT-loop
-μ-loop marks₀ v₀ marks v = 256 - v
+μ-loop marks₀ i₀ marks i = 1024 - i
 
 loop-holds : tie.Need-loop-holds Inv-loop μ-loop
 loop-holds c = search needs
 
-cast-marks : tie.Need-cast-marks Inv-loop μ-loop
-cast-marks c = search needs
+cast-put : tie.Need-cast-put Inv-loop μ-loop
+cast-put c = search needs
 
-mul-marks : tie.Need-mul-marks Inv-loop μ-loop
-mul-marks c = search needs
+put-requires : tie.Need-put-requires Inv-loop μ-loop
+put-requires c κs = tt
 
-element-write-marks : tie.Need-element-write-marks Inv-loop μ-loop
-element-write-marks c = search needs
-
-add-v : tie.Need-add-v Inv-loop μ-loop
-add-v c = search needs
+add-i : tie.Need-add-i Inv-loop μ-loop
+add-i c = search needs
 
 loop-less : tie.Need-loop-less Inv-loop μ-loop
 loop-less c = search needs
 
 loop-again : tie.Need-loop-again Inv-loop μ-loop
 loop-again c = search needs
+
+same-length : tie.Need-same-length Inv-loop μ-loop
+same-length c = search needs
 
 returns : tie.Need-returns Inv-loop μ-loop
 returns c = tt
@@ -41,10 +43,10 @@ alone-spec =
     Inv-loop
     μ-loop
     loop-holds
-    cast-marks
-    mul-marks
-    element-write-marks
-    add-v
+    cast-put
+    put-requires
+    add-i
     loop-less
     loop-again
+    same-length
     returns)

@@ -1,11 +1,13 @@
 -- A link a turn, and at most one join.
 use Prim.Native.Nat.{_≤_, _-_}
+use mathlib.Core.Path.{_≡_}
+use lib.ListN.{length}
 use borrow.Author.Needs.{needs}
 use Rattle.removal_check.proofs.groups.without.Statement.{statement}
 use Rattle.removal_check.proofs.groups.without.Tie as tie
 
 abbrev Inv-loop : tie.InvT-loop
-Inv-loop pairs x k marks₀ joins₀ j₀ marks joins j = (j ≤ 1024) × (joins ≤ j)
+Inv-loop pairs x k marks₀ joins₀ j₀ marks joins j = (j ≤ 1024) × (joins ≤ j) × (length marks ≡ length marks₀)
 
 abbrev μ-loop : tie.MeasureT-loop
 μ-loop pairs x k marks₀ joins₀ j₀ marks joins j = 1024 - j
@@ -40,6 +42,9 @@ loop-less c = search needs
 loop-again : tie.Need-loop-again Inv-loop μ-loop
 loop-again c = search needs
 
+same-length : tie.Need-same-length Inv-loop μ-loop
+same-length c = search needs
+
 returns : tie.Need-returns Inv-loop μ-loop
 returns c = tt
 
@@ -59,4 +64,5 @@ without-spec =
     add-j
     loop-less
     loop-again
+    same-length
     returns)

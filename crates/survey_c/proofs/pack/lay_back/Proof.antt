@@ -1,6 +1,3 @@
-use mathlib.Core.Path.{_≡_}
-use native.Mathlib.Omega.{arith}
-use lib.ListN.{length}
 use borrow.Author.Needs.{needs}
 use Rattle.survey_c.specs.Layout.{backWords}
 use Rattle.survey_c.specs.Laid.{laid-then}
