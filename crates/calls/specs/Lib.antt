@@ -1,3 +1,4 @@
 pub mod ReportWritten
 pub mod ReportCalled
 pub mod AskLaws
+pub mod Flags

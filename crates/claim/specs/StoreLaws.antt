@@ -1,14 +1,11 @@
--- Words laid down one by one, and a flag as a word.
+-- Words laid down one by one.
 use mathlib.Core.Path.{_≡_, refl, sym, ap, _∙_}
-use mathlib.Core.Bool.{Bool, true, false}
 use mathlib.Core.List.{List, [], _∷_}
 use Prim.Native.Nat.{ℕ, zero, suc, _+_, _≤_, _<_}
 use native.Mathlib.Nat.{not-suc-le-zero}
 use native.Mathlib.Omega.{arith}
 use lib.ListN.{length, getD, set, drop, drop-of-length-le}
 use lib.Seq.{sets}
-use mir.Val.{boolByte}
-use Rattle.survey.specs.Report.{flag}
 
 stored-next : (l ws : List ℕ) (i k : ℕ) → k < length ws → sets l i (drop k ws) ≡ sets (set l i (getD ws k 0)) (suc i) (drop (suc k) ws)
 stored-next l [] i k h = absurd (not-suc-le-zero h)
@@ -29,8 +26,3 @@ store-end l ws at k h = rw (drop-of-length-le ws {i = k} h) refl
 
 pub store-begin : (l ws : List ℕ) (at : ℕ) → sets l at ws ≡ sets l (at + 0) (drop 0 ws)
 store-begin l ws at = let i : at ≡ at + 0 = omega arith in rw (sym i) refl
-
--- what a cast makes of a flag
-pub byte-flag : (b : Bool) → boolByte b ≡ flag b
-byte-flag true = refl
-byte-flag false = refl

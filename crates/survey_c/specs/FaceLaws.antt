@@ -7,7 +7,6 @@ use native.Mathlib.Omega.{arith}
 use lib.Dec.{eqb}
 use lib.ListN.{length}
 use borrow.Author.Tests.{eq-eqb, ne-eqb, lt-ltb, le-ltb}
-use mir.Val.{boolByte}
 use Rattle.table.specs.Refusals.{written}
 use Rattle.survey.specs.declared.state.Survey.{Survey}
 use Rattle.survey.specs.declared.reply.Answer.{Answer}
@@ -15,7 +14,7 @@ use Rattle.survey.specs.declared.reply.Reply.{Reply}
 use Rattle.survey.specs.declared.reply.Reply.the-variants.{Refused, Made, Status, Unit, Link, Written}
 use Rattle.survey.specs.Step.{countdown}
 use Rattle.survey.specs.Run.{ran}
-use Rattle.survey.specs.Report.{flag, unitColor, unitParent, unitPlace, unitSingle, linkLabel, linkLone}
+use Rattle.survey.specs.Report.{unitColor, unitParent, unitPlace, unitSingle, linkLabel, linkLone}
 use Rattle.survey.specs.Calls.{numberOf, valuesOf, answered, roundRefusal, runAnswer, statusRefusal, statusAnswer, unitRefusal, unitAnswer, linkRefusal, linkAnswer, reportAnswer, reported}
 use Rattle.survey_c.specs.Layout.{STATE-WORDS, surveyOf, wordsOf}
 use Rattle.survey_c.specs.Laid.{laid}
@@ -148,8 +147,3 @@ link-in-words j s = answered-in-words (linkRefusal j s) s s (Link j (linkLabel s
 -- a number of characters is left out
 pub not-words : (reply : Reply) (k : ℕ) → reply ≡ Written k → inWords reply ≡ true → ⊥
 not-words reply k e h = true≢false (sym h ∙ ap inWords e)
-
--- what a cast makes of a flag
-pub byte-flag : (b : Bool) → boolByte b ≡ flag b
-byte-flag true = refl
-byte-flag false = refl

@@ -1,7 +1,7 @@
 -- By the reply's case.
 use mathlib.Core.Path.{refl}
 use borrow.Author.Needs.{needs}
-use Rattle.claim.specs.StoreLaws.{byte-flag}
+use Rattle.calls.specs.Flags.{byte-flag}
 use Rattle.claim.proofs.replies.eight.Statement.{statement}
 use Rattle.claim.proofs.replies.eight.Tie as tie
 

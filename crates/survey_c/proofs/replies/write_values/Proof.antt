@@ -1,6 +1,7 @@
 -- By the case of the reply.
 use borrow.Author.Needs.{needs}
-use Rattle.survey_c.specs.FaceLaws.{byte-flag, not-words}
+use Rattle.calls.specs.Flags.{byte-flag}
+use Rattle.survey_c.specs.FaceLaws.{not-words}
 use Rattle.survey_c.proofs.replies.write_values.Statement.{statement}
 use Rattle.survey_c.proofs.replies.write_values.Tie as tie
 
