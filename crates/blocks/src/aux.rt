@@ -1,13 +1,14 @@
 // Stage 8: the edges of the auxiliary graph. Stage 9: its components, by stage 1's rule.
+use super::silent;
 use stages::components;
 use values::arcs;
 use values::tables;
 ghost use mathlib.Core.Path.{_≡_};
-ghost use Prim.Native.Nat.{_+_};
+ghost use Prim.Native.Nat.{_+_, _≤_};
 ghost use lib.Dec.{leb};
 ghost use Rattle.lists.specs.Tables.{over};
 ghost use Rattle.rules.specs.Aux.{linkJoin, linkJoinsRound, joinsParent, parentJoin, parentJoinsRound, joined, auxRound, auxEnds};
-ghost use Rattle.rules.specs.AuxLaws.{overLinks, joins, joinsParents, rooted};
+ghost use Rattle.rules.specs.AuxLaws.{overLinks, joins, joinsParents};
 
 const ABSENT: u16 = 65535;
 
@@ -31,9 +32,10 @@ pub fn link_joins_round<'a>(
 ) -> [u16; 1024]
     ensures { λ r. ⌜ r ≡ linkJoinsRound links (now (ends .entry)) (now (parent .entry)) marks ⌝ }
 {
+    let count = values::least_of(links, 1024);
     let mut new = marks;
     let mut j = 0;
-    while j < links {
+    while j < count {
         let x = link_join(ends, parent, j);
         tables::store(&mut new, j, x);
         j += 1;
@@ -94,9 +96,10 @@ pub fn parent_joins_round<'a>(
 ) -> [u16; 256]
     ensures { λ r. ⌜ r ≡ parentJoinsRound units (now (parent .entry)) (now (nd .entry)) (now (pre .entry)) (now (low .entry)) (now (high .entry)) marks ⌝ }
 {
+    let count = values::least_of(units, 256);
     let mut new = marks;
     let mut u = 0;
-    while u < units {
+    while u < count {
         let x = parent_join(parent, nd, pre, low, high, u);
         tables::store(&mut new, u, x);
         u += 1;
@@ -171,18 +174,51 @@ fn over_parents<'a>(
     new
 }
 
-// Roots are absent.
-fn without_roots(units: u16, parent: &[u16], t: [u16; 256]) -> [u16; 256]
-    ensures { λ r. ⌜ r ≡ over units (rooted (now (parent .entry)) t) t ⌝ }
+// A round of what the units say, for every table.
+fn tested<'a>(
+    units: u16,
+    links: u16,
+    ends: &'a [u16],
+    parent: &'a [u16],
+    linked: &'a [u16],
+    upward: &'a [u16],
+    value: [u16; 256],
+) -> [u16; 256]
+    ensures { λ r. ⌜ r ≡ auxRound units links 1 (now (ends .entry)) (now (parent .entry)) (now (linked .entry)) (now (upward .entry)) value ⌝ }
 {
-    let mut new = t;
-    let mut v = 0;
-    while v < units {
-        let x = values::choose(tables::at(parent, v) == ABSENT, ABSENT, tables::at(&t, v));
-        tables::store(&mut new, v, x);
-        v += 1;
+    let heard = over_links(units, links, ends, parent, linked, value);
+    let all = over_parents(units, parent, upward, &value, heard);
+    silent::without_roots(units, parent, all)
+}
+
+// The same, of at most 256 units: without a test for roots where all heads have entries, as in every state of a survey.
+fn heeded<'a>(
+    units: u16,
+    links: u16,
+    ends: &'a [u16],
+    parent: &'a [u16],
+    linked: &'a [u16],
+    upward: &'a [u16],
+    value: [u16; 256],
+) -> [u16; 256]
+    requires { ⌜ units ≤ 256 ⌝ }
+    ensures { λ r. ⌜ r ≡ auxRound units links 1 (now (ends .entry)) (now (parent .entry)) (now (linked .entry)) (now (upward .entry)) value ⌝ }
+{
+    let mut heads = silent::heads(units, parent, upward, value);
+    if silent::all_within(units, &heads) {
+        silent::round(
+            units,
+            links,
+            ends,
+            parent,
+            linked,
+            upward,
+            &mut heads,
+            value,
+        )
+    } else {
+        tested(units, links, ends, parent, linked, upward, value)
     }
-    new
 }
 
 // Stage 9: the classes after a round.
@@ -199,9 +235,11 @@ pub fn aux_round<'a>(
     ensures { λ r. ⌜ r ≡ auxRound units links made (now (ends .entry)) (now (parent .entry)) (now (linked .entry)) (now (upward .entry)) color ⌝ }
 {
     let value = components::said(units, made, color);
-    let heard = over_links(units, links, ends, parent, linked, value);
-    let all = over_parents(units, parent, upward, &value, heard);
-    without_roots(units, parent, all)
+    if units <= 256 {
+        heeded(units, links, ends, parent, linked, upward, value)
+    } else {
+        tested(units, links, ends, parent, linked, upward, value)
+    }
 }
 
 // Whether stage 9 ends: with the first later round that changes nothing.

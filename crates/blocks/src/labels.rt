@@ -37,9 +37,10 @@ pub fn class_round<'a>(
 ) -> [u16; 1024]
     ensures { λ r. ⌜ r ≡ classRound links (now (ends .entry)) (now (parent .entry)) (now (pre .entry)) (now (color .entry)) class ⌝ }
 {
+    let count = values::least_of(links, 1024);
     let mut new = class;
     let mut j = 0;
-    while j < links {
+    while j < count {
         let x = class_of(ends, parent, pre, color, j);
         tables::store(&mut new, j, x);
         j += 1;
@@ -53,9 +54,10 @@ pub fn label_round(links: u16, class: &[u16], label: [u16; 1024]) -> [u16; 1024]
 {
     let first = firsts::firsts(links, class);
     let absent = firsts::first_at(links, class, ABSENT);
+    let count = values::least_of(links, 1024);
     let mut new = label;
     let mut j = 0;
-    while j < links {
+    while j < count {
         let x = firsts::first_by(links, class, &first, absent, tables::at(class, j));
         tables::store(&mut new, j, x);
         j += 1;

@@ -1,13 +1,13 @@
 -- The refusals of the questions and of the report by their tests, in order, and the answers of the file calls by what `files` replies.
 use mathlib.Core.Path.{_≡_, refl, sym}
-use mathlib.Core.Bool.{Bool, true, false}
+use mathlib.Core.Bool.{Bool, true, false, not}
 use mathlib.Core.Logic.{_⊎_, inl, inr}
-use mathlib.Core.List.{List}
-use Prim.Native.Nat.{ℕ, _≤_, _<_}
+use mathlib.Core.List.{List, [], _∷_}
+use Prim.Native.Nat.{ℕ}
 use lib.Dec.{eqb, ltb}
-use borrow.Author.Tests.{eq-eqb, ne-eqb, lt-ltb, le-ltb}
+use borrow.Author.Tests.{eq-eqb, ne-eqb}
 use Rattle.lists.specs.Tests.{either}
-use Rattle.table.specs.Refusals.{written}
+use Rattle.table.specs.Refusals.{firstOf, written}
 use Rattle.files.specs.File.{linesOf, readRefusal, readReply, writeRefusal, writeReply}
 use Rattle.files.specs.declared.Reading.{Reading}
 use Rattle.files.specs.declared.Reading.the-variants as reading
@@ -41,24 +41,12 @@ module _ (s : Survey) where
   unfolding questionRefusal
   question-missing exists w e x = rw (w, eq-eqb (s .clock .stage) FINISHED e, x) refl
 
-  -- ---- report
+  -- ---- report, from whether the state is well formed
 
-  module _ (places : ℕ) where
-    pub report-malformed : wellFormed s ≡ false → 10 ≡ reportRefusal s places
-    unfolding reportRefusal
-    report-malformed w = rw w refl
-
-    pub report-early : wellFormed s ≡ true → (s .clock .stage ≡ FINISHED → ⊥) → 12 ≡ reportRefusal s places
-    unfolding reportRefusal
-    report-early w h = rw (w, ne-eqb (s .clock .stage) FINISHED h) refl
-
-    pub report-short : wellFormed s ≡ true → s .clock .stage ≡ FINISHED → places < reportLength (units s) (links s) → 14 ≡ reportRefusal s places
-    unfolding reportRefusal
-    report-short w e l = rw (w, eq-eqb (s .clock .stage) FINISHED e, lt-ltb places (reportLength (units s) (links s)) l) refl
-
-    pub report-none : wellFormed s ≡ true → s .clock .stage ≡ FINISHED → reportLength (units s) (links s) ≤ places → 0 ≡ reportRefusal s places
-    unfolding reportRefusal
-    report-none w e l = rw (w, eq-eqb (s .clock .stage) FINISHED e, le-ltb places (reportLength (units s) (links s)) l) refl
+  pub report-told : (places : ℕ) (well : Bool) (k : ℕ) → well ≡ wellFormed s
+      → k ≡ firstOf ((10, not well) ∷ (12, not (finished s)) ∷ (14, ltb places (reportLength (units s) (links s))) ∷ []) → k ≡ reportRefusal s places
+  unfolding reportRefusal
+  report-told places well k e told = rw (told, e)
 
 -- a refusal writes nothing
 pub written-refused : (k : ℕ) (l out : List ℕ) → (k ≡ 0 → ⊥) → out ≡ written k l out

@@ -3,7 +3,7 @@ use mathlib.Core.Path.{_≡_, refl, ap, _∙_}
 use mathlib.Core.List.{List, _∷_, _++_}
 use Prim.Native.Nat.{ℕ, _+_, _*_, _≤_, _<_}
 use native.Mathlib.Omega.{arith}
-use lib.ListN.{length, drop, length-append}
+use lib.ListN.{length, drop, length-append, length-drop}
 use borrow.Author.Tests.{le-leb, lt-leb}
 use Rattle.lists.specs.Lent.{lent, back, back-next}
 use Rattle.lists.specs.Tables.{gathered}
@@ -12,6 +12,7 @@ use Rattle.lists.specs.Folds.{count}
 use Rattle.table.specs.Table.{maxUnits, maxLinks}
 use Rattle.frames.specs.Frame.{wordBytes, lineOf, lineOver}
 use Rattle.frames.specs.FrameRests.{lineOver-fits, line-next}
+use Rattle.rules.specs.Labels.{single, lone}
 use Rattle.answers.specs.Flags.{flagTable, flag-at}
 use Rattle.answers.specs.Lines.{unitBody, linkBody, linesOf, linesOver, linesOver-fits}
 use Rattle.survey.specs.declared.state.Survey.{Survey}
@@ -43,6 +44,13 @@ module _ (s : Survey) (out : List ℕ) where
 
 -- ---- the lines of units and of links, from the tables and the flags
 
+-- a slice after the lines of all units, and after those of all links
+abbrev pub unitLines : ℕ → ℕ → List ℕ → List ℕ → List ℕ → List ℕ → List ℕ → List ℕ → List ℕ
+unitLines n m ends label color parent place out = linesOver 23 n (unitBody color parent place (flagTable maxUnits n (single m ends label))) out
+
+abbrev pub linkLines : ℕ → List ℕ → List ℕ → List ℕ
+linkLines m label out = linesOver 15 m (linkBody label (flagTable maxLinks m (lone m label))) out
+
 abbrev pub singleFlags : Survey → List ℕ
 singleFlags s = flagTable maxUnits (units s) (unitSingle s)
 
@@ -59,7 +67,7 @@ module _ (s : Survey) (out : List ℕ) (n : units s ≤ maxUnits) (fits : 23 * u
       gathered-cong (units s) (λ (v : ℕ). lineOf (unitSays v)) (unitLine s)
       (λ (v : ℕ) (l : v < units s). rw (flag-at maxUnits (units s) (unitSingle s) v l (omega arith)))
 
-  pub units-laid : linesOver 23 (units s) (unitBody (s .components .color) (s .tree .parent) (s .order .pre) (singleFlags s)) out
+  units-laid : linesOver 23 (units s) (unitBody (s .components .color) (s .tree .parent) (s .order .pre) (singleFlags s)) out
       ≡ gathered (units s) (unitLine s) ++ drop (23 * units s) out
   units-laid = linesOver-fits 23 (units s) unitSays out fits ∙ ap (λ (l : List ℕ). l ++ drop (23 * units s) out) units-same
 
@@ -73,7 +81,7 @@ module _ (s : Survey) (out : List ℕ) (m : links s ≤ maxLinks) (fits : 15 * l
       gathered-cong (links s) (λ (j : ℕ). lineOf (linkSays j)) (linkLine s)
       (λ (j : ℕ) (l : j < links s). rw (flag-at maxLinks (links s) (linkLone s) j l (omega arith)))
 
-  pub links-laid : linesOver 15 (links s) (linkBody (s .labels .label) (loneFlags s)) out ≡ gathered (links s) (linkLine s) ++ drop (15 * links s) out
+  links-laid : linesOver 15 (links s) (linkBody (s .labels .label) (loneFlags s)) out ≡ gathered (links s) (linkLine s) ++ drop (15 * links s) out
   links-laid = linesOver-fits 15 (links s) linkSays out fits ∙ ap (λ (l : List ℕ). l ++ drop (15 * links s) out) links-same
 
 -- ---- the parts one after the other
@@ -90,17 +98,29 @@ unitEnd s = 13 + 23 * units s
 abbrev pub linkEnd : Survey → ℕ
 linkEnd s = unitEnd s + 15 * links s
 
--- a slice whose rest from a place on is overwritten by a part
-abbrev pub laidAt : ℕ → List ℕ → ℕ → List ℕ → List ℕ
-laidAt at part long xs = back at xs (part ++ drop long (lent at xs))
+-- a slice whose rest from a place on went through a part
+abbrev pub over-rest : ℕ → (List ℕ → List ℕ) → List ℕ → List ℕ
+over-rest at f xs = back at xs (f (lent at xs))
 
--- the first line, the units and the links laid down
-abbrev pub linksDown : Survey → List ℕ → List ℕ
-linksDown s out =
-    laidAt (unitEnd s) (gathered (links s) (linkLine s)) (15 * links s)
-    (laidAt 13 (gathered (units s) (unitLine s)) (23 * units s) (lineOver (headSays s) out))
+-- the four parts, of n units and m links, after r rounds and q requests, each laid down over the rest past those before it
+unfoldable pub partsDown : ℕ → ℕ → ℕ → ℕ → List ℕ → List ℕ → List ℕ → List ℕ → List ℕ → List ℕ → List ℕ
+partsDown n m r q ends label color parent place out =
+    over-rest (13 + 23 * n + 15 * m) (lineOver (0x1F ∷ wordBytes (count n (single m ends label)) ++ wordBytes (count m (lone m label))))
+    (over-rest (13 + 23 * n) (linkLines m label)
+    (over-rest 13 (unitLines n m ends label color parent place) (lineOver (0x11 ∷ wordBytes r ++ wordBytes q) out)))
 
-module _ (s : Survey) (out : List ℕ) (fits : reportLength (units s) (links s) ≤ length out) where
+-- as the calls leave them: z after the first line, u, l and t what the other parts make of the rest that they are lent
+pub parts-down : (n m r q : ℕ) (ends label color parent place out z u l t : List ℕ) (singles lones : ℕ)
+    → z ≡ lineOver (0x11 ∷ wordBytes r ++ wordBytes q) out
+    → u ≡ unitLines n m ends label color parent place (lent 13 z)
+    → l ≡ linkLines m label (lent (13 + 23 * n) (back 13 z u))
+    → t ≡ lineOver (0x1F ∷ wordBytes singles ++ wordBytes lones) (lent (13 + 23 * n + 15 * m) (back (13 + 23 * n) (back 13 z u) l))
+    → singles ≡ count n (single m ends label) → lones ≡ count m (lone m label)
+    → back (13 + 23 * n + 15 * m) (back (13 + 23 * n) (back 13 z u) l) t ≡ partsDown n m r q ends label color parent place out
+unfolding partsDown
+parts-down n m r q ends label color parent place out z u l t singles lones ez eu el et es eo = rw (et, es, eo, el, eu, ez)
+
+module _ (s : Survey) (out : List ℕ) (n : units s ≤ maxUnits) (m : links s ≤ maxLinks) (fits : reportLength (units s) (links s) ≤ length out) where
   abbrev unitPart : List ℕ
   unitPart = gathered (units s) (unitLine s)
 
@@ -111,16 +131,20 @@ module _ (s : Survey) (out : List ℕ) (fits : reportLength (units s) (links s) 
   unfolding headLine
   after-head = lineOver-fits (headSays s) out (omega arith)
 
-  after-units : laidAt 13 unitPart (23 * units s) (headLine s ++ drop 13 out) ≡ (headLine s ++ unitPart) ++ drop (unitEnd s) out
-  after-units = back-next (λ (r : List ℕ). unitPart ++ drop (23 * units s) r) unitPart (headLine s) out 13 (23 * units s) (length-head s) refl
+  after-units : over-rest 13 (unitLines (units s) (links s) (s .table .ends) (s .labels .label) (s .components .color) (s .tree .parent) (s .order .pre)) (headLine s ++ drop 13 out)
+      ≡ (headLine s ++ unitPart) ++ drop (unitEnd s) out
+  after-units =
+      back-next (unitLines (units s) (links s) (s .table .ends) (s .labels .label) (s .components .color) (s .tree .parent) (s .order .pre)) unitPart
+      (headLine s) out 13 (23 * units s) (length-head s) (units-laid s (drop 13 out) n (omega (arith, length-drop 13 out)))
 
   units-end : length (headLine s ++ unitPart) ≡ unitEnd s
   units-end = length-append (headLine s) unitPart ∙ omega (arith, length-head s, units-long s)
 
-  after-links : laidAt (unitEnd s) linkPart (15 * links s) ((headLine s ++ unitPart) ++ drop (unitEnd s) out)
+  after-links : over-rest (unitEnd s) (linkLines (links s) (s .labels .label)) ((headLine s ++ unitPart) ++ drop (unitEnd s) out)
       ≡ ((headLine s ++ unitPart) ++ linkPart) ++ drop (linkEnd s) out
   after-links =
-      back-next (λ (r : List ℕ). linkPart ++ drop (15 * links s) r) linkPart (headLine s ++ unitPart) out (unitEnd s) (15 * links s) units-end refl
+      back-next (linkLines (links s) (s .labels .label)) linkPart (headLine s ++ unitPart) out (unitEnd s) (15 * links s) units-end
+      (links-laid s (drop (unitEnd s) out) m (omega (arith, length-drop (unitEnd s) out)))
 
   links-end : length ((headLine s ++ unitPart) ++ linkPart) ≡ linkEnd s
   links-end = length-append (headLine s ++ unitPart) linkPart ∙ omega (arith, units-end, links-long s)
@@ -133,6 +157,7 @@ module _ (s : Survey) (out : List ℕ) (fits : reportLength (units s) (links s) 
       let e : linkEnd s + 13 ≡ reportLength (units s) (links s) = omega arith in
       rw (← e) (line-next (tailSays s) ((headLine s ++ unitPart) ++ linkPart) out (linkEnd s) links-end (omega arith))
 
-  pub report-laid : back (linkEnd s) (linksDown s out) (lineOver (tailSays s) (lent (linkEnd s) (linksDown s out)))
+  pub report-laid : partsDown (units s) (links s) (s .clock .rounds) (s .clock .requests) (s .table .ends) (s .labels .label) (s .components .color) (s .tree .parent) (s .order .pre) out
       ≡ report s ++ drop (reportLength (units s) (links s)) out
+  unfolding partsDown
   report-laid = rw (after-head, after-units, after-links) after-tail

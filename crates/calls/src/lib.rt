@@ -1,9 +1,14 @@
 // The calls that ask: questions to a finished survey, its report, and files read and written. Each hands the state back beside its answer; a
 // refusal gives only the number, and nothing is written.
 ghost use mathlib.Core.Path.{_≡_};
+ghost use mathlib.Core.Bool.{not};
+ghost use mathlib.Core.List.{[], _∷_};
+ghost use lib.Dec.{eqb, ltb};
 ghost use lib.ListN.{length};
+ghost use Rattle.table.specs.Refusals.{firstOf};
 ghost use Rattle.files.specs.File.{readWords, writtenFile};
-ghost use Rattle.survey.specs.Calls.{questionRefusal, unitAnswer, linkAnswer, reportRefusal, reportAnswer, reported, readAnswer, writeAnswer};
+ghost use Rattle.survey.specs.Report.{reportLength};
+ghost use Rattle.survey.specs.Calls.{questionRefusal, unitAnswer, linkAnswer, reportAnswer, reported, readAnswer, writeAnswer};
 use files::Reading;
 use files::Writing;
 use survey::Answer;
@@ -68,7 +73,15 @@ pub fn report(survey: Survey, out: &mut [u8]) -> Answer
     ensures reply { λ r. ⌜ r ≡ reportAnswer (length (now (out .entry))) survey ⌝ }
     ensures lent { λ _. ⌜ now (out .exit) ≡ reported survey (now (out .entry)) ⌝ }
 {
-    let refused = report_refusal(survey, out.len());
+    let units = survey.table.units;
+    let links = survey.table.links;
+    let refused = report_refusal(
+        survey.well_formed(),
+        survey.clock.stage,
+        units,
+        links,
+        out.len(),
+    );
     if refused != 0 {
         return Answer {
             survey,
@@ -78,23 +91,21 @@ pub fn report(survey: Survey, out: &mut [u8]) -> Answer
     lines::write(survey, out);
     Answer {
         survey,
-        reply: Reply::Written(
-            26 + 23 * (survey.table.units as u32) + 15 * (survey.table.links as u32),
-        ),
+        reply: Reply::Written(26 + 23 * (units as u32) + 15 * (links as u32)),
     }
 }
 
-// The number of the first cause among 10, 12, 14.
-fn report_refusal(s: Survey, places: usize) -> u8
-    ensures { λ r. ⌜ r ≡ reportRefusal s places ⌝ }
+// The number of the first cause among 10, 12, 14, given whether the state is well formed.
+fn report_refusal(well: bool, stage: u16, units: u16, links: u16, places: usize) -> u8
+    ensures { λ r. ⌜ r ≡ firstOf ((10, not well) ∷ (12, not (eqb stage 11)) ∷ (14, ltb places (reportLength units links)) ∷ []) ⌝ }
 {
-    if !s.well_formed() {
+    if !well {
         return 10;
     }
-    if s.clock.stage != FINISHED {
+    if stage != FINISHED {
         return 12;
     }
-    if places < 26 + 23 * (s.table.units as usize) + 15 * (s.table.links as usize) {
+    if places < 26 + 23 * (units as usize) + 15 * (links as usize) {
         return 14;
     }
     0

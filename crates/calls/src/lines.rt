@@ -1,53 +1,74 @@
 // The report of a finished survey, its lines laid down one after the other.
 ghost use mathlib.Core.Path.{_≡_};
-ghost use mathlib.Core.List.{_++_};
-ghost use Prim.Native.Nat.{_*_, _≤_};
-ghost use lib.ListN.{length, drop};
+ghost use Prim.Native.Nat.{_≤_};
+ghost use lib.ListN.{length};
 ghost use Rattle.lists.specs.Folds.{count};
-ghost use Rattle.lists.specs.Tables.{gathered};
-ghost use Rattle.survey.specs.Report.{unitSingle, linkLone, unitLine, linkLine, report, reportLength, reportOver};
-ghost use Rattle.survey.specs.State.{units, links};
+ghost use Rattle.rules.specs.Labels.{single, lone};
+ghost use Rattle.survey.specs.Report.{reportLength, reportOver};
+ghost use Rattle.calls.specs.ReportWritten.{unitLines, linkLines, partsDown};
 use survey::Survey;
 
 // The lines of all units, and the number of single points.
-fn unit_part(s: Survey, out: &mut [u8]) -> u16
-    requires { ⌜ (units s ≤ 256) × (23 * units s ≤ length (now out)) ⌝ }
-    ensures { λ r. ⌜ (r ≡ count (units s) (unitSingle s)) × (now (out .exit) ≡ gathered (units s) (unitLine s) ++ drop (23 * units s) (now (out .entry))) ⌝ }
+fn unit_part<'a>(
+    units: u16,
+    links: u16,
+    ends: &'a [u16],
+    label: &'a [u16],
+    color: &'a [u16],
+    parent: &'a [u16],
+    place: &'a [u16],
+    out: &mut [u8],
+) -> u16
+    requires { ⌜ units ≤ 256 ⌝ }
+    ensures singles { λ r. ⌜ r ≡ count units (single links (now (ends .entry)) (now (label .entry))) ⌝ }
+    ensures lines { λ _. ⌜ now (out .exit) ≡ unitLines units links (now (ends .entry)) (now (label .entry)) (now (color .entry)) (now (parent .entry)) (now (place .entry)) (now (out .entry)) ⌝ }
 {
-    let units = s.table.units;
-    let singles = answers::singles(units, s.table.links, &s.table.ends, &s.labels.label);
-    answers::unit_lines(
-        units,
-        &s.components.color,
-        &s.tree.parent,
-        &s.order.pre,
-        &singles,
-        out,
-    );
+    let singles = answers::singles(units, links, ends, label);
+    answers::unit_lines(units, color, parent, place, &singles, out);
     answers::count_flags(units, &singles)
 }
 
 // The lines of all links, and the number of lone links.
-fn link_part(s: Survey, out: &mut [u8]) -> u16
-    requires { ⌜ (links s ≤ 1024) × (15 * links s ≤ length (now out)) ⌝ }
-    ensures { λ r. ⌜ (r ≡ count (links s) (linkLone s)) × (now (out .exit) ≡ gathered (links s) (linkLine s) ++ drop (15 * links s) (now (out .entry))) ⌝ }
+fn link_part(links: u16, label: &[u16], out: &mut [u8]) -> u16
+    requires { ⌜ links ≤ 1024 ⌝ }
+    ensures lones { λ r. ⌜ r ≡ count links (lone links (now (label .entry))) ⌝ }
+    ensures lines { λ _. ⌜ now (out .exit) ≡ linkLines links (now (label .entry)) (now (out .entry)) ⌝ }
 {
-    let links = s.table.links;
-    let lones = answers::lones(links, &s.labels.label);
-    answers::link_lines(links, &s.labels.label, &lones, out);
+    let lones = answers::lones(links, label);
+    answers::link_lines(links, label, &lones, out);
     answers::count_flags(links, &lones)
 }
 
 // The report: unit lines are written to the rest of the slice after the first line, link lines to the rest after those.
-fn all(s: Survey, out: &mut [u8])
-    requires { ⌜ (units s ≤ 256) × (links s ≤ 1024) × (reportLength (units s) (links s) ≤ length (now out)) ⌝ }
-    ensures { λ _. ⌜ now (out .exit) ≡ report s ++ drop (reportLength (units s) (links s)) (now (out .entry)) ⌝ }
+fn all<'a>(
+    units: u16,
+    links: u16,
+    rounds: u16,
+    requests: u16,
+    ends: &'a [u16],
+    label: &'a [u16],
+    color: &'a [u16],
+    parent: &'a [u16],
+    place: &'a [u16],
+    out: &mut [u8],
+)
+    requires { ⌜ (units ≤ 256) × (links ≤ 1024) × (reportLength units links ≤ length (now out)) ⌝ }
+    ensures { λ _. ⌜ now (out .exit) ≡ partsDown units links rounds requests (now (ends .entry)) (now (label .entry)) (now (color .entry)) (now (parent .entry)) (now (place .entry)) (now (out .entry)) ⌝ }
 {
-    let unit_end = 13 + 23 * (s.table.units as usize);
-    let link_end = unit_end + 15 * (s.table.links as usize);
-    answers::head_line(s.clock.rounds, s.clock.requests, out);
-    let singles = unit_part(s, &mut out[13..]);
-    let lones = link_part(s, &mut out[unit_end..]);
+    let unit_end = 13 + 23 * (units as usize);
+    let link_end = unit_end + 15 * (links as usize);
+    answers::head_line(rounds, requests, out);
+    let singles = unit_part(
+        units,
+        links,
+        ends,
+        label,
+        color,
+        parent,
+        place,
+        &mut out[13..],
+    );
+    let lones = link_part(links, label, &mut out[unit_end..]);
     answers::tail_line(singles, lones, &mut out[link_end..]);
 }
 
@@ -55,14 +76,27 @@ fn all(s: Survey, out: &mut [u8])
 pub(crate) fn write(s: Survey, out: &mut [u8])
     ensures { λ _. ⌜ now (out .exit) ≡ reportOver s (now (out .entry)) ⌝ }
 {
-    if 256 < s.table.units {
+    let units = s.table.units;
+    let links = s.table.links;
+    if 256 < units {
         return;
     }
-    if 1024 < s.table.links {
+    if 1024 < links {
         return;
     }
-    if out.len() < 26 + 23 * (s.table.units as usize) + 15 * (s.table.links as usize) {
+    if out.len() < 26 + 23 * (units as usize) + 15 * (links as usize) {
         return;
     }
-    all(s, out);
+    all(
+        units,
+        links,
+        s.clock.rounds,
+        s.clock.requests,
+        &s.table.ends,
+        &s.labels.label,
+        &s.components.color,
+        &s.tree.parent,
+        &s.order.pre,
+        out,
+    );
 }

@@ -3,12 +3,11 @@ use mathlib.Core.Path.{_≡_, refl, ap₂}
 use mathlib.Core.Bool.{Bool, true, false, cond}
 use mathlib.Core.Logic.{_⊎_, inl, inr}
 use mathlib.Core.List.{List, [], _∷_}
-use Prim.Native.Nat.{ℕ, zero, suc, _+_, _≤_, _<_, min}
+use Prim.Native.Nat.{ℕ, zero, suc, _≤_, _<_, min}
 use native.Mathlib.Nat.{le-of-suc-le-suc, not-suc-le-zero}
 use native.Mathlib.Decide.{ℕ-discrete}
 use native.Mathlib.Omega.{arith}
-use lib.ListN.{length, getD, drop, drop-of-length-le}
-use Rattle.lists.specs.Rests.{rest-one}
+use lib.ListN.{length, getD}
 use Rattle.lists.specs.Tests.{either, and-left, and-right}
 use Rattle.lists.specs.Folds.{fold, least, every}
 
@@ -50,13 +49,3 @@ every-at p (x ∷ t) (suc i) e h = every-at p t i (and-right (p x) (every p t) e
 pub every-cong : (p q : ℕ → Bool) (t : List ℕ) → ((x : ℕ) → p x ≡ q x) → every p t ≡ every q t
 every-cong p q [] h = refl
 every-cong p q (x ∷ t) h = rw (h x, every-cong p q t h)
-
--- from a place on, as a loop along the list meets it
-pub every-here : (p : ℕ → Bool) (t : List ℕ) (i : ℕ) → i < length t → p (getD t i 0) ≡ false → every p (drop i t) ≡ false
-every-here p t i h e = rw (rest-one t i 0 h, e)
-
-pub every-later : (p : ℕ → Bool) (t : List ℕ) (i : ℕ) → i < length t → p (getD t i 0) ≡ true → every p (drop i t) ≡ every p (drop (i + 1) t)
-every-later p t i h e = rw (rest-one t i 0 h, e)
-
-pub every-end : (p : ℕ → Bool) (t : List ℕ) (i : ℕ) → length t ≤ i → every p (drop i t) ≡ true
-every-end p t i h = rw (drop-of-length-le t h)

@@ -21,5 +21,5 @@ pub mod Listed
 pub mod Rounds
 pub mod Counts
 pub mod Scatter
-pub mod Agree
 pub mod FoldLaws
+pub mod Limits

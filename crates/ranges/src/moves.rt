@@ -1,12 +1,28 @@
-// Stage 7, the later rounds: `span` is the length of a segment and `period` twice that. `greatest` asks for high, else low.
+// Stage 7, the later rounds: `span` is the length of a segment and `mask` one less than twice that. `greatest` asks for high, else low.
 // Rounds past the sixteenth, which no state makes, count as the sixteenth: a segment then is longer than any table.
-use values::tables;
 ghost use mathlib.Core.Path.{_≡_};
-ghost use Prim.Native.Nat.{_+_, _*_, _^_, _<_, _≤_, min};
-ghost use lib.Dec.{ltb};
+ghost use mathlib.Core.Bool.{not, cond};
+ghost use Prim.Native.Nat.{_-_, _^_, _≤_, min, max};
+ghost use lib.Bits.{bitAnd};
+ghost use lib.Dec.{eqb};
+ghost use lib.ListN.{length};
 ghost use Rattle.lists.specs.Scatter.{opOf};
 ghost use Rattle.rules.specs.Range.{segment, rangeLater, littleLater, bigLater, globalLater, rangeEnds};
-ghost use Rattle.rules.specs.MoveLaws.{oddBy, movesLittleBy, movesBigBy, littleBy, bigBy, segmentBeforeBy, withLittleBy, withBigBy, globalBy};
+ghost use Rattle.rules.specs.MoveLaws.{segmentBeforeBy};
+
+// What a round leaves of the units' tables.
+pub struct UnitRound {
+    pub low: [u16; 256],
+    pub high: [u16; 256],
+    pub little: [u16; 256],
+    pub big: [u16; 256],
+}
+
+// What a round leaves of the segments.
+pub struct SegmentRound {
+    pub low: [u16; 256],
+    pub high: [u16; 256],
+}
 
 // The length of a segment in round `i`.
 fn span_of(i: u16) -> u32
@@ -23,211 +39,141 @@ fn span_of(i: u16) -> u32
     span
 }
 
-// Whether `x` is no multiple of `period`.
-fn is_odd(period: u32, x: u16) -> bool
-    ensures { λ r. ⌜ r ≡ oddBy period x ⌝ }
+// Whether `x` is no multiple of a power of two, by the mask below it.
+fn is_odd(mask: u32, x: u16) -> bool
+    ensures { λ r. ⌜ r ≡ not (eqb (bitAnd x mask) 0) ⌝ }
 {
-    if period == 0 {
-        return x != 0;
-    }
-    x as u32 % period != 0
+    x as u32 & mask != 0
 }
 
-// Whether unit `v` moves little.
-fn moves_little<'a>(period: u32, little: &'a [u16], big: &'a [u16], v: u16) -> bool
-    ensures { λ r. ⌜ r ≡ movesLittleBy period (now (little .entry)) (now (big .entry)) v ⌝ }
+// The places of `units` that a table has entries for.
+fn places_of(units: u16, global: &[u16]) -> usize
+    ensures { λ r. ⌜ r ≡ min units (length (now (global .entry))) ⌝ }
 {
-    let from = tables::at(little, v);
-    values::both(from < tables::at(big, v), is_odd(period, from))
-}
-
-// Whether unit `v` moves big.
-fn moves_big<'a>(period: u32, little: &'a [u16], big: &'a [u16], v: u16) -> bool
-    ensures { λ r. ⌜ r ≡ movesBigBy period (now (little .entry)) (now (big .entry)) v ⌝ }
-{
-    let to = tables::at(big, v);
-    values::both(tables::at(little, v) < to, is_odd(period, to))
-}
-
-fn little_by<'a>(span: u32, period: u32, little: &'a [u16], big: &'a [u16], v: u16) -> u16
-    ensures { λ r. ⌜ r ≡ littleBy span period (now (little .entry)) (now (big .entry)) v ⌝ }
-{
-    let own = tables::at(little, v);
-    values::choose(
-        moves_little(period, little, big, v),
-        values::bounded_step(own, span),
-        own,
-    )
-}
-
-// Little after round `i`.
-pub fn little_later(i: u16, units: u16, big: &[u16], little: [u16; 256]) -> [u16; 256]
-    ensures { λ r. ⌜ r ≡ littleLater (min i 16) units (now (big .entry)) little ⌝ }
-{
-    let span = span_of(i);
-    let period = 2 * span;
-    let mut new = little;
-    let mut v = 0;
-    while v < units {
-        let x = little_by(span, period, &little, big, v);
-        tables::store(&mut new, v, x);
-        v += 1;
-    }
-    new
-}
-
-fn big_by<'a>(span: u32, period: u32, little: &'a [u16], big: &'a [u16], v: u16) -> u16
-    ensures { λ r. ⌜ r ≡ bigBy span period (now (little .entry)) (now (big .entry)) v ⌝ }
-{
-    let own = tables::at(big, v);
-    values::choose(
-        moves_big(period, little, big, v),
-        values::less_step(own, span),
-        own,
-    )
-}
-
-// Big after round `i`.
-pub fn big_later(i: u16, units: u16, little: &[u16], big: [u16; 256]) -> [u16; 256]
-    ensures { λ r. ⌜ r ≡ bigLater (min i 16) units (now (little .entry)) big ⌝ }
-{
-    let span = span_of(i);
-    let period = 2 * span;
-    let mut new = big;
-    let mut v = 0;
-    while v < units {
-        let x = big_by(span, period, little, &big, v);
-        tables::store(&mut new, v, x);
-        v += 1;
-    }
-    new
+    let n = units as usize;
+    let len = global.len();
+    if n < len { n } else { len }
 }
 
 // The segment that begins at place `q`.
-fn segment_at(units: u16, global: &[u16], q: u16) -> u16
-    ensures { λ r. ⌜ r ≡ segment units (now (global .entry)) q ⌝ }
+fn segment_at(places: usize, global: &[u16], q: u16) -> u16
+    requires { ⌜ places ≤ length (now global) ⌝ }
+    ensures { λ r. ⌜ r ≡ segment places (now (global .entry)) q ⌝ }
 {
-    values::choose(q < units, tables::at(global, q), 0)
+    let at = q as usize;
+    if at < places { global[at] } else { 0 }
 }
 
-// The segment that ends before place `q`.
-fn segment_before(span: u32, units: u16, global: &[u16], q: u16) -> u16
-    ensures { λ r. ⌜ r ≡ segmentBeforeBy span units (now (global .entry)) q ⌝ }
+// What `x` becomes with the segment at `from`, if that moves.
+fn with_little(greatest: bool, moves: bool, places: usize, global: &[u16], from: u16, x: u16) -> u16
+    requires { ⌜ places ≤ length (now global) ⌝ }
+    ensures { λ r. ⌜ r ≡ cond moves (opOf greatest x (segment places (now (global .entry)) from)) x ⌝ }
 {
-    values::choose(
-        span <= q as u32,
-        segment_at(units, global, values::less_step(q, span)),
-        0,
+    if !moves {
+        return x;
+    }
+    values::op_of(greatest, x, segment_at(places, global, from))
+}
+
+// What `x` becomes with the segment before `to`, if that moves.
+fn with_big(
+    greatest: bool,
+    moves: bool,
+    span: u32,
+    places: usize,
+    global: &[u16],
+    to: u16,
+    x: u16,
+) -> u16
+    requires { ⌜ places ≤ length (now global) ⌝ }
+    ensures { λ r. ⌜ r ≡ cond moves (opOf greatest x (segmentBeforeBy span places (now (global .entry)) to)) x ⌝ }
+{
+    if !moves {
+        return x;
+    }
+    if (to as u32) < span {
+        return values::op_of(greatest, x, 0);
+    }
+    values::op_of(
+        greatest,
+        x,
+        segment_at(places, global, (to as u32 - span) as u16),
     )
 }
 
-// What `x` becomes with the segment at little.
-fn with_little<'a>(
-    greatest: bool,
-    period: u32,
-    units: u16,
-    global: &'a [u16],
-    little: &'a [u16],
-    big: &'a [u16],
-    v: u16,
-    x: u16,
-) -> u16
-    ensures { λ r. ⌜ r ≡ withLittleBy (opOf greatest) period units (now (global .entry)) (now (little .entry)) (now (big .entry)) v x ⌝ }
-{
-    let more = values::op_of(
-        greatest,
-        x,
-        segment_at(units, global, tables::at(little, v)),
-    );
-    values::choose(moves_little(period, little, big, v), more, x)
-}
-
-// What `x` becomes with the segment before big.
-fn with_big<'a>(
-    greatest: bool,
-    span: u32,
-    period: u32,
-    units: u16,
-    global: &'a [u16],
-    little: &'a [u16],
-    big: &'a [u16],
-    v: u16,
-    x: u16,
-) -> u16
-    ensures { λ r. ⌜ r ≡ withBigBy (opOf greatest) span period units (now (global .entry)) (now (little .entry)) (now (big .entry)) v x ⌝ }
-{
-    let more = values::op_of(
-        greatest,
-        x,
-        segment_before(span, units, global, tables::at(big, v)),
-    );
-    values::choose(moves_big(period, little, big, v), more, x)
-}
-
-// Low, or high, after round `i`.
-pub fn range_later<'a>(
-    greatest: bool,
+// The units' tables after round `i`, in one pass: where little is not before big nothing moves.
+pub fn units_later<'a>(
     i: u16,
     units: u16,
-    global: &'a [u16],
-    little: &'a [u16],
-    big: &'a [u16],
-    range: [u16; 256],
-) -> [u16; 256]
-    ensures { λ r. ⌜ r ≡ rangeLater (opOf greatest) (min i 16) units (now (global .entry)) (now (little .entry)) (now (big .entry)) range ⌝ }
+    least: &'a [u16],
+    greatest: &'a [u16],
+    low: [u16; 256],
+    high: [u16; 256],
+    little: [u16; 256],
+    big: [u16; 256],
+) -> UnitRound
+    ensures low { λ r. ⌜ r .low ≡ rangeLater min (min i 16) units (now (least .entry)) little big low ⌝ }
+    ensures high { λ r. ⌜ r .high ≡ rangeLater max (min i 16) units (now (greatest .entry)) little big high ⌝ }
+    ensures little { λ r. ⌜ r .little ≡ littleLater (min i 16) units big little ⌝ }
+    ensures big { λ r. ⌜ r .big ≡ bigLater (min i 16) units little big ⌝ }
 {
     let span = span_of(i);
-    let period = 2 * span;
-    let mut new = range;
-    let mut v = 0;
-    while v < units {
-        let x = with_little(
-            greatest,
-            period,
-            units,
-            global,
-            little,
-            big,
-            v,
-            tables::at(&range, v),
-        );
-        let y = with_big(greatest, span, period, units, global, little, big, v, x);
-        tables::store(&mut new, v, y);
+    let mask = 2 * span - 1;
+    let places_low = places_of(units, least);
+    let places_high = places_of(units, greatest);
+    let count = values::index(values::least_of(units, 256));
+    let mut new_low = low;
+    let mut new_high = high;
+    let mut new_little = little;
+    let mut new_big = big;
+    let mut v: usize = 0;
+    while v < count {
+        let from = new_little[v];
+        let to = new_big[v];
+        if to <= from {
+            v += 1;
+            continue;
+        }
+        let left = is_odd(mask, from);
+        let right = is_odd(mask, to);
+        let x = with_little(false, left, places_low, least, from, new_low[v]);
+        let y = with_little(true, left, places_high, greatest, from, new_high[v]);
+        new_low[v] = with_big(false, right, span, places_low, least, to, x);
+        new_high[v] = with_big(true, right, span, places_high, greatest, to, y);
+        new_little[v] = values::choose(left, values::bounded_step(from, span), from);
+        new_big[v] = values::choose(right, values::less_step(to, span), to);
         v += 1;
     }
-    new
+    UnitRound {
+        low: new_low,
+        high: new_high,
+        little: new_little,
+        big: new_big,
+    }
 }
 
-// Whether the place a span on exists.
-fn has_next(span: u32, units: u16, q: u16) -> bool
-    ensures { λ r. ⌜ r ≡ ltb (q + span) units ⌝ }
-{
-    q as u64 + (span as u64) < units as u64
-}
-
-fn global_by(greatest: bool, span: u32, period: u32, units: u16, global: &[u16], q: u16) -> u16
-    ensures { λ r. ⌜ r ≡ globalBy (opOf greatest) span period units (now (global .entry)) q ⌝ }
-{
-    let own = tables::at(global, q);
-    let next = slices::word(global, q as usize + span as usize);
-    let takes = values::both(!is_odd(period, q), has_next(span, units, q));
-    values::choose(takes, values::op_of(greatest, own, next), own)
-}
-
-// The segments of low, or of high, after round `i`.
-pub fn global_later(greatest: bool, i: u16, units: u16, global: [u16; 256]) -> [u16; 256]
-    ensures { λ r. ⌜ r ≡ globalLater (opOf greatest) (min i 16) units global ⌝ }
+// The segments after round `i`: those at multiples of twice the span take in the next.
+pub fn segments_later(i: u16, units: u16, low: [u16; 256], high: [u16; 256]) -> SegmentRound
+    ensures low { λ r. ⌜ r .low ≡ globalLater min (min i 16) units low ⌝ }
+    ensures high { λ r. ⌜ r .high ≡ globalLater max (min i 16) units high ⌝ }
 {
     let span = span_of(i);
-    let period = 2 * span;
-    let mut new = global;
-    let mut q = 0;
-    while q < units {
-        let x = global_by(greatest, span, period, units, &global, q);
-        tables::store(&mut new, q, x);
-        q += 1;
+    let step = span as usize;
+    let last = values::index(values::least_of(values::less_step(units, span), 256));
+    let mut new_low = low;
+    let mut new_high = high;
+    let mut q: usize = 0;
+    while q < last {
+        let next_low = slices::word(&new_low, q + step);
+        let next_high = slices::word(&new_high, q + step);
+        new_low[q] = values::least_of(new_low[q], next_low);
+        new_high[q] = values::greatest_of(new_high[q], next_high);
+        q += 2 * step;
     }
-    new
+    SegmentRound {
+        low: new_low,
+        high: new_high,
+    }
 }
 
 // Whether the stage ends: all lg(n) rounds are made after the first.

@@ -1,193 +1,214 @@
-// Stage 7, the first round: local values by one pass over the links, places by buckets. `greatest` asks for high, else low.
+// Stage 7, the first round: local values by one pass over the links, places by buckets, then one pass over the units.
 use values::arcs;
 use values::firsts;
 use values::tables;
 ghost use mathlib.Core.Path.{_≡_};
-ghost use Prim.Native.Nat.{ℕ, _+_, _-_, _<_, min};
-ghost use lib.ListN.{getD};
+ghost use mathlib.Core.Bool.{true, false, _&&_, cond};
+ghost use Prim.Native.Nat.{ℕ, _-_, _<_, _≤_, min, max};
+ghost use lib.Dec.{leb};
+ghost use lib.ListN.{length, getD};
 ghost use Rattle.lists.specs.Tables.{over};
-ghost use Rattle.lists.specs.Scatter.{opOf};
 ghost use Rattle.table.specs.Table.{maxUnits};
+ghost use Rattle.rules.specs.Basics.{at, offTree};
+ghost use Rattle.rules.specs.HeardLaws.{hears};
 ghost use Rattle.rules.specs.Range.{endPlace, localOf, globalFirst, rangeFirst, littleFirst, bigBegin, bigFirst};
 ghost use Rattle.rules.specs.RangeLaws.{localBy, beginBy};
 
 const ABSENT: u16 = 65535;
 
-// What the first round leaves of low, or of high.
+// What the first round leaves: the units' tables, and the segments of low and of high.
 pub struct RangeRound {
-    pub range: [u16; 256],
-    pub global: [u16; 256],
+    pub low: [u16; 256],
+    pub high: [u16; 256],
+    pub little: [u16; 256],
+    pub big: [u16; 256],
+    pub least: [u16; 256],
+    pub greatest: [u16; 256],
 }
 
-// The local value of each unit below 256.
-fn locals<'a>(
-    greatest: bool,
-    links: u16,
-    ends: &'a [u16],
+// The local value of each unit below 256, for low and for high.
+struct LocalValues {
+    low: [u16; 256],
+    high: [u16; 256],
+}
+
+// A link of `a` and `b`: if it is off the tree each end takes in the other's place. Where both ends exist that is tested once, for
+// all that is read and stored.
+fn hear_off<'a>(
     parent: &'a [u16],
-    pre: [u16; 256],
-) -> [u16; 256]
-    ensures { λ r. ⌜ ((v : ℕ) → v < maxUnits
-        → getD r v 0 ≡ localOf (opOf greatest) links (now (ends .entry)) (now (parent .entry)) pre v) ⌝ }
+    pre: &'a [u16],
+    a: u16,
+    b: u16,
+    low: &mut [u16],
+    high: &mut [u16],
+)
+    ensures low { λ _. ⌜ now (low .exit)
+        ≡ cond (offTree (now (parent .entry)) a b) (hears false maxUnits (now (pre .entry)) a b (now (low .entry))) (now (low .entry)) ⌝ }
+    ensures high { λ _. ⌜ now (high .exit)
+        ≡ cond (offTree (now (parent .entry)) a b) (hears true maxUnits (now (pre .entry)) a b (now (high .entry))) (now (high .entry)) ⌝ }
 {
-    let mut new = pre;
+    if values::both(a < 256, b < 256) {
+        if arcs::off_tree(parent, a, b) {
+            let x = tables::at(pre, a);
+            let y = tables::at(pre, b);
+            tables::take_in(false, 256, low, a, y);
+            tables::take_in(false, 256, low, b, x);
+            tables::take_in(true, 256, high, a, y);
+            tables::take_in(true, 256, high, b, x);
+        }
+    } else {
+        let counts = arcs::off_tree(parent, a, b);
+        tables::hear_if(counts, false, 256, pre, a, b, low);
+        tables::hear_if(counts, true, 256, pre, a, b, high);
+    }
+}
+
+// The local values, from the places.
+fn locals<'a>(links: u16, ends: &'a [u16], parent: &'a [u16], pre: [u16; 256]) -> LocalValues
+    ensures low { λ r. ⌜ ((v : ℕ) → v < maxUnits
+        → getD (r .low) v 0 ≡ localOf min links (now (ends .entry)) (now (parent .entry)) pre v) ⌝ }
+    ensures high { λ r. ⌜ ((v : ℕ) → v < maxUnits
+        → getD (r .high) v 0 ≡ localOf max links (now (ends .entry)) (now (parent .entry)) pre v) ⌝ }
+    ensures full_low { λ r. ⌜ length (r .low) ≡ 256 ⌝ }
+    ensures full_high { λ r. ⌜ length (r .high) ≡ 256 ⌝ }
+{
+    let mut low = pre;
+    let mut high = pre;
     let mut j = 0;
     while j < links {
         let a = tables::end_a(ends, j);
         let b = tables::end_b(ends, j);
-        tables::hear_if(
-            arcs::off_tree(parent, a, b),
-            greatest,
-            256,
-            &pre,
-            a,
-            b,
-            &mut new,
-        );
+        hear_off(parent, &pre, a, b, &mut low, &mut high);
         j += 1;
     }
-    new
-}
-
-// The local value of place `q`, from the unit at each place and the units' values.
-fn local_by<'a>(first: &'a [u16], local: &'a [u16], q: u16) -> u16
-    ensures { λ r. ⌜ r ≡ localBy (now (first .entry)) (now (local .entry)) q ⌝ }
-{
-    let u = tables::at(first, q);
-    values::choose(u == ABSENT, 0, tables::at(local, u))
-}
-
-// The segments begin with the local values.
-fn segments<'a>(count: u16, first: &'a [u16], local: &'a [u16], global: [u16; 256]) -> [u16; 256]
-    ensures { λ r. ⌜ r ≡ over count (localBy (now (first .entry)) (now (local .entry))) global ⌝ }
-{
-    let mut new = global;
-    let mut q = 0;
-    while q < count {
-        let x = local_by(first, local, q);
-        tables::store(&mut new, q, x);
-        q += 1;
-    }
-    new
+    LocalValues { low, high }
 }
 
 // One past the place of the last descendant of `v`.
-fn end_place<'a>(nd: &'a [u16], pre: &'a [u16], v: u16) -> u32
+fn end_place<'a>(nd: &'a [u16], pre: &'a [u16], v: usize) -> u32
     ensures { λ r. ⌜ r ≡ endPlace (now (nd .entry)) (now (pre .entry)) v ⌝ }
 {
-    tables::at(pre, v) as u32 + tables::at(nd, v) as u32
+    slices::word(pre, v) as u32 + slices::word(nd, v) as u32
 }
 
-// One less, as a word holds it.
-fn last_place(end: u32) -> u16
-    ensures { λ r. ⌜ r ≡ min (end - 1) 65535 ⌝ }
+// The unit at the place before `end`, absent where that is none of `count` places.
+fn unit_before(count: u16, first: &[u16], end: u32) -> u16
+    ensures { λ r. ⌜ r ≡ cond (leb 1 end && leb end count) (getD (now (first .entry)) (end - 1) 0) 65535 ⌝ }
 {
     if end == 0 {
-        0
-    } else {
-        values::word_of(end - 1)
+        return ABSENT;
     }
-}
-
-// What unit `v` begins with.
-fn begin_by<'a>(
-    count: u16,
-    first: &'a [u16],
-    local: &'a [u16],
-    nd: &'a [u16],
-    pre: &'a [u16],
-    v: u16,
-) -> u16
-    ensures { λ r. ⌜ r ≡ beginBy count (now (first .entry)) (now (local .entry)) (now (nd .entry)) (now (pre .entry)) v ⌝ }
-{
-    let end = end_place(nd, pre, v);
-    let x = local_by(first, local, last_place(end));
-    values::choose(values::both(1 <= end, end <= count as u32), x, 0)
-}
-
-// The units begin with the local values of their last descendants' places.
-fn begins<'a>(
-    count: u16,
-    first: &'a [u16],
-    local: &'a [u16],
-    nd: &'a [u16],
-    pre: &'a [u16],
-    range: [u16; 256],
-) -> [u16; 256]
-    ensures { λ r. ⌜ r ≡ over count (beginBy count (now (first .entry)) (now (local .entry)) (now (nd .entry)) (now (pre .entry))) range ⌝ }
-{
-    let mut new = range;
-    let mut v = 0;
-    while v < count {
-        let x = begin_by(count, first, local, nd, pre, v);
-        tables::store(&mut new, v, x);
-        v += 1;
+    if (count as u32) < end {
+        return ABSENT;
     }
-    new
+    slices::word(first, (end - 1) as usize)
 }
 
-// The first round, for at most 256 units.
-pub fn range_first<'a>(
-    greatest: bool,
-    units: u16,
-    links: u16,
-    ends: &'a [u16],
-    parent: &'a [u16],
-    nd: &'a [u16],
-    pre: [u16; 256],
-    range: [u16; 256],
-    global: [u16; 256],
-) -> RangeRound
-    ensures range { λ r. ⌜ r .range
-        ≡ rangeFirst (opOf greatest) (min units maxUnits) links (now (ends .entry)) (now (parent .entry)) (now (nd .entry)) pre range ⌝ }
-    ensures global { λ r. ⌜ r .global ≡ globalFirst (opOf greatest) (min units maxUnits) links (now (ends .entry)) (now (parent .entry)) pre global ⌝ }
+// One less, as a table holds it.
+fn last_place(end: u32) -> u16
+    ensures { λ r. ⌜ r ≡ min (end - 1) 2048 ⌝ }
 {
-    let count = values::least_of(units, 256);
-    let first = firsts::firsts(count, &pre);
-    let local = locals(greatest, links, ends, parent, pre);
-    let new_global = segments(count, &first, &local, global);
-    let new_range = begins(count, &first, &local, nd, &pre, range);
-    RangeRound {
-        range: new_range,
-        global: new_global,
-    }
-}
-
-// Little begins at the unit's own place.
-pub fn little_first(units: u16, pre: &[u16], little: [u16; 256]) -> [u16; 256]
-    ensures { λ r. ⌜ r ≡ littleFirst units (now (pre .entry)) little ⌝ }
-{
-    let mut new = little;
-    let mut v = 0;
-    while v < units {
-        let x = tables::at(pre, v);
-        tables::store(&mut new, v, x);
-        v += 1;
-    }
-    new
-}
-
-// Where big begins for unit `v`.
-fn big_begin<'a>(nd: &'a [u16], pre: &'a [u16], v: u16) -> u16
-    ensures { λ r. ⌜ r ≡ bigBegin (now (nd .entry)) (now (pre .entry)) v ⌝ }
-{
-    let end = end_place(nd, pre, v);
     if end == 0 {
         return 0;
     }
     values::bounded(end - 1)
 }
 
-// Big begins at the last descendant's place.
-pub fn big_first<'a>(units: u16, nd: &'a [u16], pre: &'a [u16], big: [u16; 256]) -> [u16; 256]
-    ensures { λ r. ⌜ r ≡ bigFirst units (now (nd .entry)) (now (pre .entry)) big ⌝ }
+// All tables, from the unit at each place and the units' local values: an absent unit's value is 0. Segments begin with the local
+// values of their places, units with those of their last descendants' places, little at the unit's place and big at that last one.
+fn begins<'a>(
+    count: u16,
+    first: &'a [u16],
+    lows: &'a [u16],
+    highs: &'a [u16],
+    nd: &'a [u16],
+    pre: &'a [u16],
+    low: [u16; 256],
+    high: [u16; 256],
+    little: [u16; 256],
+    big: [u16; 256],
+    least: [u16; 256],
+    greatest: [u16; 256],
+) -> RangeRound
+    requires few { ⌜ count ≤ 256 ⌝ }
+    requires full_low { ⌜ length (now lows) ≡ 256 ⌝ }
+    requires full_high { ⌜ length (now highs) ≡ 256 ⌝ }
+    ensures low { λ r. ⌜ r .low ≡ over count (beginBy count (now (first .entry)) (now (lows .entry)) (now (nd .entry)) (now (pre .entry))) low ⌝ }
+    ensures high { λ r. ⌜ r .high ≡ over count (beginBy count (now (first .entry)) (now (highs .entry)) (now (nd .entry)) (now (pre .entry))) high ⌝ }
+    ensures little { λ r. ⌜ r .little ≡ over count (at (now (pre .entry))) little ⌝ }
+    ensures big { λ r. ⌜ r .big ≡ over count (bigBegin (now (nd .entry)) (now (pre .entry))) big ⌝ }
+    ensures least { λ r. ⌜ r .least ≡ over count (localBy (now (first .entry)) (now (lows .entry))) least ⌝ }
+    ensures greatest { λ r. ⌜ r .greatest ≡ over count (localBy (now (first .entry)) (now (highs .entry))) greatest ⌝ }
 {
-    let mut new = big;
-    let mut v = 0;
-    while v < units {
-        let x = big_begin(nd, pre, v);
-        tables::store(&mut new, v, x);
+    let mut new_low = low;
+    let mut new_high = high;
+    let mut new_little = little;
+    let mut new_big = big;
+    let mut new_least = least;
+    let mut new_greatest = greatest;
+    let last = values::index(count);
+    let mut v: usize = 0;
+    while v < last {
+        let own = slices::word(first, v);
+        let end = end_place(nd, pre, v);
+        let u = unit_before(count, first, end);
+        new_least[v] = tables::at(lows, own);
+        new_greatest[v] = tables::at(highs, own);
+        new_low[v] = tables::at(lows, u);
+        new_high[v] = tables::at(highs, u);
+        new_little[v] = slices::word(pre, v);
+        new_big[v] = last_place(end);
         v += 1;
     }
-    new
+    RangeRound {
+        low: new_low,
+        high: new_high,
+        little: new_little,
+        big: new_big,
+        least: new_least,
+        greatest: new_greatest,
+    }
+}
+
+// The first round, for at most 256 units.
+pub fn range_first<'a>(
+    units: u16,
+    links: u16,
+    ends: &'a [u16],
+    parent: &'a [u16],
+    nd: &'a [u16],
+    pre: [u16; 256],
+    low: [u16; 256],
+    high: [u16; 256],
+    little: [u16; 256],
+    big: [u16; 256],
+    least: [u16; 256],
+    greatest: [u16; 256],
+) -> RangeRound
+    ensures low { λ r. ⌜ r .low
+        ≡ rangeFirst min (min units maxUnits) links (now (ends .entry)) (now (parent .entry)) (now (nd .entry)) pre low ⌝ }
+    ensures high { λ r. ⌜ r .high
+        ≡ rangeFirst max (min units maxUnits) links (now (ends .entry)) (now (parent .entry)) (now (nd .entry)) pre high ⌝ }
+    ensures little { λ r. ⌜ r .little ≡ littleFirst units pre little ⌝ }
+    ensures big { λ r. ⌜ r .big ≡ bigFirst units (now (nd .entry)) pre big ⌝ }
+    ensures least { λ r. ⌜ r .least ≡ globalFirst min (min units maxUnits) links (now (ends .entry)) (now (parent .entry)) pre least ⌝ }
+    ensures greatest { λ r. ⌜ r .greatest ≡ globalFirst max (min units maxUnits) links (now (ends .entry)) (now (parent .entry)) pre greatest ⌝ }
+{
+    let count = values::least_of(units, 256);
+    let first = firsts::firsts(count, &pre);
+    let local = locals(links, ends, parent, pre);
+    begins(
+        count,
+        &first,
+        &local.low,
+        &local.high,
+        nd,
+        &pre,
+        low,
+        high,
+        little,
+        big,
+        least,
+        greatest,
+    )
 }

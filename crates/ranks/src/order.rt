@@ -1,20 +1,20 @@
-// Stage 5: forward arcs, descendants, and the start of the second ranking. Stage 6's last round: the place of each unit.
-use values::arcs;
+// Stage 5: forward arcs, descendants, and the start of the second ranking. Stage 6's last round: the place of each unit. Each pass ends where
+// the tables do, so that no index is tested.
 use values::counts;
 use values::tables;
 ghost use mathlib.Core.Path.{_≡_};
-ghost use Rattle.rules.specs.Order.{forwardMark, forwardRound, ndRound, secondSum, secondSums, secondJumps, preRound};
+ghost use mathlib.Core.Bool.{cond, not, _&&_};
+ghost use lib.Dec.{eqb, ltb};
+ghost use Rattle.rules.specs.Order.{forwardRound, ndRound, secondSums, secondJumps, preRound};
 ghost use Rattle.rules.specs.OrderLaws.{descendantsBy, placeBy};
 
 const ABSENT: u16 = 65535;
 
-// 1 where arc `a` is forward.
-fn forward_mark<'a>(parent: &'a [u16], rank: &'a [u16], a: usize) -> u16
-    ensures { λ r. ⌜ r ≡ forwardMark (now (parent .entry)) (now (rank .entry)) a ⌝ }
+// 1 where a tree link's rank is below its reverse's.
+fn forward_mark(arc: bool, own: u16, other: u16) -> u16
+    ensures { λ r. ⌜ r ≡ cond (arc && ltb own other) 1 0 ⌝ }
 {
-    let own = slices::word(rank, a);
-    let other = slices::word(rank, arcs::reverse(a));
-    values::choose(values::both(arcs::is_arc(parent, a), own < other), 1, 0)
+    values::choose(values::both(arc, own < other), 1, 0)
 }
 
 // Stage 5, round one: the forward marks.
@@ -26,13 +26,17 @@ pub fn forward_round<'a>(
 ) -> [u16; 512]
     ensures { λ r. ⌜ r ≡ forwardRound units (now (parent .entry)) (now (rank .entry)) forward ⌝ }
 {
-    let count = 2 * (units as usize);
     let mut new = forward;
-    let mut a = 0;
-    while a < count {
-        let x = forward_mark(parent, rank, a);
-        slices::put(&mut new, a, x);
-        a += 1;
+    let mut v = 0;
+    let count = values::least_of(units, 256);
+    while v < count {
+        let arc = tables::at(parent, v) != ABSENT;
+        let down = tables::into(rank, v);
+        let up = tables::out_of(rank, v);
+        let x = forward_mark(arc, down, up);
+        let y = forward_mark(arc, up, down);
+        tables::put_pair(&mut new, v, x, y);
+        v += 1;
     }
     new
 }
@@ -68,7 +72,8 @@ pub fn nd_round<'a>(
     let absent = counts::count_at(false, units, color, ABSENT);
     let mut new = nd;
     let mut v = 0;
-    while v < units {
+    let count = values::least_of(units, 256);
+    while v < count {
         let x = descendants_by(units, color, &bucket, absent, parent, rank, v);
         tables::store(&mut new, v, x);
         v += 1;
@@ -76,15 +81,11 @@ pub fn nd_round<'a>(
     new
 }
 
-// 1 where arc `a` counts in the second ranking.
-fn second_sum<'a>(parent: &'a [u16], forward: &'a [u16], a: usize) -> u16
-    ensures { λ r. ⌜ r ≡ secondSum (now (parent .entry)) (now (forward .entry)) a ⌝ }
+// 1 where a tree link counts in the second ranking.
+fn second_sum(arc: bool, mark: u16) -> u16
+    ensures { λ r. ⌜ r ≡ cond (arc && not (eqb mark 0)) 1 0 ⌝ }
 {
-    values::choose(
-        values::both(arcs::is_arc(parent, a), slices::word(forward, a) != 0),
-        1,
-        0,
-    )
+    values::choose(values::both(arc, mark != 0), 1, 0)
 }
 
 // Stage 5, round two: the sums that begin the second ranking.
@@ -96,13 +97,15 @@ pub fn second_sums<'a>(
 ) -> [u16; 512]
     ensures { λ r. ⌜ r ≡ secondSums units (now (parent .entry)) (now (forward .entry)) sum ⌝ }
 {
-    let count = 2 * (units as usize);
     let mut new = sum;
-    let mut a = 0;
-    while a < count {
-        let x = second_sum(parent, forward, a);
-        slices::put(&mut new, a, x);
-        a += 1;
+    let mut v = 0;
+    let count = values::least_of(units, 256);
+    while v < count {
+        let arc = tables::at(parent, v) != ABSENT;
+        let x = second_sum(arc, tables::into(forward, v));
+        let y = second_sum(arc, tables::out_of(forward, v));
+        tables::put_pair(&mut new, v, x, y);
+        v += 1;
     }
     new
 }
@@ -111,13 +114,14 @@ pub fn second_sums<'a>(
 pub fn second_jumps(units: u16, pred: &[u16], jump: [u16; 512]) -> [u16; 512]
     ensures { λ r. ⌜ r ≡ secondJumps units (now (pred .entry)) jump ⌝ }
 {
-    let count = 2 * (units as usize);
     let mut new = jump;
-    let mut a = 0;
-    while a < count {
-        let x = slices::word(pred, a);
-        slices::put(&mut new, a, x);
-        a += 1;
+    let mut v = 0;
+    let count = values::least_of(units, 256);
+    while v < count {
+        let x = tables::into(pred, v);
+        let y = tables::out_of(pred, v);
+        tables::put_pair(&mut new, v, x, y);
+        v += 1;
     }
     new
 }
@@ -153,7 +157,8 @@ pub fn pre_round<'a>(
     let absent = counts::count_at(true, units, color, ABSENT);
     let mut new = pre;
     let mut v = 0;
-    while v < units {
+    let count = values::least_of(units, 256);
+    while v < count {
         let x = place_by(units, color, &bucket, absent, parent, sum, v);
         tables::store(&mut new, v, x);
         v += 1;

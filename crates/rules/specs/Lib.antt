@@ -1,7 +1,6 @@
 pub mod Basics
 pub mod Bounds
 pub mod BoundLaws
-pub mod BoundsLaws
 pub mod Ceilings
 pub mod CeilingLaws
 pub mod Components

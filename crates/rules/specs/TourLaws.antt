@@ -1,12 +1,10 @@
--- Stage 3 as code makes it: both arcs of a unit in one turn, neighbours by a scan, predecessors and starts by buckets.
+-- Stage 3 as code makes it: both arcs of a unit in one turn, predecessors and starts by buckets.
 use mathlib.Core.Path.{_≡_, refl, sym, ap, _∙_}
 use mathlib.Core.Bool.{Bool, true, false, not, cond, _&&_}
 use mathlib.Core.List.{List}
 use Prim.Native.Nat.{ℕ, _+_, _*_, _/_, _%_, _≤_, _<_, min}
-use native.Mathlib.Nat.{le-antisymm}
-use native.Mathlib.Numerals.{add-one}
 use native.Mathlib.Omega.{arith}
-use lib.Dec.{eqb, ltb}
+use lib.Dec.{eqb}
 use lib.ListN.{getD}
 use borrow.Author.Tests.{eqb-true, eq-eqb, ne-eqb}
 use Rattle.lists.specs.Tables.{over}
@@ -35,25 +33,6 @@ even-into v = omega arith
 
 pub odd-out : (v : ℕ) → (2 * v + 1) % 2 ≡ 1
 odd-out v = omega arith
-
--- ---- neighbours by a scan
-
-module _ (parent : List ℕ) (v : ℕ) where
-  pub least-more : (k x new : ℕ) → x ≡ Tour.leastNeighbor k parent v → new ≡ min x (cond (Tour.treeNeighbor parent v k) k ABSENT)
-      → new ≡ Tour.leastNeighbor (k + 1) parent v
-  unfolding Tour.leastNeighbor
-  least-more k x new was put = rw (put, was, add-one k)
-
-  pub least-all : (k n : ℕ) → k ≤ n → n ≤ k → Tour.leastNeighbor k parent v ≡ Tour.leastNeighbor n parent v
-  least-all k n l g = rw (le-antisymm l g)
-
-  pub greater-more : (u k x new : ℕ) → x ≡ Tour.greaterNeighbor k parent v u
-      → new ≡ min x (cond (Tour.treeNeighbor parent v k && ltb u k) k ABSENT) → new ≡ Tour.greaterNeighbor (k + 1) parent v u
-  unfolding Tour.greaterNeighbor
-  greater-more u k x new was put = rw (put, was, add-one k)
-
-  pub greater-all : (u k n : ℕ) → k ≤ n → n ≤ k → Tour.greaterNeighbor k parent v u ≡ Tour.greaterNeighbor n parent v u
-  greater-all u k n l g = rw (le-antisymm l g)
 
 -- ---- followers, as a word holds them
 

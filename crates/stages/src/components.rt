@@ -1,11 +1,14 @@
 // Stage 1: the least unit of each component, by propagation. What the units say and the test for its end serve stage 9 too.
+use super::within;
 use values::tables;
 ghost use mathlib.Core.Path.{_≡_};
 ghost use mathlib.Core.Bool.{false};
-ghost use Prim.Native.Nat.{ℕ, min};
+ghost use Prim.Native.Nat.{ℕ, _<_, _≤_, min};
+ghost use lib.ListN.{length, getD, set};
 ghost use Rattle.lists.specs.Tables.{over};
 ghost use Rattle.lists.specs.Folds.{agree};
 ghost use Rattle.rules.specs.HeardLaws.{hears};
+ghost use Rattle.stages.specs.Near.{EndsWithin, Hearer};
 ghost use Rattle.rules.specs.Components.{leastHeard, colorSaid, colorRound, colorEnds};
 
 // Each unit's own number.
@@ -32,34 +35,76 @@ pub fn said(units: u16, made: u16, color: [u16; 256]) -> [u16; 256]
     }
 }
 
-// A link of `a` and `b`, as `tables::hear` has it. Where both ends exist that is tested once, for all that is read and stored.
-fn hear_link(n: u16, said: &[u16], a: u16, b: u16, t: &mut [u16])
-    ensures { λ _. ⌜ now (t .exit) ≡ hears false n (now (said .entry)) a b (now (t .entry)) ⌝ }
+// `x` at `i` where that is less.
+fn lower(t: &mut [u16], i: u16, x: u16)
+    requires { ⌜ i < length (now t) ⌝ }
+    ensures { λ _. ⌜ now (t .exit) ≡ set (now (t .entry)) i (min (getD (now (t .entry)) i 0) x) ⌝ }
 {
-    if values::both(a < n, b < n) {
-        let x = tables::at(said, a);
-        let y = tables::at(said, b);
-        tables::take_in(false, n, t, a, y);
-        tables::take_in(false, n, t, b, x);
-    } else {
-        tables::hear(false, n, said, a, b, t);
+    let at = i as usize;
+    if x < t[at] {
+        t[at] = x;
     }
 }
 
-// The least that each unit hears, itself included, over the links.
-fn least_heard(units: u16, links: u16, ends: &[u16], value: [u16; 256]) -> [u16; 256]
-    ensures { λ r. ⌜ r ≡ over units (leastHeard links (now (ends .entry)) value) value ⌝ }
+// A link of two units that exist. None has more than it says, so that only the end that says more can come to less.
+fn hear_near(n: u16, said: &[u16], a: u16, b: u16, t: &mut [u16])
+    requires { ⌜ Hearer n (now said) (now t) a × Hearer n (now said) (now t) b ⌝ }
+    ensures { λ _. ⌜ now (t .exit) ≡ hears false n (now (said .entry)) a b (now (t .entry)) ⌝ }
 {
-    let n = values::least_of(units, 256);
+    let at_a = a as usize;
+    let at_b = b as usize;
+    let x = said[at_a];
+    let y = said[at_b];
+    if x < y {
+        lower(t, b, x);
+        return;
+    }
+    if y < x {
+        lower(t, a, y);
+    }
+}
+
+// The least that each unit hears, itself included, over links whose ends all exist.
+fn heard_near(n: u16, links: u16, ends: &[u16], value: [u16; 256]) -> [u16; 256]
+    requires { ⌜ (n ≤ 256) × EndsWithin n links (now ends) ⌝ }
+    ensures { λ r. ⌜ r ≡ over n (leastHeard links (now (ends .entry)) value) value ⌝ }
+{
+    let mut new = value;
+    let mut j = 0;
+    while j < links {
+        let at = 2 * (j as usize);
+        let a = ends[at];
+        let b = ends[at + 1];
+        hear_near(n, &value, a, b, &mut new);
+        j += 1;
+    }
+    new
+}
+
+// The same over any links.
+fn heard_any(n: u16, links: u16, ends: &[u16], value: [u16; 256]) -> [u16; 256]
+    ensures { λ r. ⌜ r ≡ over n (leastHeard links (now (ends .entry)) value) value ⌝ }
+{
     let mut new = value;
     let mut j = 0;
     while j < links {
         let a = tables::end_a(ends, j);
         let b = tables::end_b(ends, j);
-        hear_link(n, &value, a, b, &mut new);
+        tables::hear(false, n, &value, a, b, &mut new);
         j += 1;
     }
     new
+}
+
+// The least that each unit hears.
+fn least_heard(units: u16, links: u16, ends: &[u16], value: [u16; 256]) -> [u16; 256]
+    ensures { λ r. ⌜ r ≡ over units (leastHeard links (now (ends .entry)) value) value ⌝ }
+{
+    let n = values::least_of(units, 256);
+    if within::ends_within(n, links, ends) {
+        return heard_near(n, links, ends, value);
+    }
+    heard_any(n, links, ends, value)
 }
 
 // The colors after a round.

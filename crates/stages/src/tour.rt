@@ -1,16 +1,18 @@
 // Stage 3: the follower and the predecessor of each arc, and the start of the first ranking. A turn gives both arcs of a unit.
-use values::arcs;
+use super::buckets;
+use super::siblings;
 use values::firsts;
 use values::tables;
 ghost use mathlib.Core.Path.{_≡_};
-ghost use mathlib.Core.Bool.{cond, _||_};
-ghost use Prim.Native.Nat.{_+_, _*_, min};
+ghost use mathlib.Core.Bool.{true, cond, _||_};
+ghost use Prim.Native.Nat.{_+_, _*_, _≤_, min};
 ghost use lib.Dec.{eqb};
 ghost use lib.ListN.{getD};
-ghost use Rattle.lists.specs.Tables.{over};
 ghost use Rattle.rules.specs.Basics.{ABSENT};
 ghost use Rattle.rules.specs.Tour;
 ghost use Rattle.rules.specs.TourLaws.{storedNext, nextStored, startBy, predIn, predOut};
+ghost use Rattle.stages.specs.Siblings.{Eldest, Later, Past, Whole};
+ghost use Rattle.stages.specs.Neighbors.{turnTo, inBy, outBy};
 
 const NONE: u16 = 65535;
 
@@ -102,8 +104,8 @@ fn next_out(units: u16, parent: &[u16], v: u16) -> u16
     arc_after(units, parent, v, p)
 }
 
-// Round one: the followers. They are the rule's wherever units and parents exist (NextLaws, next-exact).
-pub fn next_round(units: u16, parent: &[u16], next: [u16; 512]) -> [u16; 512]
+// The followers by looking for each neighbour: for counts and parents that no state has.
+fn next_searched(units: u16, parent: &[u16], next: [u16; 512]) -> [u16; 512]
     ensures { λ r. ⌜ r ≡ nextStored units (now (parent .entry)) next ⌝ }
 {
     let mut new = next;
@@ -117,27 +119,87 @@ pub fn next_round(units: u16, parent: &[u16], next: [u16; 512]) -> [u16; 512]
     new
 }
 
-// Whether the arc into `v` starts its list: by the buckets of first children.
-fn is_start<'a>(units: u16, parent: &'a [u16], child: &'a [u16], lost: u16, v: u16) -> bool
-    ensures { λ r. ⌜ r ≡ startBy units (now (parent .entry)) (now (child .entry)) lost v ⌝ }
+// The neighbour after `u`, from the first child past `u`, the first child, and the parent.
+fn turn_to(later: u16, eldest: u16, own: u16, u: u16) -> u16
+    ensures { λ r. ⌜ r ≡ turnTo later eldest own u ⌝ }
+{
+    let greater = values::least_of(later, values::choose(u < own, own, NONE));
+    values::choose(greater == NONE, values::least_of(eldest, own), greater)
+}
+
+// The follower of the arc into `v`, from the tables of the scan.
+fn in_by<'a>(parent: &'a [u16], eldest: &'a [u16], past: &'a [u16], v: u16) -> u16
+    ensures { λ r. ⌜ r ≡ inBy (now (parent .entry)) (now (eldest .entry)) (now (past .entry)) v ⌝ }
 {
     let p = tables::at(parent, v);
-    let eldest = firsts::first_by(units, parent, child, lost, p);
+    let w = turn_to(tables::at(past, v), tables::at(eldest, v), p, p);
+    let x = arc_word(tables::at(parent, w) == v, v, w);
+    values::choose(p == NONE, NONE, x)
+}
+
+// The follower of the arc out of `v`.
+fn out_by<'a>(parent: &'a [u16], eldest: &'a [u16], later: &'a [u16], v: u16) -> u16
+    ensures { λ r. ⌜ r ≡ outBy (now (parent .entry)) (now (eldest .entry)) (now (later .entry)) v ⌝ }
+{
+    let p = tables::at(parent, v);
+    let own = tables::at(parent, p);
+    let w = turn_to(tables::at(later, v), tables::at(eldest, p), own, v);
+    let x = arc_word(tables::at(parent, w) == p, p, w);
+    values::choose(p == NONE, NONE, x)
+}
+
+// The followers from the tables of the scan, a fixed number of reads for each.
+fn next_scanned<'a>(
+    units: u16,
+    parent: &'a [u16],
+    eldest: &'a [u16],
+    later: &'a [u16],
+    past: &'a [u16],
+    next: [u16; 512],
+) -> [u16; 512]
+    requires { ⌜ (units ≤ 256) × Eldest 256 units 0 (now parent) (now eldest) × Later units 0 (now parent) (now later) × Past units 0 (now parent) (now past) × Whole units 0 (now parent) true ⌝ }
+    ensures { λ r. ⌜ r ≡ nextStored units (now (parent .entry)) next ⌝ }
+{
+    let mut new = next;
+    let mut v = 0;
+    while v < units {
+        let x = in_by(parent, eldest, past, v);
+        let y = out_by(parent, eldest, later, v);
+        tables::put_pair(&mut new, v, x, y);
+        v += 1;
+    }
+    new
+}
+
+// Round one: the followers. They are the rule's wherever units and parents exist (NextLaws, next-exact).
+pub fn next_round(units: u16, parent: &[u16], next: [u16; 512]) -> [u16; 512]
+    ensures { λ r. ⌜ r ≡ nextStored units (now (parent .entry)) next ⌝ }
+{
+    if units > 256 {
+        return next_searched(units, parent, next);
+    }
+    let near = siblings::scan(units, parent);
+    let whole = near.whole;
+    if whole {
+        return next_scanned(units, parent, &near.eldest, &near.later, &near.past, next);
+    }
+    next_searched(units, parent, next)
+}
+
+// Whether the arc into `v` starts its list: by the buckets of first children. Where `v` has no parent nothing is said.
+fn is_start<'a>(units: u16, parent: &'a [u16], child: &'a [u16], v: u16) -> bool
+    ensures { λ r. ⌜ r ≡ startBy units (now (parent .entry)) (now (child .entry)) ABSENT v ⌝ }
+{
+    let p = tables::at(parent, v);
+    let eldest = firsts::first_by(units, parent, child, NONE, p);
     values::both(tables::at(parent, p) == NONE, eldest == v)
 }
 
 // The predecessor of the arc into `v`, from the buckets of followers.
-fn pred_in<'a>(
-    units: u16,
-    parent: &'a [u16],
-    child: &'a [u16],
-    lost: u16,
-    first: &'a [u16],
-    v: u16,
-) -> u16
-    ensures { λ r. ⌜ r ≡ predIn units (now (parent .entry)) (now (child .entry)) lost (now (first .entry)) v ⌝ }
+fn pred_in<'a>(units: u16, parent: &'a [u16], child: &'a [u16], first: &'a [u16], v: u16) -> u16
+    ensures { λ r. ⌜ r ≡ predIn units (now (parent .entry)) (now (child .entry)) ABSENT (now (first .entry)) v ⌝ }
 {
-    let starts = is_start(units, parent, child, lost, v);
+    let starts = is_start(units, parent, child, v);
     values::choose(
         values::both(tables::at(parent, v) != NONE, !starts),
         tables::into(first, v),
@@ -156,66 +218,53 @@ fn pred_out<'a>(parent: &'a [u16], first: &'a [u16], v: u16) -> u16
     )
 }
 
-// The predecessors, over a table.
-fn predecessors<'a>(units: u16, parent: &'a [u16], next: &'a [u16], old: [u16; 512]) -> [u16; 512]
-    ensures { λ r. ⌜ r ≡ over (2 * units) (Tour.predecessor units (now (parent .entry)) (now (next .entry))) old ⌝ }
-{
-    let child = firsts::firsts(units, parent);
-    let lost = firsts::first_at(units, parent, NONE);
-    let first = firsts::firsts(values::word_of(2 * (units as u32)), next);
-    let mut new = old;
-    let mut v = 0;
-    while v < units {
-        let x = pred_in(units, parent, &child, lost, &first, v);
-        let y = pred_out(parent, &first, v);
-        tables::put_pair(&mut new, v, x, y);
-        v += 1;
-    }
-    new
+// The predecessors, and the working predecessors that begin the first ranking: the same, over another table.
+pub struct PredRound {
+    pub pred: [u16; 512],
+    pub jump: [u16; 512],
 }
 
-// Round two: the predecessors.
+// Round two: both in one pass.
 pub fn pred_round<'a>(
     units: u16,
     parent: &'a [u16],
     next: &'a [u16],
     pred: [u16; 512],
-) -> [u16; 512]
-    ensures { λ r. ⌜ r ≡ Tour.predRound units (now (parent .entry)) (now (next .entry)) pred ⌝ }
-{
-    predecessors(units, parent, next, pred)
-}
-
-// Round two: the working predecessors of the first ranking are the same.
-pub fn first_jumps<'a>(
-    units: u16,
-    parent: &'a [u16],
-    next: &'a [u16],
     jump: [u16; 512],
-) -> [u16; 512]
-    ensures { λ r. ⌜ r ≡ Tour.firstJumps units (now (parent .entry)) (now (next .entry)) jump ⌝ }
+) -> PredRound
+    ensures preds { λ r. ⌜ r .pred ≡ Tour.predRound units (now (parent .entry)) (now (next .entry)) pred ⌝ }
+    ensures jumps { λ r. ⌜ r .jump ≡ Tour.firstJumps units (now (parent .entry)) (now (next .entry)) jump ⌝ }
 {
-    predecessors(units, parent, next, jump)
+    let child = buckets::fill(units, parent);
+    let first = buckets::fill(values::word_of(2 * (units as u32)), next);
+    let mut new_pred = pred;
+    let mut new_jump = jump;
+    let count = values::least_of(units, 256);
+    let mut v = 0;
+    while v < count {
+        let x = pred_in(units, parent, &child, &first, v);
+        let y = pred_out(parent, &first, v);
+        tables::put_pair(&mut new_pred, v, x, y);
+        tables::put_pair(&mut new_jump, v, x, y);
+        v += 1;
+    }
+    PredRound {
+        pred: new_pred,
+        jump: new_jump,
+    }
 }
 
-// 1 where an arc stands at `a`.
-fn first_sum(parent: &[u16], a: usize) -> u16
-    ensures { λ r. ⌜ r ≡ Tour.firstSum (now (parent .entry)) a ⌝ }
-{
-    values::choose(arcs::is_arc(parent, a), 1, 0)
-}
-
-// Round two: the sums that begin the first ranking.
+// Round two: the sums that begin the first ranking, 1 for each arc that stands.
 pub fn first_sums(units: u16, parent: &[u16], sum: [u16; 512]) -> [u16; 512]
     ensures { λ r. ⌜ r ≡ Tour.firstSums units (now (parent .entry)) sum ⌝ }
 {
-    let count = 2 * (units as usize);
     let mut new = sum;
-    let mut a = 0;
-    while a < count {
-        let x = first_sum(parent, a);
-        slices::put(&mut new, a, x);
-        a += 1;
+    let count = values::least_of(units, 256);
+    let mut v = 0;
+    while v < count {
+        let x = values::choose(tables::at(parent, v) != NONE, 1, 0);
+        tables::put_pair(&mut new, v, x, x);
+        v += 1;
     }
     new
 }

@@ -1,10 +1,11 @@
 // Stage 2: breadth first. One pass over the links gives each unit its candidate, one over the units both tables and the end.
+use super::within;
 use values::tables;
 ghost use mathlib.Core.Path.{_≡_};
 ghost use mathlib.Core.Bool.{cond, not};
-ghost use Prim.Native.Nat.{ℕ, _<_};
+ghost use Prim.Native.Nat.{ℕ, _<_, _≤_};
 ghost use lib.Dec.{eqb};
-ghost use lib.ListN.{getD};
+ghost use lib.ListN.{length, getD};
 ghost use Rattle.lists.specs.Tables.{over};
 ghost use Rattle.lists.specs.Folds.{some};
 ghost use Rattle.table.specs.Table.{maxUnits};
@@ -12,6 +13,7 @@ ghost use Rattle.rules.specs.Basics;
 ghost use Rattle.rules.specs.Tree.{visitedBefore, chosenParent, parentRound, distRound, treeEnds};
 ghost use Rattle.rules.specs.TreeLaws.{offered, offers, visitsBy, parentBy, distBy};
 ghost use Rattle.stages.specs.Chosen.{offersIf};
+ghost use Rattle.stages.specs.Near.{EndsWithin};
 
 const ABSENT: u16 = 65535;
 
@@ -44,19 +46,46 @@ fn offer_both(made: u16, dist: &[u16], a: u16, b: u16, cand: &mut [u16])
     tables::take_in(false, 256, cand, b, offer(made, dist, a));
 }
 
-// A link of `a` and `b`, passed over where neither has anything to offer, as most have in most rounds.
-fn offer_link(made: u16, dist: &[u16], a: u16, b: u16, cand: &mut [u16])
+// The same of a unit that exists.
+fn visited_near(made: u16, dist: &[u16], w: u16) -> bool
+    requires { ⌜ w < length (now dist) ⌝ }
+    ensures { λ r. ⌜ r ≡ visitedBefore made (now (dist .entry)) w ⌝ }
+{
+    let at = w as usize;
+    dist[at] == values::less(made, 1)
+}
+
+// A link of two units that exist, passed over where neither has anything to offer, as most have in most rounds.
+fn offer_near(made: u16, dist: &[u16], a: u16, b: u16, cand: &mut [u16])
+    requires { ⌜ (a < length (now dist)) × (b < length (now dist)) ⌝ }
     ensures { λ _. ⌜ now (cand .exit) ≡ offersIf made (now (dist .entry)) a b (now (cand .entry)) ⌝ }
 {
-    let from_a = was_visited(made, dist, a);
-    let from_b = was_visited(made, dist, b);
+    let from_a = visited_near(made, dist, a);
+    let from_b = visited_near(made, dist, b);
     if values::either(from_a, from_b) {
         offer_both(made, dist, a, b, cand);
     }
 }
 
-// The parent that each unit would take.
-fn chosen<'a>(links: u16, made: u16, ends: &'a [u16], dist: &'a [u16]) -> [u16; 256]
+// The parent that each unit would take, by links whose ends all exist.
+fn chosen_near<'a>(links: u16, made: u16, ends: &'a [u16], dist: &'a [u16]) -> [u16; 256]
+    requires { ⌜ (256 ≤ length (now dist)) × EndsWithin 256 links (now ends) ⌝ }
+    ensures { λ r. ⌜ ((v : ℕ) → v < maxUnits → getD r v 0 ≡ chosenParent links made (now (ends .entry)) (now (dist .entry)) v) ⌝ }
+{
+    let mut cand = tables::blank();
+    let mut j = 0;
+    while j < links {
+        let at = 2 * (j as usize);
+        let a = ends[at];
+        let b = ends[at + 1];
+        offer_near(made, dist, a, b, &mut cand);
+        j += 1;
+    }
+    cand
+}
+
+// The same by any links.
+fn chosen_any<'a>(links: u16, made: u16, ends: &'a [u16], dist: &'a [u16]) -> [u16; 256]
     ensures { λ r. ⌜ ((v : ℕ) → v < maxUnits → getD r v 0 ≡ chosenParent links made (now (ends .entry)) (now (dist .entry)) v) ⌝ }
 {
     let mut cand = tables::blank();
@@ -64,10 +93,23 @@ fn chosen<'a>(links: u16, made: u16, ends: &'a [u16], dist: &'a [u16]) -> [u16; 
     while j < links {
         let a = tables::end_a(ends, j);
         let b = tables::end_b(ends, j);
-        offer_link(made, dist, a, b, &mut cand);
+        offer_both(made, dist, a, b, &mut cand);
         j += 1;
     }
     cand
+}
+
+// The parent that each unit would take.
+fn chosen<'a>(links: u16, made: u16, ends: &'a [u16], dist: &'a [u16]) -> [u16; 256]
+    ensures { λ r. ⌜ ((v : ℕ) → v < maxUnits → getD r v 0 ≡ chosenParent links made (now (ends .entry)) (now (dist .entry)) v) ⌝ }
+{
+    if dist.len() < 256 {
+        return chosen_any(links, made, ends, dist);
+    }
+    if within::ends_within(256, links, ends) {
+        return chosen_near(links, made, ends, dist);
+    }
+    chosen_any(links, made, ends, dist)
 }
 
 // Whether unit `v` is visited in this round.

@@ -1,17 +1,19 @@
 -- The refusal of a round or a run by its two tests.
 use mathlib.Core.Path.{_≡_, refl, _∙_}
-use mathlib.Core.Bool.{true, false}
+use mathlib.Core.Bool.{Bool, true, false, not}
 use mathlib.Core.Logic.{_⊎_, inl, inr}
+use mathlib.Core.List.{[], _∷_}
 use Prim.Native.Nat.{ℕ}
 use native.Mathlib.Omega.{arith}
-use borrow.Author.Tests.{eq-eqb, ne-eqb}
+use lib.Dec.{eqb}
 use Rattle.lists.specs.Tests.{either}
+use Rattle.table.specs.Refusals.{firstOf}
 use Rattle.survey.specs.declared.state.Survey.{Survey}
 use Rattle.survey.specs.State.{finished, FINISHED}
 use Rattle.survey.specs.WellFormed.{wellFormed}
 use Rattle.survey.specs.Calls.{roundRefusal}
 
-pub refusal-malformed : (s : Survey) → wellFormed s ≡ false → 10 ≡ roundRefusal s
+refusal-malformed : (s : Survey) → wellFormed s ≡ false → 10 ≡ roundRefusal s
 unfolding roundRefusal
 refusal-malformed s w = rw w refl
 
@@ -23,11 +25,11 @@ refusal-going : (s : Survey) → wellFormed s ≡ true → finished s ≡ false 
 unfolding roundRefusal
 refusal-going s w f = rw (w, f) refl
 
-pub refusal-end : (s : Survey) → wellFormed s ≡ true → s .clock .stage ≡ FINISHED → 11 ≡ roundRefusal s
-refusal-end s w e = refusal-finished s w (eq-eqb (s .clock .stage) FINISHED e)
-
-pub refusal-none : (s : Survey) → wellFormed s ≡ true → (s .clock .stage ≡ FINISHED → ⊥) → 0 ≡ roundRefusal s
-refusal-none s w h = refusal-going s w (ne-eqb (s .clock .stage) FINISHED h)
+-- the refusal, from whether the state is well formed and its stage
+pub refusal-told : (s : Survey) (well : Bool) (k : ℕ) → well ≡ wellFormed s → k ≡ firstOf ((10, not well) ∷ (11, eqb (s .clock .stage) FINISHED) ∷ [])
+    → k ≡ roundRefusal s
+unfolding roundRefusal
+refusal-told s well k e told = rw (told, e)
 
 -- what is not refused is well formed and not finished
 pub accepted : (s : Survey) → roundRefusal s ≡ 0 → (wellFormed s ≡ true) × (finished s ≡ false)

@@ -50,8 +50,7 @@ fn range_begun<'a>(
     let big = group.big;
     let least = global.low;
     let greatest = global.high;
-    let lows = range::range_first(
-        false,
+    let round = range::range_first(
         units,
         links,
         ends,
@@ -59,25 +58,18 @@ fn range_begun<'a>(
         &order.nd,
         pre,
         low,
-        least,
-    );
-    let highs = range::range_first(
-        true,
-        units,
-        links,
-        ends,
-        parent,
-        &order.nd,
-        pre,
         high,
+        little,
+        big,
+        least,
         greatest,
     );
-    let new_little = range::little_first(units, &order.pre, little);
-    let new_big = range::big_first(units, &order.nd, &order.pre, big);
-    let new_low = lows.range;
-    let new_high = highs.range;
-    let new_least = lows.global;
-    let new_greatest = highs.global;
+    let new_low = round.low;
+    let new_high = round.high;
+    let new_little = round.little;
+    let new_big = round.big;
+    let new_least = round.least;
+    let new_greatest = round.greatest;
     RangeStep {
         range: Range {
             low: new_low,
@@ -103,20 +95,23 @@ fn range_doubled(units: u16, i: u16, group: Range, global: Global, after: Clock)
     let big = group.big;
     let least = global.low;
     let greatest = global.high;
-    let new_low = moves::range_later(false, i, units, &global.low, &group.little, &group.big, low);
-    let new_high = moves::range_later(
-        true,
+    let units_after = moves::units_later(
         i,
         units,
+        &global.low,
         &global.high,
-        &group.little,
-        &group.big,
+        low,
         high,
+        little,
+        big,
     );
-    let new_little = moves::little_later(i, units, &group.big, little);
-    let new_big = moves::big_later(i, units, &group.little, big);
-    let new_least = moves::global_later(false, i, units, least);
-    let new_greatest = moves::global_later(true, i, units, greatest);
+    let segments = moves::segments_later(i, units, least, greatest);
+    let new_low = units_after.low;
+    let new_high = units_after.high;
+    let new_little = units_after.little;
+    let new_big = units_after.big;
+    let new_least = segments.low;
+    let new_greatest = segments.high;
     RangeStep {
         range: Range {
             low: new_low,

@@ -2,7 +2,6 @@
 use super::clock;
 use super::state::Clock;
 use super::state::Survey;
-use super::state::Table;
 use values::bounds;
 ghost use mathlib.Core.Path.{_≡_};
 ghost use mathlib.Core.List.{[], _∷_};
@@ -11,33 +10,76 @@ ghost use lib.ListN.{length, take};
 ghost use Rattle.lists.specs.Folds.{every};
 ghost use Rattle.table.specs.Table.{tableRefusal};
 ghost use Rattle.rules.specs.Bounds.{nameOk, numberOk};
-ghost use Rattle.survey.specs.WellFormed.{tableOk, madeOk, clockOk, entriesOk, wellFormed};
+ghost use Rattle.survey.specs.WellFormed.{tableOk, madeOk, clockOk, wellFormed};
 
 const FINISHED: u16 = 11;
 
 impl Survey {
+    // The tables are judged where they stand, without a copy of the state.
     pub fn well_formed(self) -> bool
         ensures { λ r. ⌜ r ≡ wellFormed self ⌝ }
     {
-        let t = self.table;
-        if !table_ok(t) {
+        let units = self.table.units;
+        let links = self.table.links;
+        if !table_ok(units, links, &self.table.ends) {
             return false;
         }
         // Only a table that passes has units few enough for ceilings.
-        if !clock_ok(t.units, self.clock) {
+        if !clock_ok(units, self.clock) {
             return false;
         }
-        entries_ok(self)
+        let count = units as u32;
+        let positions = links as u32;
+        let ends = bounds::names_ok(count, &self.table.ends);
+        let named = four_ok(
+            count,
+            &self.components.color,
+            &self.tree.parent,
+            &self.aux.color,
+            &self.labels.class,
+        );
+        let arcs = three_ok(
+            2 * count,
+            &self.tour.next,
+            &self.tour.pred,
+            &self.ranking.jump,
+        );
+        let labels = bounds::names_ok(positions, &self.labels.label);
+        let dists = bounds::dists_ok(&self.tree.dist);
+        let sums = numbers_ok(
+            &self.ranking.sum,
+            &self.order.forward,
+            &self.order.nd,
+            &self.order.pre,
+        );
+        let ranges = numbers_ok(
+            &self.range.low,
+            &self.range.high,
+            &self.range.little,
+            &self.range.big,
+        );
+        let joins = numbers_ok(
+            &self.global.low,
+            &self.global.high,
+            &self.aux.parents,
+            &self.aux.links,
+        );
+        let names = values::both(values::both(values::both(ends, named), arcs), labels);
+        values::both(
+            values::both(names, dists),
+            values::both(sums, values::both(ranges, joins)),
+        )
     }
 }
 
-fn table_ok(table: Table) -> bool
-    ensures { λ r. ⌜ r ≡ tableOk table ⌝ }
+fn table_ok(units: u16, links: u16, ends: &[u16]) -> bool
+    requires { ⌜ length (now ends) ≡ 2048 ⌝ }
+    ensures { λ r. ⌜ r ≡ tableOk (record { units = units; links = links; ends = now (ends .entry) }) ⌝ }
 {
-    if 1024 < table.links {
+    if 1024 < links {
         return false;
     }
-    refusal_of(table.units, 2 * (table.links as usize), &table.ends) == 0
+    refusal_of(units, 2 * (links as usize), ends) == 0
 }
 
 // The number of the first check that the first words fail.
@@ -73,32 +115,6 @@ fn made_ok(units: u16, c: Clock) -> bool
     } else {
         c.made < clock::ceiling(units, c.stage)
     }
-}
-
-fn entries_ok(s: Survey) -> bool
-    ensures { λ r. ⌜ r ≡ entriesOk s ⌝ }
-{
-    let units = s.table.units as u32;
-    let links = s.table.links as u32;
-    let ends = bounds::names_ok(units, &s.table.ends);
-    let named = four_ok(
-        units,
-        &s.components.color,
-        &s.tree.parent,
-        &s.aux.color,
-        &s.labels.class,
-    );
-    let arcs = three_ok(2 * units, &s.tour.next, &s.tour.pred, &s.ranking.jump);
-    let labels = bounds::names_ok(links, &s.labels.label);
-    let dists = bounds::dists_ok(&s.tree.dist);
-    let sums = numbers_ok(&s.ranking.sum, &s.order.forward, &s.order.nd, &s.order.pre);
-    let ranges = numbers_ok(&s.range.low, &s.range.high, &s.range.little, &s.range.big);
-    let joins = numbers_ok(&s.global.low, &s.global.high, &s.aux.parents, &s.aux.links);
-    let names = values::both(values::both(values::both(ends, named), arcs), labels);
-    values::both(
-        values::both(names, dists),
-        values::both(sums, values::both(ranges, joins)),
-    )
 }
 
 // Every entry of three tables names one of `count` things or is absent.

@@ -5,17 +5,20 @@ use super::reply::Reply;
 use super::state::Survey;
 use super::tree_rounds;
 ghost use mathlib.Core.Path.{_≡_};
-ghost use mathlib.Core.Bool.{true};
+ghost use mathlib.Core.Bool.{true, not};
+ghost use mathlib.Core.List.{[], _∷_};
+ghost use lib.Dec.{eqb};
+ghost use Rattle.table.specs.Refusals.{firstOf};
 ghost use Rattle.survey.specs.WellFormed.{wellFormed};
 ghost use Rattle.survey.specs.Run.{ran};
-ghost use Rattle.survey.specs.Calls.{roundRefusal, roundAnswer, runAnswer};
+ghost use Rattle.survey.specs.Calls.{roundAnswer, runAnswer};
 
 impl Survey {
     // One round: 10, 11.
     pub fn round(self) -> Answer
         ensures { λ r. ⌜ r ≡ roundAnswer self ⌝ }
     {
-        let refused = refusal(self);
+        let refused = refusal(self.well_formed(), self.clock.stage);
         if refused != 0 {
             return Answer {
                 survey: self,
@@ -34,7 +37,7 @@ impl Survey {
     pub fn run(self, budget: u16) -> Answer
         ensures { λ r. ⌜ r ≡ runAnswer budget self ⌝ }
     {
-        let refused = refusal(self);
+        let refused = refusal(self.well_formed(), self.clock.stage);
         if refused != 0 {
             return Answer {
                 survey: self,
@@ -50,16 +53,14 @@ impl Survey {
     }
 }
 
-fn refusal(s: Survey) -> u8
-    ensures { λ r. ⌜ r ≡ roundRefusal s ⌝ }
+// The number of the first cause, given whether the state is well formed and its stage.
+fn refusal(well: bool, stage: u16) -> u8
+    ensures { λ r. ⌜ r ≡ firstOf ((10, not well) ∷ (11, eqb stage 11) ∷ []) ⌝ }
 {
-    if !s.well_formed() {
+    if !well {
         return 10;
     }
-    if s.clock.stage == 11 {
-        return 11;
-    }
-    0
+    if stage == 11 { 11 } else { 0 }
 }
 
 // The state after a run, and the rounds made.

@@ -122,11 +122,15 @@ pub(crate) fn tour_step(
     }
     let jump = ranking.jump;
     let sum = ranking.sum;
-    let new = tour::pred_round(units, parent, &group.next, pred);
-    let new_jump = tour::first_jumps(units, parent, &group.next, jump);
+    let new = tour::pred_round(units, parent, &group.next, pred, jump);
     let new_sum = tour::first_sums(units, parent, sum);
+    let new_pred = new.pred;
+    let new_jump = new.jump;
     TourStep {
-        tour: Tour { next, pred: new },
+        tour: Tour {
+            next,
+            pred: new_pred,
+        },
         ranking: Ranking {
             jump: new_jump,
             sum: new_sum,
@@ -151,8 +155,9 @@ fn doubled(units: u16, group: Ranking) -> Ranking
     let count = 2 * (units as usize);
     let jump = group.jump;
     let sum = group.sum;
-    let new_sum = ranking::sum_round(count, &group.jump, sum);
-    let new_jump = ranking::jump_round(count, jump);
+    let new = ranking::ranking_round(count, jump, sum);
+    let new_jump = new.jump;
+    let new_sum = new.sum;
     Ranking {
         jump: new_jump,
         sum: new_sum,

@@ -1,22 +1,24 @@
--- The search for a repeated link by marks: a place for each pair of units, marked both ways round for each link passed.
+-- The search for a repeated link by marks: a bit for each pair of units, the lesser first, set for each link passed.
 use mathlib.Core.Bool.{Bool, false, not, _||_}
 use mathlib.Core.List.{List, [], _∷_}
-use Prim.Native.Nat.{ℕ, _+_, _*_}
+use Prim.Native.Nat.{ℕ, _+_, _*_, _/_, _%_, _^_, min, max}
+use lib.Bits.{bitAnd, bitOr}
 use lib.Dec.{eqb}
 use lib.ListN.{getD, set}
 
 -- the place of a pair of units
 abbrev pub pairAt : ℕ → ℕ → ℕ
-pairAt a b = 256 * a + b
+pairAt a b = 256 * min a b + max a b
 
-unfoldable pub marked : List ℕ → ℕ → ℕ → Bool
-marked marks a b = not (eqb (getD marks (pairAt a b) 0) 0)
+-- bit p % 8 of byte p / 8 is set
+unfoldable pub marked : List ℕ → ℕ → Bool
+marked marks p = not (eqb (bitAnd (getD marks (p / 8) 0 / 2 ^ (p % 8)) 1) 0)
 
-unfoldable pub mark : List ℕ → ℕ → ℕ → List ℕ
-mark marks a b = set (set marks (pairAt a b) 1) (pairAt b a) 1
+unfoldable pub mark : List ℕ → ℕ → List ℕ
+mark marks p = set marks (p / 8) (bitOr (getD marks (p / 8) 0) (1 * 2 ^ (p % 8) % 256))
 
 -- some link of the table is marked when its turn comes
 unfoldable pub foundFrom : List ℕ → List ℕ → Bool
 foundFrom marks [] = false
 foundFrom marks (a ∷ []) = false
-foundFrom marks (a ∷ b ∷ t) = let later = foundFrom (mark marks a b) t in marked marks a b || later
+foundFrom marks (a ∷ b ∷ t) = let later = foundFrom (mark marks (pairAt a b)) t in marked marks (pairAt a b) || later

@@ -1,15 +1,15 @@
 -- The tests of a table from a place on, as a loop along the table meets them.
-use mathlib.Core.Path.{_≡_, refl}
-use mathlib.Core.Bool.{true, false}
+use mathlib.Core.Path.{_≡_, refl, sym}
+use mathlib.Core.Bool.{Bool, true, false, _||_}
 use mathlib.Core.Logic.{_⊎_, inl, inr}
 use mathlib.Core.List.{List, [], _∷_}
 use Prim.Native.Nat.{ℕ, suc, _+_, _*_, _≤_, _<_}
 use native.Mathlib.Omega.{arith}
 use lib.Dec.{leb, eqb}
 use lib.ListN.{length, getD, drop, drop-of-length-le, length-drop}
-use borrow.Author.Tests.{le-leb, lt-leb, leb-false, lt-ltb, le-ltb, eq-eqb, ne-eqb}
+use borrow.Author.Tests.{lt-leb, leb-false, lt-ltb, le-ltb, eq-eqb, ne-eqb}
 use Rattle.lists.specs.Rests.{rest-one, rest-two}
-use Rattle.lists.specs.Bools.{or-all, or-false-left, or-false-right}
+use Rattle.lists.specs.Bools.{or-all, or-assoc, or-false-left, or-false-right}
 use Rattle.table.specs.Table.{maxUnits, endA, endB, badUnitCount, oddWords, tooManyLinks, endMissing, equalEnds, repeatedLink, tableRefusal}
 
 -- ---- a link more at the front
@@ -22,14 +22,11 @@ endB-later a b t j = let e : 2 * suc j + 1 ≡ suc (suc (2 * j + 1)) = omega ari
 
 -- ---- an end that is n or more
 
-pub endMissing-here : (n : ℕ) (t : List ℕ) (i : ℕ) → i < length t → n ≤ getD t i 0 → endMissing n (drop i t) ≡ true
+-- the end at `i` is looked at
+pub endMissing-next : (n : ℕ) (t : List ℕ) (i : ℕ) (missing : Bool) → i < length t
+    → (missing || endMissing n (drop i t)) ≡ ((missing || leb n (getD t i 0)) || endMissing n (drop (i + 1) t))
 unfolding endMissing
-endMissing-here n t i h l = rw (rest-one t i 0 h, le-leb n (getD t i 0) l)
-
-pub endMissing-later : (n : ℕ) (t : List ℕ) (i : ℕ) → i < length t → getD t i 0 < n
-    → endMissing n (drop i t) ≡ endMissing n (drop (i + 1) t)
-unfolding endMissing
-endMissing-later n t i h l = rw (rest-one t i 0 h, lt-leb n (getD t i 0) l)
+endMissing-next n t i missing h = rw (rest-one t i 0 h) (sym (or-assoc missing (leb n (getD t i 0)) (endMissing n (drop (i + 1) t))))
 
 pub endMissing-end : (n : ℕ) (t : List ℕ) (i : ℕ) → length t ≤ i → endMissing n (drop i t) ≡ false
 unfolding endMissing
@@ -37,14 +34,12 @@ endMissing-end n t i h = rw (drop-of-length-le t h)
 
 -- ---- equal ends
 
-pub equalEnds-here : (t : List ℕ) (i : ℕ) → i + 1 < length t → getD t i 0 ≡ getD t (i + 1) 0 → equalEnds (drop i t) ≡ true
+-- the link at `i` is looked at
+pub equalEnds-next : (t : List ℕ) (i : ℕ) (equal : Bool) → i + 1 < length t
+    → (equal || equalEnds (drop i t)) ≡ ((equal || eqb (getD t i 0) (getD t (i + 1) 0)) || equalEnds (drop (i + 2) t))
 unfolding equalEnds
-equalEnds-here t i h e = rw (rest-two t i 0 h, eq-eqb (getD t i 0) (getD t (i + 1) 0) e)
-
-pub equalEnds-later : (t : List ℕ) (i : ℕ) → i + 1 < length t → (getD t i 0 ≡ getD t (i + 1) 0 → ⊥)
-    → equalEnds (drop i t) ≡ equalEnds (drop (i + 2) t)
-unfolding equalEnds
-equalEnds-later t i h n = rw (rest-two t i 0 h, ne-eqb (getD t i 0) (getD t (i + 1) 0) n)
+equalEnds-next t i equal h =
+    rw (rest-two t i 0 h) (sym (or-assoc equal (eqb (getD t i 0) (getD t (i + 1) 0)) (equalEnds (drop (i + 2) t))))
 
 equalEnds-short : (t : List ℕ) → length t ≤ 1 → equalEnds t ≡ false
 unfolding equalEnds

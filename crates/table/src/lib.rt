@@ -1,6 +1,6 @@
 // The checks 4 to 9 on a lent table of links.
 ghost use mathlib.Core.Path.{_≡_};
-ghost use mathlib.Core.Bool.{false};
+ghost use mathlib.Core.Bool.{false, _||_};
 ghost use Rattle.table.specs.Table.{endMissing, equalEnds, repeatedLink, tableRefusal};
 
 mod marks;
@@ -38,38 +38,43 @@ pub fn refusal(units: u16, table: &[u16]) -> u8
     0
 }
 
-// Whether an end is `units` or more.
+// One of the tests holds.
+fn either(x: bool, y: bool) -> bool
+    ensures { λ r. ⌜ r ≡ (x || y) ⌝ }
+{
+    if x { true } else { y }
+}
+
+// Whether an end is `units` or more. Every end is looked at: a loop without a way out is taken several words at a time.
 fn end_missing(units: u16, table: &[u16]) -> bool
     ensures { λ r. ⌜ r ≡ endMissing units (now (table .entry)) ⌝ }
 {
+    let mut missing = false;
     let mut i = 0;
     while i < table.len() {
-        if units <= table[i] {
-            return true;
-        }
+        missing = either(missing, units <= table[i]);
         i += 1;
     }
-    false
+    missing
 }
 
 // Whether a link has equal ends.
 fn equal_ends(table: &[u16]) -> bool
     ensures { λ r. ⌜ r ≡ equalEnds (now (table .entry)) ⌝ }
 {
+    let mut equal = false;
     let mut i = 0;
     while i + 1 < table.len() {
-        if table[i] == table[i + 1] {
-            return true;
-        }
+        equal = either(equal, table[i] == table[i + 1]);
         i += 2;
     }
-    false
+    equal
 }
 
 // Whether two links join the same two units, for ends below 256.
 fn repeated(table: &[u16]) -> bool
     ensures { λ r. ⌜ (endMissing 256 (now (table .entry)) ≡ false → r ≡ repeatedLink (now (table .entry))) ⌝ }
 {
-    let mut blank = [0u8; 65536];
+    let mut blank = [0u8; 8192];
     marks::found(table, &mut blank)
 }

@@ -1,20 +1,31 @@
-// Repeated links by marks, in time linear in the links: the definitions are in specs/Marks.antt.
+// Repeated links by marks, a bit a pair, in time linear in the links: the definitions are in specs/Marks.antt.
 ghost use mathlib.Core.Path.{_≡_};
-ghost use Rattle.table.specs.Marks.{marked, mark, foundFrom};
+ghost use Rattle.table.specs.Marks.{pairAt, marked, mark, foundFrom};
 
-// Whether the pair is marked.
-fn is_marked(marks: &[u8], a: u16, b: u16) -> bool
-    ensures { λ r. ⌜ r ≡ marked (now (marks .entry)) a b ⌝ }
+// The place of a pair of units, the lesser first.
+fn pair_at(a: u16, b: u16) -> usize
+    ensures { λ r. ⌜ r ≡ pairAt a b ⌝ }
 {
-    slices::byte(marks, 256 * (a as usize) + b as usize) != 0
+    if a < b {
+        256 * (a as usize) + b as usize
+    } else {
+        256 * (b as usize) + a as usize
+    }
 }
 
-// Marks the pair both ways round.
-fn set_mark(marks: &mut [u8], a: u16, b: u16)
-    ensures { λ _. ⌜ now (marks .exit) ≡ mark (now (marks .entry)) a b ⌝ }
+// Whether the pair at `p` is marked.
+fn is_marked(marks: &[u8], p: usize) -> bool
+    ensures { λ r. ⌜ r ≡ marked (now (marks .entry)) p ⌝ }
 {
-    slices::put_byte(marks, 256 * (a as usize) + b as usize, 1);
-    slices::put_byte(marks, 256 * (b as usize) + a as usize, 1);
+    (slices::byte(marks, p / 8) >> ((p % 8) as u8)) & 1 != 0
+}
+
+// Marks the pair at `p`.
+fn set_mark(marks: &mut [u8], p: usize)
+    ensures { λ _. ⌜ now (marks .exit) ≡ mark (now (marks .entry)) p ⌝ }
+{
+    let old = slices::byte(marks, p / 8);
+    slices::put_byte(marks, p / 8, old | (1u8 << ((p % 8) as u8)));
 }
 
 // Whether some link is marked when its turn comes; leaves at the first.
@@ -23,12 +34,11 @@ pub(crate) fn found(table: &[u16], marks: &mut [u8]) -> bool
 {
     let mut i = 0;
     while i + 1 < table.len() {
-        let a = table[i];
-        let b = table[i + 1];
-        if is_marked(marks, a, b) {
+        let p = pair_at(table[i], table[i + 1]);
+        if is_marked(marks, p) {
             return true;
         }
-        set_mark(marks, a, b);
+        set_mark(marks, p);
         i += 2;
     }
     false

@@ -2,7 +2,6 @@
 ghost use mathlib.Core.Path.{_≡_};
 ghost use Rattle.rules.specs.Basics.{offTree};
 ghost use Rattle.rules.specs.Tour.{isArc};
-ghost use Rattle.rules.specs.Order.{reverseArc};
 
 const ABSENT: u16 = 65535;
 
@@ -21,11 +20,4 @@ pub fn off_tree(parent: &[u16], a: u16, b: u16) -> bool
         super::tables::at(parent, a) != b,
         super::tables::at(parent, b) != a,
     )
-}
-
-// The other arc of the pair.
-pub fn reverse(a: usize) -> usize
-    ensures { λ r. ⌜ r ≡ reverseArc a ⌝ }
-{
-    if a % 2 == 0 { a + 1 } else { a - 1 }
 }

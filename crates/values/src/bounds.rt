@@ -2,46 +2,39 @@
 ghost use mathlib.Core.Path.{_≡_};
 ghost use Rattle.lists.specs.Folds.{every};
 ghost use Rattle.rules.specs.Bounds.{nameOk, numberOk, distOk};
-ghost use Rattle.rules.specs.BoundsLaws.{within};
+ghost use Rattle.values.specs.Tops.{topOf};
 
-// Whether `x` is below `bound`, or absent where that is allowed.
-fn is_within(bound: u32, absent: bool, x: u16) -> bool
-    ensures { λ r. ⌜ r ≡ within bound absent x ⌝ }
+// The greatest entry, each raised by `more`: by 1 an absent one becomes 0. A loop without a way out is taken several words at a time.
+fn top(more: u16, t: &[u16]) -> u16
+    ensures { λ r. ⌜ r ≡ topOf more (now (t .entry)) ⌝ }
 {
-    super::either((x as u32) < bound, super::both(absent, x == 65535))
-}
-
-// Whether every entry is.
-fn all_within(bound: u32, absent: bool, t: &[u16]) -> bool
-    ensures { λ r. ⌜ r ≡ every (within bound absent) (now (t .entry)) ⌝ }
-{
+    let mut greatest = 0;
     let mut i = 0;
     while i < t.len() {
-        if !is_within(bound, absent, t[i]) {
-            return false;
-        }
+        let x = std::num::wrapping_add_u16(t[i], more);
+        greatest = super::greatest_of(greatest, x);
         i += 1;
     }
-    true
+    greatest
 }
 
 // Every entry names one of `count` things that exist, or is absent.
 pub fn names_ok(count: u32, t: &[u16]) -> bool
     ensures { λ r. ⌜ r ≡ every (nameOk count) (now (t .entry)) ⌝ }
 {
-    all_within(count, true, t)
+    (top(1, t) as u32) <= count
 }
 
 // No entry exceeds 2,048.
 pub fn numbers_ok(t: &[u16]) -> bool
     ensures { λ r. ⌜ r ≡ every numberOk (now (t .entry)) ⌝ }
 {
-    all_within(2049, false, t)
+    top(0, t) <= 2048
 }
 
 // No entry exceeds 2,048 that is not absent.
 pub fn dists_ok(t: &[u16]) -> bool
     ensures { λ r. ⌜ r ≡ every distOk (now (t .entry)) ⌝ }
 {
-    all_within(2049, true, t)
+    top(1, t) <= 2049
 }

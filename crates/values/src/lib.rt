@@ -130,10 +130,3 @@ pub fn index(x: u16) -> usize
 {
     x as usize
 }
-
-// 1 where the test holds, else 0: one more to a count.
-pub fn one_if(test: bool) -> usize
-    ensures { λ r. ⌜ r ≡ cond test 1 0 ⌝ }
-{
-    if test { 1 } else { 0 }
-}

@@ -1,35 +1,22 @@
 -- By the three tests in order.
-use mathlib.Core.Path.{sym, _∙_}
-use borrow.Author.Tests.{not-true, not-false}
+use mathlib.Core.Path.{refl}
+use borrow.Author.Tests.{not-true, not-false, eq-eqb, ne-eqb, lt-ltb, le-ltb}
 use borrow.Author.Needs.{needs}
-use Rattle.calls.specs.AskLaws.{report-malformed, report-early, report-short, report-none}
+use Rattle.survey.specs.Report.{reportLength}
 use Rattle.calls.proofs.report_refusal.Statement.{statement}
 use Rattle.calls.proofs.report_refusal.Tie as tie
 
-well-formed-requires : tie.Need-well-formed-requires
-well-formed-requires c κs = search needs
-
 returns : tie.Need-returns
-returns c =
-    let w = c .before in
-    report-malformed (w .before .args .s) _ (sym (w .well-formed .ensures) ∙ not-true _ (c .if1 .taken))
+returns c = rw (not-true (c .before .args .well) (c .if1 .taken)) refl
 
 returns-2 : tie.Need-returns-2
-returns-2 c =
-    let w = c .before .before .before in
-    report-early (w .before .args .s) _ (sym (w .well-formed .ensures) ∙ not-false _ (c .before .before .if1 .left)) (c .if2 .taken)
-
-cast-if3 : tie.Need-cast-if3
-cast-if3 c = search needs
+returns-2 c = rw (not-false (c .before .before .args .well) (c .before .if1 .left), ne-eqb (c .before .before .args .stage) 11 (c .if2 .taken)) refl
 
 mul-if3 : tie.Need-mul-if3
 mul-if3 c = search needs
 
 add-if3 : tie.Need-add-if3
 add-if3 c = search needs
-
-cast-if3-2 : tie.Need-cast-if3-2
-cast-if3-2 c = search needs
 
 mul-if3-2 : tie.Need-mul-if3-2
 mul-if3-2 c = search needs
@@ -39,26 +26,14 @@ add-if3-2 c = search needs
 
 returns-3 : tie.Need-returns-3
 returns-3 c =
-    let w = c .before .before .before .before .before .before in
-    report-short (w .before .args .s) _ (sym (w .well-formed .ensures) ∙ not-false _ (c .before .before .before .before .before .if1 .left)) (c .before .before .before .if2 .left) (c .if3 .taken)
+    let a = c .before .before .before .args in
+    rw (not-false (a .well) (c .before .before .if1 .left), eq-eqb (a .stage) 11 (c .before .if2 .left), lt-ltb (a .places) (reportLength (a .units) (a .links)) (c .if3 .taken)) refl
 
 returns-4 : tie.Need-returns-4
 returns-4 c =
-    let w = c .before .before .before .before .before .before in
-    report-none (w .before .args .s) _ (sym (w .well-formed .ensures) ∙ not-false _ (c .before .before .before .before .before .if1 .left)) (c .before .before .before .if2 .left) (c .if3 .left)
+    let a = c .before .before .before .args in
+    rw (not-false (a .well) (c .before .before .if1 .left), eq-eqb (a .stage) 11 (c .before .if2 .left), le-ltb (a .places) (reportLength (a .units) (a .links)) (c .if3 .left)) refl
 
 pub report-refusal-spec : {M : Type 1} → statement M
 report-refusal-spec =
-    tie.close
-    (tie.spec
-    well-formed-requires
-    returns
-    returns-2
-    cast-if3
-    mul-if3
-    add-if3
-    cast-if3-2
-    mul-if3-2
-    add-if3-2
-    returns-3
-    returns-4)
+    tie.close (tie.spec returns returns-2 mul-if3 add-if3 mul-if3-2 add-if3-2 returns-3 returns-4)

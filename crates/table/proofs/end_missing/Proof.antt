@@ -1,33 +1,32 @@
--- The test from `i` on is the test of the whole table: each end passed is below `units`.
-use mathlib.Core.Path.{_≡_, refl, sym, _∙_}
+-- What the ends passed say, or the test from `i` on, is the test of the whole table.
+use mathlib.Core.Path.{_≡_, refl, sym, ap, _∙_}
+use mathlib.Core.Bool.{_||_}
 use Prim.Native.Nat.{_≤_, _-_}
-use native.Mathlib.Omega.{arith}
 use lib.ListN.{length, drop}
-use borrow.Author.Needs.{needs}
+use Rattle.lists.specs.Bools.{or-none}
 use Rattle.table.specs.Table.{endMissing}
-use Rattle.table.specs.TableLaws.{endMissing-here, endMissing-later, endMissing-end}
+use Rattle.table.specs.TableLaws.{endMissing-next, endMissing-end}
+use borrow.Author.Needs.{needs}
 use Rattle.table.proofs.end_missing.Statement.{statement}
 use Rattle.table.proofs.end_missing.Tie as tie
 
 abbrev Inv-loop : tie.InvT-loop
-Inv-loop units table i₀ i = (i ≤ length table) × (endMissing units table ≡ endMissing units (drop i table))
+Inv-loop units table missing₀ i₀ missing i = (i ≤ length table) × (endMissing units table ≡ (missing || endMissing units (drop i table)))
 
 abbrev μ-loop : tie.MeasureT-loop
-μ-loop units table i₀ i = length table - i
+μ-loop units table missing₀ i₀ missing i = length table - i
 
 loop-holds : tie.Need-loop-holds Inv-loop μ-loop
-loop-holds c = (omega arith, refl)
+loop-holds c = (search needs, refl)
 
-mul-if1 : tie.Need-mul-if1 Inv-loop μ-loop
-mul-if1 c = search needs
+mul-either : tie.Need-mul-either Inv-loop μ-loop
+mul-either c = search needs
 
-shared-slice-read-if1 : tie.Need-shared-slice-read-if1 Inv-loop μ-loop
-shared-slice-read-if1 c = search needs
+shared-slice-read-either : tie.Need-shared-slice-read-either Inv-loop μ-loop
+shared-slice-read-either c = search needs
 
-returns : tie.Need-returns Inv-loop μ-loop
-returns c =
-    let s = c .before .before .before in
-    sym (s .loop .inv .1 ∙ endMissing-here (s .before .args .units) (s .before .args .table .now) (s .loop .i) (search needs) (c .if1 .taken))
+either-requires : tie.Need-either-requires Inv-loop μ-loop
+either-requires c κs = search needs
 
 add-i : tie.Need-add-i Inv-loop μ-loop
 add-i c = search needs
@@ -37,15 +36,18 @@ loop-less c = search needs
 
 loop-again : tie.Need-loop-again Inv-loop μ-loop
 loop-again c =
-    let s = c .before .before .before in (
-      search needs,
-      s .loop .inv .1 ∙ endMissing-later (s .before .args .units) (s .before .args .table .now) (s .loop .i) (search needs) (c .if1 .left),
-    )
+    let s = c .before .before .before in
+    let a = s .before .before .args in
+    (search needs, s .loop .inv .1 ∙ endMissing-next (a .units) (a .table .now) (s .loop .i) (s .loop .missing) (search needs) ∙ cc)
 
-returns-2 : tie.Need-returns-2 Inv-loop μ-loop
-returns-2 c =
+returns : tie.Need-returns Inv-loop μ-loop
+returns c =
     let s = c .before in
-    sym (s .loop .inv .1 ∙ endMissing-end (s .before .args .units) (s .before .args .table .now) (s .loop .i) (c .loop-test .left))
+    let a = s .before .before .args in
+    sym
+    (s .loop .inv .1
+    ∙ ap (λ (x : _). s .loop .missing || x) (endMissing-end (a .units) (a .table .now) (s .loop .i) (c .loop-test .left))
+    ∙ or-none (s .loop .missing))
 
 pub end-missing-spec : {M : Type 1} → statement M
 end-missing-spec =
@@ -54,10 +56,10 @@ end-missing-spec =
     Inv-loop
     μ-loop
     loop-holds
-    mul-if1
-    shared-slice-read-if1
-    returns
+    mul-either
+    shared-slice-read-either
+    either-requires
     add-i
     loop-less
     loop-again
-    returns-2)
+    returns)

@@ -1,45 +1,44 @@
--- The test from `i` on is the test of the whole table: each link passed has two different ends.
-use mathlib.Core.Path.{_≡_, refl, sym, _∙_}
+-- What the links passed say, or the test from `i` on, is the test of the whole table.
+use mathlib.Core.Path.{_≡_, refl, sym, ap, _∙_}
+use mathlib.Core.Bool.{_||_}
 use Prim.Native.Nat.{_≤_, _-_}
-use native.Mathlib.Omega.{arith}
 use lib.ListN.{length, drop}
-use borrow.Author.Needs.{needs}
+use Rattle.lists.specs.Bools.{or-none}
 use Rattle.table.specs.Table.{equalEnds}
-use Rattle.table.specs.TableLaws.{equalEnds-here, equalEnds-later, equalEnds-end}
+use Rattle.table.specs.TableLaws.{equalEnds-next, equalEnds-end}
+use borrow.Author.Needs.{needs}
 use Rattle.table.proofs.equal_ends.Statement.{statement}
 use Rattle.table.proofs.equal_ends.Tie as tie
 
 abbrev Inv-loop : tie.InvT-loop
-Inv-loop table i₀ i = (i ≤ length table) × (equalEnds table ≡ equalEnds (drop i table))
+Inv-loop table equal₀ i₀ equal i = (i ≤ length table) × (equalEnds table ≡ (equal || equalEnds (drop i table)))
 
 abbrev μ-loop : tie.MeasureT-loop
-μ-loop table i₀ i = length table - i
+μ-loop table equal₀ i₀ equal i = length table - i
 
 loop-holds : tie.Need-loop-holds Inv-loop μ-loop
-loop-holds c = (omega arith, refl)
+loop-holds c = (search needs, refl)
 
 add-loop : tie.Need-add-loop Inv-loop μ-loop
 add-loop c = search needs
 
-mul-if1 : tie.Need-mul-if1 Inv-loop μ-loop
-mul-if1 c = search needs
+mul-either : tie.Need-mul-either Inv-loop μ-loop
+mul-either c = search needs
 
-shared-slice-read-if1 : tie.Need-shared-slice-read-if1 Inv-loop μ-loop
-shared-slice-read-if1 c = search needs
+shared-slice-read-either : tie.Need-shared-slice-read-either Inv-loop μ-loop
+shared-slice-read-either c = search needs
 
-add-if1 : tie.Need-add-if1 Inv-loop μ-loop
-add-if1 c = search needs
+add-either : tie.Need-add-either Inv-loop μ-loop
+add-either c = search needs
 
-mul-if1-2 : tie.Need-mul-if1-2 Inv-loop μ-loop
-mul-if1-2 c = search needs
+mul-either-2 : tie.Need-mul-either-2 Inv-loop μ-loop
+mul-either-2 c = search needs
 
-shared-slice-read-if1-2 : tie.Need-shared-slice-read-if1-2 Inv-loop μ-loop
-shared-slice-read-if1-2 c = search needs
+shared-slice-read-either-2 : tie.Need-shared-slice-read-either-2 Inv-loop μ-loop
+shared-slice-read-either-2 c = search needs
 
-returns : tie.Need-returns Inv-loop μ-loop
-returns c =
-    let s = c .before .before .before .before in
-    sym (s .loop .inv .1 ∙ equalEnds-here (s .before .args .table .now) (s .loop .i) (search needs) (c .if1 .taken))
+either-requires : tie.Need-either-requires Inv-loop μ-loop
+either-requires c κs = search needs
 
 add-i : tie.Need-add-i Inv-loop μ-loop
 add-i c = search needs
@@ -50,12 +49,17 @@ loop-less c = search needs
 loop-again : tie.Need-loop-again Inv-loop μ-loop
 loop-again c =
     let s = c .before .before .before .before in
-    (search needs, s .loop .inv .1 ∙ equalEnds-later (s .before .args .table .now) (s .loop .i) (search needs) (c .if1 .left))
+    let a = s .before .before .args in
+    (search needs, s .loop .inv .1 ∙ equalEnds-next (a .table .now) (s .loop .i) (s .loop .equal) (search needs) ∙ cc)
 
-returns-2 : tie.Need-returns-2 Inv-loop μ-loop
-returns-2 c =
+returns : tie.Need-returns Inv-loop μ-loop
+returns c =
     let s = c .before in
-    sym (s .loop .inv .1 ∙ equalEnds-end (s .before .args .table .now) (s .loop .i) (c .loop-test .left))
+    let a = s .before .before .args in
+    sym
+    (s .loop .inv .1
+    ∙ ap (λ (x : _). s .loop .equal || x) (equalEnds-end (a .table .now) (s .loop .i) (c .loop-test .left))
+    ∙ or-none (s .loop .equal))
 
 pub equal-ends-spec : {M : Type 1} → statement M
 equal-ends-spec =
@@ -65,13 +69,13 @@ equal-ends-spec =
     μ-loop
     loop-holds
     add-loop
-    mul-if1
-    shared-slice-read-if1
-    add-if1
-    mul-if1-2
-    shared-slice-read-if1-2
-    returns
+    mul-either
+    shared-slice-read-either
+    add-either
+    mul-either-2
+    shared-slice-read-either-2
+    either-requires
     add-i
     loop-less
     loop-again
-    returns-2)
+    returns)

@@ -1,6 +1,6 @@
--- What is heard of what is said, without the roots.
+-- A round of what is said.
 use mathlib.Core.Path.{_∙_}
-use Rattle.rules.specs.AuxLaws.{aux-round}
+use Rattle.blocks.specs.Silent.{said-round}
 use borrow.Author.Needs.{needs}
 use Rattle.blocks.proofs.aux.aux_round.Statement.{statement}
 use Rattle.blocks.proofs.aux.aux_round.Tie as tie
@@ -8,32 +8,24 @@ use Rattle.blocks.proofs.aux.aux_round.Tie as tie
 said-requires : tie.Need-said-requires
 said-requires c κs = search needs
 
-over-links-requires : tie.Need-over-links-requires
-over-links-requires c κs = search needs
+heeded-requires : tie.Need-heeded-requires
+heeded-requires c κs = search needs
 
-slice-aggregate-over-parents : tie.Need-slice-aggregate-over-parents
-slice-aggregate-over-parents c = search needs
-
-over-parents-requires : tie.Need-over-parents-requires
-over-parents-requires c κs = search needs
-
-without-roots-requires : tie.Need-without-roots-requires
-without-roots-requires c κs = search needs
+tested-requires : tie.Need-tested-requires
+tested-requires c κs = search needs
 
 returns : tie.Need-returns
 returns c =
-    let a = c .before .before .before .before .before .before .before .before .before .args in
-    c .without-roots .ensures
-    ∙ aux-round (a .units) (a .links) (a .made) (a .ends .now) (a .parent .now) (a .linked .now) (a .upward .now) (a .color) (c .before .before .before .before .said .result)
-    (c .before .over-parents .result) (c .before .before .before .before .said .ensures) (rw (c .before .before .before .over-links .ensures) at (c .before .over-parents .ensures))
+    let a = c .before .before .before .before .before .before .before .args in
+    c .heeded .ensures
+    ∙ said-round (a .units) (a .links) (a .made) (a .ends .now) (a .parent .now) (a .linked .now) (a .upward .now) (a .color) _ (c .before .before .said .ensures)
+
+returns-2 : tie.Need-returns-2
+returns-2 c =
+    let a = c .before .before .before .before .before .before .before .args in
+    c .tested .ensures
+    ∙ said-round (a .units) (a .links) (a .made) (a .ends .now) (a .parent .now) (a .linked .now) (a .upward .now) (a .color) _ (c .before .before .said .ensures)
 
 pub aux-round-spec : {M : Type 1} → statement M
 aux-round-spec =
-    tie.close
-    (tie.spec
-    said-requires
-    over-links-requires
-    slice-aggregate-over-parents
-    over-parents-requires
-    without-roots-requires
-    returns)
+    tie.close (tie.spec said-requires heeded-requires tested-requires returns returns-2)

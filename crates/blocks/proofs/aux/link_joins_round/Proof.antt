@@ -5,15 +5,19 @@ use lib.ListN.{length}
 use Rattle.lists.specs.Tables.{over}
 use Rattle.lists.specs.Rounds.{over-more, over-all}
 use Rattle.rules.specs.Aux.{linkJoin, linkJoinsRound}
+use Rattle.lists.specs.Limits.{over-least}
 use borrow.Author.Needs.{needs}
 use Rattle.blocks.proofs.aux.link_joins_round.Statement.{statement}
 use Rattle.blocks.proofs.aux.link_joins_round.Tie as tie
 
 abbrev Inv-loop : tie.InvT-loop
-Inv-loop links ends parent new₀ j₀ new j = (j ≤ links) × (length new ≡ 1024) × (new ≡ over j (linkJoin ends parent) new₀)
+Inv-loop links ends parent count new₀ j₀ new j = (j ≤ count) × (length new ≡ 1024) × (new ≡ over j (linkJoin ends parent) new₀)
 
 abbrev μ-loop : tie.MeasureT-loop
-μ-loop links ends parent new₀ j₀ new j = links - j
+μ-loop links ends parent count new₀ j₀ new j = count - j
+
+least-of-requires : tie.Need-least-of-requires Inv-loop μ-loop
+least-of-requires c κs = search needs
 
 loop-holds : tie.Need-loop-holds Inv-loop μ-loop
 loop-holds c = search needs
@@ -38,7 +42,13 @@ loop-again c = (search needs, search needs, over-more _ _ _ _ _ _ (c .before .be
 
 returns : tie.Need-returns Inv-loop μ-loop
 unfolding linkJoinsRound
-returns c = c .before .loop .inv .2 ∙ over-all _ _ _ _ (c .before .loop .inv .0) (c .loop-test .left)
+returns c =
+    let s = c .before in
+    let a = s .before .before .before .before .args in
+    let all
+    : s .loop .new ≡ over (s .before .least-of .result) (linkJoin (a .ends .now) (a .parent .now)) (a .marks)
+    = s .loop .inv .2 ∙ over-all _ _ _ _ (s .loop .inv .0) (c .loop-test .left) in
+    over-least (a .links) 1024 (linkJoin (a .ends .now) (a .parent .now)) (a .marks) _ (search needs) (rw (s .before .least-of .ensures) at all)
 
 pub link-joins-round-spec : {M : Type 1} → statement M
 link-joins-round-spec =
@@ -46,6 +56,7 @@ link-joins-round-spec =
     (tie.spec
     Inv-loop
     μ-loop
+    least-of-requires
     loop-holds
     link-join-requires
     slice-aggregate-store

@@ -1,20 +1,14 @@
 -- The four parts, each over the front of what is left.
-use Rattle.calls.specs.ReportWritten.{report-laid}
+use Rattle.calls.specs.ReportWritten.{parts-down}
 use borrow.Author.Needs.{needs}
 use Rattle.calls.proofs.lines.all.Statement.{statement}
 use Rattle.calls.proofs.lines.all.Tie as tie
-
-cast-unit-end : tie.Need-cast-unit-end
-cast-unit-end c = search needs
 
 mul-unit-end : tie.Need-mul-unit-end
 mul-unit-end c = search needs
 
 add-unit-end : tie.Need-add-unit-end
 add-unit-end c = search needs
-
-cast-link-end : tie.Need-cast-link-end
-cast-link-end c = search needs
 
 mul-link-end : tie.Need-mul-link-end
 mul-link-end c = search needs
@@ -66,19 +60,19 @@ same-length c = search needs
 
 returns : tie.Need-returns
 returns c =
-    let a = c .before .before .before .before .before .before .before .before .before .before .before .before .before .before .before .before .before .before .before in
     let link = c .before .before .before .before .before .before .link-part .ensures in
     let unit = c .before .before .before .before .before .before .before .before .before .before .unit-part .ensures in
-    rw (c .before .before .tail-line .ensures, link .1, unit .1, link .0, unit .0, c .before .before .before .before .before .before .before .before .before .before .before .before .before .before .head-line .ensures) (report-laid (a .args .s) (a .args .out .now) (a .pre .2))
+    let head = c .before .before .before .before .before .before .before .before .before .before .before .before .before .before in
+    let a = head .before .before .before .before .before .before .before .before .args in
+    parts-down (a .units) (a .links) (a .rounds) (a .requests) (a .ends .now) (a .label .now) (a .color .now) (a .parent .now) (a .place .now) (a .out .now) _ _ _ _ _ _
+    (head .head-line .ensures) (unit .1) (link .1) (c .before .before .tail-line .ensures) (unit .0) (link .0)
 
 pub all-spec : {M : Type 1} → statement M
 all-spec =
     tie.close
     (tie.spec
-    cast-unit-end
     mul-unit-end
     add-unit-end
-    cast-link-end
     mul-link-end
     add-link-end
     head-line-requires

@@ -1,8 +1,6 @@
 -- The flags give the lines and the count.
+use Rattle.rules.specs.Labels.{lone}
 use Rattle.answers.specs.Flags.{flags-count}
-use Rattle.survey.specs.State.{links}
-use Rattle.survey.specs.Report.{linkLone}
-use Rattle.calls.specs.ReportWritten.{links-laid}
 use borrow.Author.Needs.{needs}
 use Rattle.calls.proofs.lines.link_part.Statement.{statement}
 use Rattle.calls.proofs.lines.link_part.Tie as tie
@@ -27,12 +25,9 @@ same-length c = search needs
 
 returns : tie.Need-returns
 returns c =
-    let a = c .before .before .before .before .before .before .before .before .before .before .before .before .before .before .before in
-    let s = a .args .t1 in
-    let lones = c .before .before .before .before .before .before .before .before .before .before .lones .ensures in (
-      rw (c .count-flags .ensures, lones) (flags-count 1024 (links s) (linkLone s) (a .pre .0)),
-      rw (c .before .before .before .before .link-lines .ensures, lones) (links-laid s (a .args .out .now) (a .pre .0) (a .pre .1)),
-    )
+    let a = c .before .before .before .before .before .before .before .before .before .before in
+    let lones = c .before .before .before .before .before .before .before .lones .ensures in
+    (rw (c .count-flags .ensures, lones) (flags-count 1024 (a .args .links) (lone (a .args .links) (a .args .label .now)) (a .pre)), rw (c .before .before .before .before .link-lines .ensures, lones))
 
 pub link-part-spec : {M : Type 1} → statement M
 link-part-spec =

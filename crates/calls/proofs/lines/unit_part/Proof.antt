@@ -1,8 +1,6 @@
 -- The flags give the lines and the count.
+use Rattle.rules.specs.Labels.{single}
 use Rattle.answers.specs.Flags.{flags-count}
-use Rattle.survey.specs.State.{units}
-use Rattle.survey.specs.Report.{unitSingle}
-use Rattle.calls.specs.ReportWritten.{units-laid}
 use borrow.Author.Needs.{needs}
 use Rattle.calls.proofs.lines.unit_part.Statement.{statement}
 use Rattle.calls.proofs.lines.unit_part.Tie as tie
@@ -27,12 +25,9 @@ same-length c = search needs
 
 returns : tie.Need-returns
 returns c =
-    let a = c .before .before .before .before .before .before .before .before .before .before .before .before .before .before .before .before .before .before .before .before .before in
-    let s = a .args .t1 in
-    let singles = c .before .before .before .before .before .before .before .before .before .before .before .before .before .before .singles .ensures in (
-      rw (c .count-flags .ensures, singles) (flags-count 256 (units s) (unitSingle s) (a .pre .0)),
-      rw (c .before .before .before .before .unit-lines .ensures, singles) (units-laid s (a .args .out .now) (a .pre .0) (a .pre .1)),
-    )
+    let a = c .before .before .before .before .before .before .before .before .before .before .before .before .before .before in
+    let singles = c .before .before .before .before .before .before .before .singles .ensures in
+    (rw (c .count-flags .ensures, singles) (flags-count 256 (a .args .units) (single (a .args .links) (a .args .ends .now) (a .args .label .now)) (a .pre)), rw (c .before .before .before .before .unit-lines .ensures, singles))
 
 pub unit-part-spec : {M : Type 1} → statement M
 unit-part-spec =

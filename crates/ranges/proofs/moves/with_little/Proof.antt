@@ -1,10 +1,11 @@
 -- By the test.
+use borrow.Author.Tests.{not-true, not-false}
 use borrow.Author.Needs.{needs}
 use Rattle.ranges.proofs.moves.with_little.Statement.{statement}
 use Rattle.ranges.proofs.moves.with_little.Tie as tie
 
-at-requires : tie.Need-at-requires
-at-requires c κs = search needs
+returns : tie.Need-returns
+returns c = rw (not-true (c .before .before .args .moves) (c .if1 .taken))
 
 segment-at-requires : tie.Need-segment-at-requires
 segment-at-requires c κs = search needs
@@ -12,22 +13,8 @@ segment-at-requires c κs = search needs
 op-of-requires : tie.Need-op-of-requires
 op-of-requires c κs = search needs
 
-moves-little-requires : tie.Need-moves-little-requires
-moves-little-requires c κs = search needs
-
-choose-requires : tie.Need-choose-requires
-choose-requires c κs = search needs
-
-returns : tie.Need-returns
-returns c = cc
+returns-2 : tie.Need-returns-2
+returns-2 c = rw (c .op-of .ensures, c .before .segment-at .ensures, not-false (c .before .before .before .before .args .moves) (c .before .before .if1 .left))
 
 pub with-little-spec : {M : Type 1} → statement M
-with-little-spec =
-    tie.close
-    (tie.spec
-    at-requires
-    segment-at-requires
-    op-of-requires
-    moves-little-requires
-    choose-requires
-    returns)
+with-little-spec = tie.close (tie.spec returns segment-at-requires op-of-requires returns-2)

@@ -1,27 +1,30 @@
 -- Link by link, from the places.
 use mathlib.Core.Path.{_≡_}
-use mathlib.Core.Bool.{cond}
+use mathlib.Core.Bool.{true, false}
 use Prim.Native.Nat.{_≤_, _-_}
 use native.Mathlib.Omega.{arith}
 use lib.ListN.{length}
-use Rattle.table.specs.Table.{maxUnits, endA, endB}
-use Rattle.rules.specs.Basics.{offTree}
-use Rattle.rules.specs.HeardLaws.{hears}
+use Rattle.table.specs.Table.{maxUnits}
 use Rattle.rules.specs.RangeLaws.{localTable, local-none, local-more, local-all}
 use borrow.Author.Needs.{needs}
 use Rattle.ranges.proofs.range.locals.Statement.{statement}
 use Rattle.ranges.proofs.range.locals.Tie as tie
 
 abbrev Inv-loop : tie.InvT-loop
-Inv-loop greatest links ends parent pre new₀ j₀ new j = (j ≤ links) × (length new ≡ 256) × (new ≡ localTable greatest j ends parent pre)
+Inv-loop links ends parent pre low₀ high₀ j₀ low high j =
+    (j ≤ links)
+    × (length low ≡ 256)
+    × (length high ≡ 256)
+    × (low ≡ localTable false j ends parent pre)
+    × (high ≡ localTable true j ends parent pre)
 
 abbrev μ-loop : tie.MeasureT-loop
-μ-loop greatest links ends parent pre new₀ j₀ new j = links - j
+μ-loop links ends parent pre low₀ high₀ j₀ low high j = links - j
 
 loop-holds : tie.Need-loop-holds Inv-loop μ-loop
 loop-holds c =
     let a = c .before .before .args in
-    (search needs, search needs, local-none (a .greatest) (a .ends .now) (a .parent .now) (a .t5))
+    (search needs, search needs, search needs, local-none false (a .ends .now) (a .parent .now) (a .t4), local-none true (a .ends .now) (a .parent .now) (a .t4))
 
 end-a-requires : tie.Need-end-a-requires Inv-loop μ-loop
 end-a-requires c κs = search needs
@@ -29,17 +32,17 @@ end-a-requires c κs = search needs
 end-b-requires : tie.Need-end-b-requires Inv-loop μ-loop
 end-b-requires c κs = search needs
 
-off-tree-requires : tie.Need-off-tree-requires Inv-loop μ-loop
-off-tree-requires c κs = search needs
+slice-aggregate-hear-off : tie.Need-slice-aggregate-hear-off Inv-loop μ-loop
+slice-aggregate-hear-off c = search needs
 
-slice-aggregate-hear-if : tie.Need-slice-aggregate-hear-if Inv-loop μ-loop
-slice-aggregate-hear-if c = search needs
+slice-aggregate-hear-off-2 : tie.Need-slice-aggregate-hear-off-2 Inv-loop μ-loop
+slice-aggregate-hear-off-2 c = search needs
 
-slice-aggregate-hear-if-2 : tie.Need-slice-aggregate-hear-if-2 Inv-loop μ-loop
-slice-aggregate-hear-if-2 c = search needs
+slice-aggregate-hear-off-3 : tie.Need-slice-aggregate-hear-off-3 Inv-loop μ-loop
+slice-aggregate-hear-off-3 c = search needs
 
-hear-if-requires : tie.Need-hear-if-requires Inv-loop μ-loop
-hear-if-requires c κs = search needs
+hear-off-requires : tie.Need-hear-off-requires Inv-loop μ-loop
+hear-off-requires c κs = search needs
 
 add-j : tie.Need-add-j Inv-loop μ-loop
 add-j c = search needs
@@ -49,22 +52,28 @@ loop-less c = search needs
 
 loop-again : tie.Need-loop-again Inv-loop μ-loop
 loop-again c =
-    let s = c .before .before .before .before .before .before .before .before in
+    let s = c .before .before .before .before .before .before .before .before .before in
     let a = s .before .before .before .args in
-    let x = endA (a .ends .now) (s .loop .j) in
-    let y = endB (a .ends .now) (s .loop .j) in
-    let put
-    : c .before .hear-if .last .1 .1 .1 .1 .1 .1 .0
-    ≡ cond (offTree (a .parent .now) x y) (hears (a .greatest) maxUnits (a .t5) x y (s .loop .new)) (s .loop .new)
-    = cc in
-    (search needs, search needs, local-more (a .greatest) (a .ends .now) (a .parent .now) (a .t5) (s .loop .j) _ _ (s .loop .inv .2) put)
+    let heard = rw (c .before .before .before .before .before .before .before .end-a .ensures, c .before .before .before .before .before .before .end-b .ensures) at (c .before .before .hear-off .ensures) in (
+      search needs,
+      search needs,
+      search needs,
+      local-more false (a .ends .now) (a .parent .now) (a .t4) (s .loop .j) _ _ (s .loop .inv .3) (heard .0),
+      local-more true (a .ends .now) (a .parent .now) (a .t4) (s .loop .j) _ _ (s .loop .inv .4) (heard .1),
+    )
 
 returns : tie.Need-returns Inv-loop μ-loop
 returns c =
     let s = c .before in
-    let a = s .before .before .before .args in
-    let full : length (a .t5) ≡ maxUnits = omega (arith, s .before .before .before .good) in
-    λ v h. local-all (a .greatest) (a .ends .now) (a .parent .now) (a .t5) (s .loop .j) (a .links) (s .loop .new) full (s .loop .inv .2) (s .loop .inv .0) (c .loop-test .left) v h
+    let start = s .before .before .before in
+    let a = start .args in
+    let full : length (a .t4) ≡ maxUnits = omega (arith, start .good) in (
+      λ v h. local-all false (a .ends .now) (a .parent .now) (a .t4) (s .loop .j) (a .links) (s .loop .low) full (s .loop .inv .3) (s .loop .inv .0) (c .loop-test .left) v h,
+      (
+        λ v h. local-all true (a .ends .now) (a .parent .now) (a .t4) (s .loop .j) (a .links) (s .loop .high) full (s .loop .inv .4) (s .loop .inv .0) (c .loop-test .left) v h,
+        (s .loop .inv .1, s .loop .inv .2),
+      ),
+    )
 
 pub locals-spec : {M : Type 1} → statement M
 locals-spec =
@@ -75,10 +84,10 @@ locals-spec =
     loop-holds
     end-a-requires
     end-b-requires
-    off-tree-requires
-    slice-aggregate-hear-if
-    slice-aggregate-hear-if-2
-    hear-if-requires
+    slice-aggregate-hear-off
+    slice-aggregate-hear-off-2
+    slice-aggregate-hear-off-3
+    hear-off-requires
     add-j
     loop-less
     loop-again

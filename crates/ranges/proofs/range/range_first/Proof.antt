@@ -1,10 +1,12 @@
--- From the unit at each place and the local values of the units.
-use mathlib.Core.Path.{_∙_}
-use Prim.Native.Nat.{_≤_}
+-- The two passes, and what each table makes of them.
+use mathlib.Core.Path.{_≡_, _∙_}
+use Prim.Native.Nat.{_≤_, min, max}
 use native.Mathlib.Omega.{arith}
-use Rattle.lists.specs.Scatter.{opOf}
 use Rattle.table.specs.Table.{maxUnits}
+use Rattle.rules.specs.Basics.{at}
+use Rattle.rules.specs.Range.{littleFirst, bigBegin, bigFirst}
 use Rattle.rules.specs.RangeLaws.{global-first, range-first}
+use Rattle.lists.specs.Limits.{over-least}
 use borrow.Author.Needs.{needs}
 use Rattle.ranges.proofs.range.range_first.Statement.{statement}
 use Rattle.ranges.proofs.range.range_first.Tie as tie
@@ -21,36 +23,41 @@ firsts-requires c κs = search needs
 locals-requires : tie.Need-locals-requires
 locals-requires c κs = search needs
 
-slice-aggregate-segments : tie.Need-slice-aggregate-segments
-slice-aggregate-segments c = search needs
-
-slice-aggregate-segments-2 : tie.Need-slice-aggregate-segments-2
-slice-aggregate-segments-2 c = search needs
-
-segments-requires : tie.Need-segments-requires
-segments-requires c κs = search needs
-
 slice-aggregate-begins : tie.Need-slice-aggregate-begins
 slice-aggregate-begins c = search needs
 
 slice-aggregate-begins-2 : tie.Need-slice-aggregate-begins-2
 slice-aggregate-begins-2 c = search needs
 
-slice-aggregate-begins-3 : tie.Need-slice-aggregate-begins-3
-slice-aggregate-begins-3 c = search needs
-
 begins-requires : tie.Need-begins-requires
 begins-requires c κs = search needs
 
 returns : tie.Need-returns
+unfolding littleFirst bigFirst
 returns c =
-    let a = c .before .before .before .before .before .before .before .before .before .before .before .before .before .before .args in
-    let n = c .before .before .before .before .before .before .before .before .before .before .least-of in
-    let first = c .before .before .before .before .before .before .before .before .firsts in
-    let local = c .before .before .before .before .before .before .before .locals in
-    let small : n .result ≤ maxUnits = omega (arith, n .ensures) in (
-      rw (← n .ensures) (c .begins .ensures ∙ range-first (opOf (a .greatest)) (n .result) (a .links) (a .ends .now) (a .parent .now) (a .t7) (first .result) (local .result) small (first .ensures) (local .ensures) (a .nd .now) (a .range)),
-      rw (← n .ensures) (c .before .before .before .before .segments .ensures ∙ global-first (opOf (a .greatest)) (n .result) (a .links) (a .ends .now) (a .parent .now) (a .t7) (first .result) (local .result) small (first .ensures) (local .ensures) (a .global)),
+    let start = c .before .before .before .before .before .before .before .before .before .before .before .before .before .before .before in
+    let a = start .args in
+    let n = c .before .before .before .before .before .before .before .before .before .before .before .least-of in
+    let first = c .before .before .before .before .before .before .before .before .before .firsts in
+    let local = c .before .before .before .before .before .before .before .before .locals in
+    let lows = local .ensures .0 in
+    let highs = local .ensures .1 .0 in
+    let small : n .result ≤ maxUnits = omega (arith, n .ensures) in
+    let made = c .begins .ensures in (
+      rw (← n .ensures) (made .0 ∙ range-first min (n .result) (a .links) (a .ends .now) (a .parent .now) (a .t6) (first .result) (local .result .low) small (first .ensures) lows (a .nd .now) (a .low)),
+      (
+        rw (← n .ensures) (made .1 .0 ∙ range-first max (n .result) (a .links) (a .ends .now) (a .parent .now) (a .t6) (first .result) (local .result .high) small (first .ensures) highs (a .nd .now) (a .high)),
+        (
+          over-least (a .units) 256 (at (a .t6)) (a .little) _ (omega (arith, start .good)) (rw (n .ensures) at (made .1 .1 .0)),
+          (
+            over-least (a .units) 256 (bigBegin (a .nd .now) (a .t6)) (a .big) _ (omega (arith, start .good)) (rw (n .ensures) at (made .1 .1 .1 .0)),
+            (
+              rw (← n .ensures) (made .1 .1 .1 .1 .0 ∙ global-first min (n .result) (a .links) (a .ends .now) (a .parent .now) (a .t6) (first .result) (local .result .low) small (first .ensures) lows (a .least)),
+              rw (← n .ensures) (made .1 .1 .1 .1 .1 ∙ global-first max (n .result) (a .links) (a .ends .now) (a .parent .now) (a .t6) (first .result) (local .result .high) small (first .ensures) highs (a .greatest)),
+            ),
+          ),
+        ),
+      ),
     )
 
 pub range-first-spec : {M : Type 1} → statement M
@@ -61,11 +68,7 @@ range-first-spec =
     slice-aggregate-firsts
     firsts-requires
     locals-requires
-    slice-aggregate-segments
-    slice-aggregate-segments-2
-    segments-requires
     slice-aggregate-begins
     slice-aggregate-begins-2
-    slice-aggregate-begins-3
     begins-requires
     returns)

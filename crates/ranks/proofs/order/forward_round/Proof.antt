@@ -1,47 +1,82 @@
--- Arc by arc.
+-- Unit by unit, both arcs.
 use mathlib.Core.Path.{_≡_, _∙_}
-use Prim.Native.Nat.{_*_, _≤_, _-_}
+use Prim.Native.Nat.{_+_, _*_, _≤_, _-_, min}
+use native.Mathlib.Nat.{le-antisymm}
+use native.Mathlib.Omega.{arith}
 use lib.ListN.{length}
 use Rattle.lists.specs.Tables.{over}
-use Rattle.lists.specs.Rounds.{over-more, over-all}
+use Rattle.lists.specs.Rounds.{over-pair}
 use Rattle.rules.specs.Order.{forwardMark, forwardRound}
+use Rattle.ranks.specs.Pairs.{forward-into, forward-out}
+use Rattle.lists.specs.Limits.{over-least-pairs}
 use borrow.Author.Needs.{needs}
 use Rattle.ranks.proofs.order.forward_round.Statement.{statement}
 use Rattle.ranks.proofs.order.forward_round.Tie as tie
 
 abbrev Inv-loop : tie.InvT-loop
-Inv-loop units parent rank count new₀ a₀ new a = (a ≤ 2 * units) × (length new ≡ 512) × (new ≡ over a (forwardMark parent rank) new₀)
+Inv-loop units parent rank new₀ v₀ count new v = (v ≤ count) × (length new ≡ 512) × (new ≡ over (2 * v) (forwardMark parent rank) new₀)
 
 abbrev μ-loop : tie.MeasureT-loop
-μ-loop units parent rank count new₀ a₀ new a = 2 * units - a
+μ-loop units parent rank new₀ v₀ count new v = count - v
 
-mul-count : tie.Need-mul-count Inv-loop μ-loop
-mul-count c = search needs
+least-of-requires : tie.Need-least-of-requires Inv-loop μ-loop
+least-of-requires c κs = search needs
 
 loop-holds : tie.Need-loop-holds Inv-loop μ-loop
 loop-holds c = search needs
 
+at-requires : tie.Need-at-requires Inv-loop μ-loop
+at-requires c κs = search needs
+
+into-requires : tie.Need-into-requires Inv-loop μ-loop
+into-requires c κs = search needs
+
+out-of-requires : tie.Need-out-of-requires Inv-loop μ-loop
+out-of-requires c κs = search needs
+
 forward-mark-requires : tie.Need-forward-mark-requires Inv-loop μ-loop
 forward-mark-requires c κs = search needs
 
-slice-aggregate-put : tie.Need-slice-aggregate-put Inv-loop μ-loop
-slice-aggregate-put c = search needs
+forward-mark-requires-2 : tie.Need-forward-mark-requires-2 Inv-loop μ-loop
+forward-mark-requires-2 c κs = search needs
 
-put-requires : tie.Need-put-requires Inv-loop μ-loop
-put-requires c κs = search needs
+slice-aggregate-put-pair : tie.Need-slice-aggregate-put-pair Inv-loop μ-loop
+slice-aggregate-put-pair c = search needs
 
-add-a : tie.Need-add-a Inv-loop μ-loop
-add-a c = search needs
+put-pair-requires : tie.Need-put-pair-requires Inv-loop μ-loop
+put-pair-requires c κs = search needs
+
+add-v : tie.Need-add-v Inv-loop μ-loop
+add-v c = search needs
 
 loop-less : tie.Need-loop-less Inv-loop μ-loop
 loop-less c = search needs
 
 loop-again : tie.Need-loop-again Inv-loop μ-loop
-loop-again c = (search needs, search needs, over-more _ _ _ _ _ _ (c .before .before .before .before .before .loop .inv .2) (c .before .before .before .forward-mark .ensures) (c .before .put .ensures))
+loop-again c =
+    let second = c .before .before .before in
+    let first = second .before in
+    let up = first .before in
+    let down = up .before in
+    let arc = down .before in
+    let s = arc .before .before in
+    let a = s .before .before .before .before .args in
+    let x : first .forward-mark .result ≡ forwardMark (a .parent .now) (a .rank .now) (2 * s .loop .v) =
+    rw (arc .at .ensures, down .into .ensures, up .out-of .ensures) at (first .forward-mark .ensures)
+    ∙ forward-into (a .parent .now) (s .loop .v) (a .rank .now) in
+    let y : second .forward-mark2 .result ≡ forwardMark (a .parent .now) (a .rank .now) (2 * s .loop .v + 1) =
+    rw (arc .at .ensures, down .into .ensures, up .out-of .ensures) at (second .forward-mark2 .ensures)
+    ∙ forward-out (a .parent .now) (s .loop .v) (a .rank .now) in
+    (search needs, search needs, over-pair (s .loop .v) _ _ _ _ _ _ (s .loop .inv .2) (λ _. x) (λ _. y) (c .before .put-pair .ensures))
 
 returns : tie.Need-returns Inv-loop μ-loop
 unfolding forwardRound
-returns c = c .before .loop .inv .2 ∙ over-all _ _ _ _ (c .before .loop .inv .0) (c .loop-test .left)
+returns c =
+    let s = c .before in
+    let start = s .before .before .before .before in
+    let a = start .args in
+    let ended : s .loop .v ≡ min (a .units) 256 = le-antisymm (s .loop .inv .0) (c .loop-test .left) ∙ s .before .least-of .ensures in
+    over-least-pairs (a .units) 256 (forwardMark (a .parent .now) (a .rank .now)) (a .forward) _ (omega (arith, start .good .1 .1 .1)) (rw ended at (s .loop .inv .2))
 
 pub forward-round-spec : {M : Type 1} → statement M
 forward-round-spec =
@@ -49,12 +84,16 @@ forward-round-spec =
     (tie.spec
     Inv-loop
     μ-loop
-    mul-count
+    least-of-requires
     loop-holds
+    at-requires
+    into-requires
+    out-of-requires
     forward-mark-requires
-    slice-aggregate-put
-    put-requires
-    add-a
+    forward-mark-requires-2
+    slice-aggregate-put-pair
+    put-pair-requires
+    add-v
     loop-less
     loop-again
     returns)

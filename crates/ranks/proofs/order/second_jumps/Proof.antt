@@ -1,48 +1,60 @@
--- Arc by arc.
+-- Unit by unit, both arcs.
 use mathlib.Core.Path.{_≡_, _∙_}
-use Prim.Native.Nat.{_*_, _≤_, _-_}
+use Prim.Native.Nat.{_*_, _≤_, _-_, min}
+use native.Mathlib.Nat.{le-antisymm}
 use lib.ListN.{length}
 use Rattle.lists.specs.Tables.{over}
-use Rattle.lists.specs.Rounds.{over-more, over-all}
-use Rattle.rules.specs.Order.{secondJumps}
+use Rattle.lists.specs.Rounds.{over-pair}
 use Rattle.rules.specs.Basics.{at}
+use Rattle.rules.specs.Order.{secondJumps}
+use Rattle.lists.specs.Limits.{over-least-pairs}
 use borrow.Author.Needs.{needs}
 use Rattle.ranks.proofs.order.second_jumps.Statement.{statement}
 use Rattle.ranks.proofs.order.second_jumps.Tie as tie
 
 abbrev Inv-loop : tie.InvT-loop
-Inv-loop units pred count new₀ a₀ new a = (a ≤ 2 * units) × (length new ≡ 512) × (new ≡ over a (at pred) new₀)
+Inv-loop units pred new₀ v₀ count new v = (v ≤ count) × (length new ≡ 512) × (new ≡ over (2 * v) (at pred) new₀)
 
 abbrev μ-loop : tie.MeasureT-loop
-μ-loop units pred count new₀ a₀ new a = 2 * units - a
+μ-loop units pred new₀ v₀ count new v = count - v
 
-mul-count : tie.Need-mul-count Inv-loop μ-loop
-mul-count c = search needs
+least-of-requires : tie.Need-least-of-requires Inv-loop μ-loop
+least-of-requires c κs = search needs
 
 loop-holds : tie.Need-loop-holds Inv-loop μ-loop
 loop-holds c = search needs
 
-word-requires : tie.Need-word-requires Inv-loop μ-loop
-word-requires c κs = search needs
+into-requires : tie.Need-into-requires Inv-loop μ-loop
+into-requires c κs = search needs
 
-slice-aggregate-put : tie.Need-slice-aggregate-put Inv-loop μ-loop
-slice-aggregate-put c = search needs
+out-of-requires : tie.Need-out-of-requires Inv-loop μ-loop
+out-of-requires c κs = search needs
 
-put-requires : tie.Need-put-requires Inv-loop μ-loop
-put-requires c κs = search needs
+slice-aggregate-put-pair : tie.Need-slice-aggregate-put-pair Inv-loop μ-loop
+slice-aggregate-put-pair c = search needs
 
-add-a : tie.Need-add-a Inv-loop μ-loop
-add-a c = search needs
+put-pair-requires : tie.Need-put-pair-requires Inv-loop μ-loop
+put-pair-requires c κs = search needs
+
+add-v : tie.Need-add-v Inv-loop μ-loop
+add-v c = search needs
 
 loop-less : tie.Need-loop-less Inv-loop μ-loop
 loop-less c = search needs
 
 loop-again : tie.Need-loop-again Inv-loop μ-loop
-loop-again c = (search needs, search needs, over-more _ _ _ _ _ _ (c .before .before .before .before .before .loop .inv .2) (c .before .before .before .word .ensures) (c .before .put .ensures))
+loop-again c =
+    let y = c .before .before .before in
+    let s = y .before .before .before in
+    (search needs, search needs, over-pair (s .loop .v) _ _ _ _ _ _ (s .loop .inv .2) (λ _. y .before .into .ensures) (λ _. y .out-of .ensures) (c .before .put-pair .ensures))
 
 returns : tie.Need-returns Inv-loop μ-loop
 unfolding secondJumps
-returns c = c .before .loop .inv .2 ∙ over-all _ _ _ _ (c .before .loop .inv .0) (c .loop-test .left)
+returns c =
+    let s = c .before in
+    let a = s .before .before .before .args in
+    let ended : s .loop .v ≡ min (a .units) 256 = le-antisymm (s .loop .inv .0) (c .loop-test .left) ∙ s .before .least-of .ensures in
+    over-least-pairs (a .units) 256 (at (a .pred .now)) (a .jump) _ (search needs) (rw ended at (s .loop .inv .2))
 
 pub second-jumps-spec : {M : Type 1} → statement M
 second-jumps-spec =
@@ -50,12 +62,13 @@ second-jumps-spec =
     (tie.spec
     Inv-loop
     μ-loop
-    mul-count
+    least-of-requires
     loop-holds
-    word-requires
-    slice-aggregate-put
-    put-requires
-    add-a
+    into-requires
+    out-of-requires
+    slice-aggregate-put-pair
+    put-pair-requires
+    add-v
     loop-less
     loop-again
     returns)

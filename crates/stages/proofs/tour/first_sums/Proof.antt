@@ -1,47 +1,64 @@
--- Arc by arc.
+-- Unit by unit: both arcs begin alike.
 use mathlib.Core.Path.{_≡_, _∙_}
-use Prim.Native.Nat.{_*_, _≤_, _-_}
+use mathlib.Core.Bool.{cond, not}
+use Prim.Native.Nat.{_*_, _≤_, _-_, min}
+use native.Mathlib.Nat.{le-antisymm}
 use lib.ListN.{length}
 use Rattle.lists.specs.Tables.{over}
-use Rattle.lists.specs.Rounds.{over-more, over-all}
+use Rattle.lists.specs.Rounds.{over-pair}
+use Rattle.rules.specs.Basics.{isRoot}
 use Rattle.rules.specs.Tour.{firstSum, firstSums}
+use Rattle.lists.specs.Limits.{over-least-pairs}
+use Rattle.stages.specs.Predecessors.{sum-into, sum-out}
 use borrow.Author.Needs.{needs}
 use Rattle.stages.proofs.tour.first_sums.Statement.{statement}
 use Rattle.stages.proofs.tour.first_sums.Tie as tie
 
 abbrev Inv-loop : tie.InvT-loop
-Inv-loop units parent count new₀ a₀ new a = (a ≤ 2 * units) × (length new ≡ 512) × (new ≡ over a (firstSum parent) new₀)
+Inv-loop units parent new₀ count v₀ new v = (v ≤ count) × (length new ≡ 512) × (new ≡ over (2 * v) (firstSum parent) new₀)
 
 abbrev μ-loop : tie.MeasureT-loop
-μ-loop units parent count new₀ a₀ new a = 2 * units - a
+μ-loop units parent new₀ count v₀ new v = count - v
 
-mul-count : tie.Need-mul-count Inv-loop μ-loop
-mul-count c = search needs
+least-of-requires : tie.Need-least-of-requires Inv-loop μ-loop
+least-of-requires c κs = search needs
 
 loop-holds : tie.Need-loop-holds Inv-loop μ-loop
 loop-holds c = search needs
 
-first-sum-requires : tie.Need-first-sum-requires Inv-loop μ-loop
-first-sum-requires c κs = search needs
+at-requires : tie.Need-at-requires Inv-loop μ-loop
+at-requires c κs = search needs
 
-slice-aggregate-put : tie.Need-slice-aggregate-put Inv-loop μ-loop
-slice-aggregate-put c = search needs
+choose-requires : tie.Need-choose-requires Inv-loop μ-loop
+choose-requires c κs = search needs
 
-put-requires : tie.Need-put-requires Inv-loop μ-loop
-put-requires c κs = search needs
+slice-aggregate-put-pair : tie.Need-slice-aggregate-put-pair Inv-loop μ-loop
+slice-aggregate-put-pair c = search needs
 
-add-a : tie.Need-add-a Inv-loop μ-loop
-add-a c = search needs
+put-pair-requires : tie.Need-put-pair-requires Inv-loop μ-loop
+put-pair-requires c κs = search needs
+
+add-v : tie.Need-add-v Inv-loop μ-loop
+add-v c = search needs
 
 loop-less : tie.Need-loop-less Inv-loop μ-loop
 loop-less c = search needs
 
 loop-again : tie.Need-loop-again Inv-loop μ-loop
-loop-again c = (search needs, search needs, over-more _ _ _ _ _ _ (c .before .before .before .before .before .loop .inv .2) (c .before .before .before .first-sum .ensures) (c .before .put .ensures))
+loop-again c =
+    let s = c .before .before .before .before .before .before in
+    let a = s .before .before .before .args in
+    let x = c .before .before .before .choose in
+    let is : x .result ≡ cond (not (isRoot (a .parent .now) (s .loop .v))) 1 0 = rw (c .before .before .before .before .at .ensures) at (x .ensures) in
+    (search needs, search needs, over-pair (s .loop .v) _ _ _ _ _ _ (s .loop .inv .2) (λ _. is ∙ sum-into (a .parent .now) (s .loop .v)) (λ _. is ∙ sum-out (a .parent .now) (s .loop .v)) (c .before .put-pair .ensures))
 
 returns : tie.Need-returns Inv-loop μ-loop
 unfolding firstSums
-returns c = c .before .loop .inv .2 ∙ over-all _ _ _ _ (c .before .loop .inv .0) (c .loop-test .left)
+returns c =
+    let s = c .before in
+    let a = s .before .before .before .args in
+    let ended : s .loop .v ≡ min (a .units) 256 = le-antisymm (s .loop .inv .0) (c .loop-test .left) ∙ s .before .least-of .ensures in
+    over-least-pairs (a .units) 256 (firstSum (a .parent .now)) (a .sum) _ (search needs) (rw ended at (s .loop .inv .2))
 
 pub first-sums-spec : {M : Type 1} → statement M
 first-sums-spec =
@@ -49,12 +66,13 @@ first-sums-spec =
     (tie.spec
     Inv-loop
     μ-loop
-    mul-count
+    least-of-requires
     loop-holds
-    first-sum-requires
-    slice-aggregate-put
-    put-requires
-    add-a
+    at-requires
+    choose-requires
+    slice-aggregate-put-pair
+    put-pair-requires
+    add-v
     loop-less
     loop-again
     returns)

@@ -10,7 +10,7 @@ use Rattle.lists.specs.Folds.{some}
 use Rattle.lists.specs.Rounds.{over-more}
 use Rattle.lists.specs.Counts.{some-more, some-all}
 use Rattle.rules.specs.TreeLaws.{visitsBy, parentBy, distBy}
-use Rattle.stages.specs.Passes.{over-least}
+use Rattle.lists.specs.Limits.{over-least}
 use borrow.Author.Needs.{needs}
 use Rattle.stages.proofs.tree.visit.Statement.{statement}
 use Rattle.stages.proofs.tree.visit.Tie as tie

@@ -9,10 +9,7 @@ use Rattle.survey.proofs.kept.table_ok.Tie as tie
 
 returns : tie.Need-returns
 unfolding tableOk
-returns c = rw (lt-leb (c .before .args .t1 .links) 1024 (c .if1 .taken)) refl
-
-cast-refusal-of : tie.Need-cast-refusal-of
-cast-refusal-of c = search needs
+returns c = rw (lt-leb (c .before .before .args .links) 1024 (c .if1 .taken)) refl
 
 mul-refusal-of : tie.Need-mul-refusal-of
 mul-refusal-of c = search needs
@@ -23,9 +20,9 @@ refusal-of-requires c κs = search needs
 returns-2 : tie.Need-returns-2
 unfolding tableOk
 returns-2 c =
-    let a = c .before .before .before .before .before .args in
-    rw (le-leb (a .t1 .links) 1024 (omega arith), c .refusal-of .ensures) refl
+    let a = c .before .before .before .args in
+    rw (le-leb (a .links) 1024 (omega arith), c .refusal-of .ensures) refl
 
 pub table-ok-spec : {M : Type 1} → statement M
 table-ok-spec =
-    tie.close (tie.spec returns cast-refusal-of mul-refusal-of refusal-of-requires returns-2)
+    tie.close (tie.spec returns mul-refusal-of refusal-of-requires returns-2)

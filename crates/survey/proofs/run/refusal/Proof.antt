@@ -1,26 +1,17 @@
 -- By the two tests in order.
-use mathlib.Core.Path.{sym, _∙_}
-use borrow.Author.Tests.{not-true, not-false}
-use borrow.Author.Needs.{needs}
-use Rattle.survey.specs.RunAnswers.{refusal-malformed, refusal-end, refusal-none}
+use mathlib.Core.Path.{refl}
+use borrow.Author.Tests.{not-true, not-false, eq-eqb, ne-eqb}
 use Rattle.survey.proofs.run.refusal.Statement.{statement}
 use Rattle.survey.proofs.run.refusal.Tie as tie
 
-well-formed-requires : tie.Need-well-formed-requires
-well-formed-requires c κs = search needs
-
 returns : tie.Need-returns
-returns c = refusal-malformed (c .before .before .args .s) (sym (c .before .well-formed .ensures) ∙ not-true _ (c .if1 .taken))
+returns c = rw (not-true (c .before .args .well) (c .if1 .taken)) refl
 
 returns-2 : tie.Need-returns-2
-returns-2 c =
-    let w = c .before .before .before in
-    refusal-end (w .before .args .s) (sym (w .well-formed .ensures) ∙ not-false _ (c .before .before .if1 .left)) (c .if2 .taken)
+returns-2 c = rw (not-false (c .before .before .args .well) (c .before .if1 .left), eq-eqb (c .before .before .args .stage) 11 (c .if2 .taken)) refl
 
 returns-3 : tie.Need-returns-3
-returns-3 c =
-    let w = c .before .before .before in
-    refusal-none (w .before .args .s) (sym (w .well-formed .ensures) ∙ not-false _ (c .before .before .if1 .left)) (c .if2 .left)
+returns-3 c = rw (not-false (c .before .before .args .well) (c .before .if1 .left), ne-eqb (c .before .before .args .stage) 11 (c .if2 .left)) refl
 
 pub refusal-spec : {M : Type 1} → statement M
-refusal-spec = tie.close (tie.spec well-formed-requires returns returns-2 returns-3)
+refusal-spec = tie.close (tie.spec returns returns-2 returns-3)

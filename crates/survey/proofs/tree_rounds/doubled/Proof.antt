@@ -7,15 +7,12 @@ use Rattle.survey.proofs.tree_rounds.doubled.Tie as tie
 mul-count : tie.Need-mul-count
 mul-count c = search needs
 
-sum-round-requires : tie.Need-sum-round-requires
-sum-round-requires c κs = search needs
-
-jump-round-requires : tie.Need-jump-round-requires
-jump-round-requires c κs = search needs
+ranking-round-requires : tie.Need-ranking-round-requires
+ranking-round-requires c κs = search needs
 
 returns : tie.Need-returns
 unfolding rankingAfter
 returns c = cc
 
 pub doubled-spec : {M : Type 1} → statement M
-doubled-spec = tie.close (tie.spec mul-count sum-round-requires jump-round-requires returns)
+doubled-spec = tie.close (tie.spec mul-count ranking-round-requires returns)

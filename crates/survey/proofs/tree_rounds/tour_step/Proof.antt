@@ -21,15 +21,18 @@ returns c = rw (c .next-round .ensures, c .before .before .before .before .ticke
 pred-round-requires : tie.Need-pred-round-requires
 pred-round-requires c κs = search needs
 
-first-jumps-requires : tie.Need-first-jumps-requires
-first-jumps-requires c κs = search needs
-
 first-sums-requires : tie.Need-first-sums-requires
 first-sums-requires c κs = search needs
 
 returns-2 : tie.Need-returns-2
 unfolding tourStep
-returns-2 c = rw (c .first-sums .ensures, c .before .first-jumps .ensures, c .before .before .before .before .before .pred-round .ensures, c .before .before .before .before .before .before .before .before .before .before .before .before .before .before .ticked .ensures, c .before .before .before .before .before .before .before .before .before .before .before .before .before .before .before .is-last .ensures, ne-eqb (c .before .before .before .before .before .before .before .before .before .before .before .before .before .before .before .before .before .args .clock .made) 0 (c .before .before .before .before .before .before .before .before .before .before .before .if1 .left))
+returns-2 c =
+    let sums = c .before .before in
+    let preds = sums .before in
+    let second = preds .before .before .before .before .before .before in
+    let ticks = second .before .before .before in
+    let start = ticks .before .before .before in
+    rw (sums .first-sums .ensures, preds .pred-round .ensures .1, preds .pred-round .ensures .0, ticks .ticked .ensures, ticks .before .is-last .ensures, ne-eqb (start .args .clock .made) 0 (second .if1 .left))
 
 pub tour-step-spec : {M : Type 1} → statement M
 tour-step-spec =
@@ -40,6 +43,5 @@ tour-step-spec =
     next-round-requires
     returns
     pred-round-requires
-    first-jumps-requires
     first-sums-requires
     returns-2)

@@ -1,10 +1,10 @@
 -- The search from `i` on, with the marks of the links passed, is the search of the whole table.
-use mathlib.Core.Path.{_≡_, refl, sym, _∙_}
+use mathlib.Core.Path.{_≡_, refl, sym, ap, _∙_}
 use Prim.Native.Nat.{_≤_, _-_}
 use lib.ListN.{length, drop}
-use borrow.Author.Needs.{needs}
-use Rattle.table.specs.Marks.{foundFrom}
+use Rattle.table.specs.Marks.{marked, foundFrom}
 use Rattle.table.specs.MarkLaws.{found-here, found-later, found-end}
+use borrow.Author.Needs.{needs}
 use Rattle.table.proofs.marks.found.Statement.{statement}
 use Rattle.table.proofs.marks.found.Tie as tie
 
@@ -21,20 +21,23 @@ loop-holds c = (search needs, refl, refl)
 add-loop : tie.Need-add-loop Inv-loop μ-loop
 add-loop c = search needs
 
-mul-a : tie.Need-mul-a Inv-loop μ-loop
-mul-a c = search needs
+mul-pair-at : tie.Need-mul-pair-at Inv-loop μ-loop
+mul-pair-at c = search needs
 
-shared-slice-read-a : tie.Need-shared-slice-read-a Inv-loop μ-loop
-shared-slice-read-a c = search needs
+shared-slice-read-pair-at : tie.Need-shared-slice-read-pair-at Inv-loop μ-loop
+shared-slice-read-pair-at c = search needs
 
-add-b : tie.Need-add-b Inv-loop μ-loop
-add-b c = search needs
+add-pair-at : tie.Need-add-pair-at Inv-loop μ-loop
+add-pair-at c = search needs
 
-mul-b : tie.Need-mul-b Inv-loop μ-loop
-mul-b c = search needs
+mul-pair-at-2 : tie.Need-mul-pair-at-2 Inv-loop μ-loop
+mul-pair-at-2 c = search needs
 
-shared-slice-read-b : tie.Need-shared-slice-read-b Inv-loop μ-loop
-shared-slice-read-b c = search needs
+shared-slice-read-pair-at-2 : tie.Need-shared-slice-read-pair-at-2 Inv-loop μ-loop
+shared-slice-read-pair-at-2 c = search needs
+
+pair-at-requires : tie.Need-pair-at-requires Inv-loop μ-loop
+pair-at-requires c κs = search needs
 
 is-marked-requires : tie.Need-is-marked-requires Inv-loop μ-loop
 is-marked-requires c κs = search needs
@@ -44,10 +47,12 @@ same-length c = search needs
 
 returns : tie.Need-returns Inv-loop μ-loop
 returns c =
-    let s = c .before .before .before .before .before .before in
+    let p = c .before .before .before in
+    let s = p .before .before .before .before in
     sym
     (s .loop .inv .2
-    ∙ found-here (s .loop .marks) (s .before .before .before .args .table .now) (s .loop .i) (search needs) (sym (c .before .is-marked .ensures) ∙ c .if1 .taken))
+    ∙ found-here (s .loop .marks) (s .before .before .before .args .table .now) (s .loop .i) (search needs)
+    (ap (marked (s .loop .marks)) (sym (p .pair-at .ensures)) ∙ sym (c .before .is-marked .ensures) ∙ c .if1 .taken))
 
 set-mark-requires : tie.Need-set-mark-requires Inv-loop μ-loop
 set-mark-requires c κs = search needs
@@ -60,13 +65,15 @@ loop-less c = search needs
 
 loop-again : tie.Need-loop-again Inv-loop μ-loop
 loop-again c =
-    let s = c .before .before .before .before .before .before .before .before .before .before in
-    let i = c .before .before .before .before in (
+    let e = c .before .before .before .before in
+    let p = e .before .before .before in
+    let s = p .before .before .before .before in (
       search needs,
       search needs,
-      rw (c .before .before .set-mark .ensures)
+      rw (c .before .before .set-mark .ensures, p .pair-at .ensures)
           (s .loop .inv .2
-          ∙ found-later (s .loop .marks) (s .before .before .before .args .table .now) (s .loop .i) (search needs) (sym (i .before .is-marked .ensures) ∙ i .if1 .left)),
+          ∙ found-later (s .loop .marks) (s .before .before .before .args .table .now) (s .loop .i) (search needs)
+          (ap (marked (s .loop .marks)) (sym (p .pair-at .ensures)) ∙ sym (e .before .is-marked .ensures) ∙ e .if1 .left)),
     )
 
 same-length-2 : tie.Need-same-length-2 Inv-loop μ-loop
@@ -85,11 +92,12 @@ found-spec =
     μ-loop
     loop-holds
     add-loop
-    mul-a
-    shared-slice-read-a
-    add-b
-    mul-b
-    shared-slice-read-b
+    mul-pair-at
+    shared-slice-read-pair-at
+    add-pair-at
+    mul-pair-at-2
+    shared-slice-read-pair-at-2
+    pair-at-requires
     is-marked-requires
     same-length
     returns

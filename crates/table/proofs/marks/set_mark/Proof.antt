@@ -1,26 +1,20 @@
--- The two stores, one after the other.
-use borrow.Author.Needs.{needs}
+-- The byte read, with one bit more, stored where it stood.
 use Rattle.table.specs.Marks.{mark}
+use borrow.Author.Needs.{needs}
 use Rattle.table.proofs.marks.set_mark.Statement.{statement}
 use Rattle.table.proofs.marks.set_mark.Tie as tie
 
-mul-put-byte : tie.Need-mul-put-byte
-mul-put-byte c = search needs
+byte-requires : tie.Need-byte-requires
+byte-requires c κs = search needs
 
-add-put-byte : tie.Need-add-put-byte
-add-put-byte c = search needs
+cast-put-byte : tie.Need-cast-put-byte
+cast-put-byte c = search needs
+
+shl-put-byte : tie.Need-shl-put-byte
+shl-put-byte c = search needs
 
 put-byte-requires : tie.Need-put-byte-requires
 put-byte-requires c κs = search needs
-
-mul-put-byte-2 : tie.Need-mul-put-byte-2
-mul-put-byte-2 c = search needs
-
-add-put-byte-2 : tie.Need-add-put-byte-2
-add-put-byte-2 c = search needs
-
-put-byte-requires-2 : tie.Need-put-byte-requires-2
-put-byte-requires-2 c κs = search needs
 
 same-length : tie.Need-same-length
 same-length c = search needs
@@ -32,12 +26,4 @@ returns c = cc
 pub set-mark-spec : {M : Type 1} → statement M
 set-mark-spec =
     tie.close
-    (tie.spec
-    mul-put-byte
-    add-put-byte
-    put-byte-requires
-    mul-put-byte-2
-    add-put-byte-2
-    put-byte-requires-2
-    same-length
-    returns)
+    (tie.spec byte-requires cast-put-byte shl-put-byte put-byte-requires same-length returns)

@@ -1,15 +1,23 @@
 -- Below the count, or absent.
-use Rattle.rules.specs.BoundsLaws.{within}
+use Prim.Native.Nat.{ℕ, _<_}
+use native.Mathlib.Omega.{arith}
+use lib.ListN.{getD}
+use Rattle.values.specs.TopLaws.{names-within}
 use borrow.Author.Needs.{needs}
 use Rattle.values.proofs.bounds.names_ok.Statement.{statement}
 use Rattle.values.proofs.bounds.names_ok.Tie as tie
 
-all-within-requires : tie.Need-all-within-requires
-all-within-requires c κs = search needs
+top-requires : tie.Need-top-requires
+top-requires c κs = search needs
+
+cast-result : tie.Need-cast-result
+cast-result c = search needs
 
 returns : tie.Need-returns
-unfolding within
-returns c = c .all-within .ensures
+returns c =
+    let a = c .before .before .args in
+    let words : (i : ℕ) → getD (a .t .now) i 0 < 65536 = λ i. omega (arith, c .before .shared-slice-known .given i) in
+    rw (c .top .ensures) (names-within (a .t .now) words (a .count))
 
 pub names-ok-spec : {M : Type 1} → statement M
-names-ok-spec = tie.close (tie.spec all-within-requires returns)
+names-ok-spec = tie.close (tie.spec top-requires cast-result returns)

@@ -1,0 +1,4 @@
+pub mod Passes
+pub mod Turns
+pub mod Strides
+pub mod Begins

@@ -1,0 +1,76 @@
+-- What a pass over links whose ends all exist may rely on.
+use mathlib.Core.Path.{_≡_, sym, ap, _∙_}
+use mathlib.Core.Bool.{false}
+use mathlib.Core.List.{List}
+use Prim.Native.Nat.{ℕ, _+_, _*_, _≤_, _<_, min, max}
+use native.Mathlib.Decide.{decLt}
+use native.Mathlib.Omega.{arith}
+use lib.ListN.{length, getD, set}
+use lib.Seq.{set-getD, getD-set-other}
+use borrow.Author.Tests.{lt-ltb}
+use Rattle.lists.specs.LeastLaws.{least-start}
+use Rattle.lists.specs.Tables.{over, length-over, getD-over}
+use Rattle.lists.specs.Scatter.{takesIn}
+use Rattle.table.specs.Table.{endA, endB}
+use Rattle.rules.specs.Basics.{at, heard}
+use Rattle.rules.specs.Components.{leastHeard}
+use Rattle.rules.specs.HeardLaws.{hears}
+
+-- the ends of m links are there and below n
+abbrev pub EndsWithin : ℕ → ℕ → List ℕ → Type 0
+EndsWithin n m ends = (2 * m ≤ length ends) × ((i : ℕ) → i < 2 * m → getD ends i 0 < n)
+
+-- a bound of one word more
+pub above-more : (ends : List ℕ) (k most new : ℕ) → ((i : ℕ) → i < k → getD ends i 0 ≤ most) → new ≡ max most (getD ends k 0)
+    → (i : ℕ) → i < k + 1 → getD ends i 0 ≤ new
+above-more ends k most new was put i h = go (decLt i k)
+  where
+    go : Dec (i < k) → getD ends i 0 ≤ new
+    go (yes l) = omega (arith, was i l, put)
+    go (no l) = let e : i ≡ k = omega arith in rw e (omega (arith, put))
+
+-- unit v exists and has at most what it says
+abbrev pub Hearer : ℕ → List ℕ → List ℕ → ℕ → Type 0
+Hearer n said t v = (v < n) × ((v < length said) × ((v < length t) × (getD t v 0 ≤ getD said v 0)))
+
+pub hearer : (n j : ℕ) (ends said t : List ℕ) (v : ℕ) → v < n → v < length said → t ≡ over n (leastHeard j ends said) said → Hearer n said t v
+unfolding leastHeard
+hearer n j ends said t v h l was =
+    let f = leastHeard j ends said in
+    let is : getD t v 0 ≡ f v = rw was (getD-over n f said v 0 h l) in
+    let below : f v ≤ at said v = least-start j (λ (k : ℕ). heard said (endA ends k) (endB ends k) v) (at said v) in
+    (h, (l, (rw (was, length-over n f said) l, rw is below)))
+
+less-self : {x : ℕ} → x < x → ⊥
+less-self h = omega arith
+
+-- what is no less than an entry leaves it as it is
+unheard : (n : ℕ) (t : List ℕ) (v x : ℕ) → v < n → getD t v 0 ≤ x → takesIn min n t v x ≡ t
+unfolding takesIn
+unheard n t v x h l = let own : min (getD t v 0) x ≡ getD t v 0 = omega arith in rw (lt-ltb v n h, own) (set-getD t v 0)
+
+taken : (n : ℕ) (t : List ℕ) (v x : ℕ) → v < n → set t v (min (getD t v 0) x) ≡ takesIn min n t v x
+unfolding takesIn
+taken n t v x h = rw (lt-ltb v n h)
+
+-- the end that says less hears nothing
+module _ (n : ℕ) (said t : List ℕ) (a b : ℕ) (ha : Hearer n said t a) (hb : Hearer n said t b) where
+  pub hears-second : getD said a 0 < getD said b 0 → (new : List ℕ) → new ≡ set t b (min (getD t b 0) (getD said a 0)) → new ≡ hears false n said a b t
+  unfolding hears
+  hears-second h new put =
+      rw (put, unheard n t a (getD said b 0) (ha .0) (omega (arith, ha .1 .1 .1))) (taken n t b (getD said a 0) (hb .0))
+
+  pub hears-first : getD said b 0 < getD said a 0 → (new : List ℕ) → new ≡ set t a (min (getD t a 0) (getD said b 0)) → new ≡ hears false n said a b t
+  unfolding hears
+  hears-first h new put =
+      let apart : b ≡ a → ⊥ = λ q. less-self (rw q at h) in
+      let kept : getD new b 0 ≡ getD t b 0 = rw put (getD-set-other t a b (min (getD t a 0) (getD said b 0)) 0 apart) in
+      let same : new ≡ takesIn min n t a (getD said b 0) = put ∙ taken n t a (getD said b 0) (ha .0) in
+      let rest : takesIn min n new b (getD said a 0) ≡ new = unheard n new b (getD said a 0) (hb .0) (omega (arith, hb .1 .1 .1, kept)) in
+      sym rest ∙ ap (λ (l : List ℕ). takesIn min n l b (getD said a 0)) same
+
+  pub hears-none : getD said a 0 ≡ getD said b 0 → t ≡ hears false n said a b t
+  unfolding hears
+  hears-none h =
+      rw (unheard n t a (getD said b 0) (ha .0) (omega (arith, ha .1 .1 .1, h)))
+      (sym (unheard n t b (getD said a 0) (hb .0) (omega (arith, hb .1 .1 .1, h))))

@@ -1,0 +1,65 @@
+-- The greatest of the entries passed and of those from `i` on is the greatest of all.
+use mathlib.Core.Path.{_≡_, sym, _∙_}
+use Prim.Native.Nat.{_≤_, _-_, max}
+use native.Mathlib.Omega.{arith}
+use lib.ListN.{length, drop}
+use Rattle.values.specs.Tops.{topOf}
+use Rattle.values.specs.TopLaws.{top-next, top-end}
+use borrow.Author.Needs.{needs}
+use Rattle.values.proofs.bounds.top.Statement.{statement}
+use Rattle.values.proofs.bounds.top.Tie as tie
+
+abbrev Inv-loop : tie.InvT-loop
+Inv-loop more t greatest₀ i₀ greatest i = (i ≤ length t) × (topOf more t ≡ max greatest (topOf more (drop i t)))
+
+abbrev μ-loop : tie.MeasureT-loop
+μ-loop more t greatest₀ i₀ greatest i = length t - i
+
+loop-holds : tie.Need-loop-holds Inv-loop μ-loop
+loop-holds c = (search needs, omega arith)
+
+mul-wrapping-add-u16 : tie.Need-mul-wrapping-add-u16 Inv-loop μ-loop
+mul-wrapping-add-u16 c = search needs
+
+shared-slice-read-wrapping-add-u16 : tie.Need-shared-slice-read-wrapping-add-u16 Inv-loop μ-loop
+shared-slice-read-wrapping-add-u16 c = search needs
+
+wrapping-add-u16-requires : tie.Need-wrapping-add-u16-requires Inv-loop μ-loop
+wrapping-add-u16-requires c κs = search needs
+
+greatest-of-requires : tie.Need-greatest-of-requires Inv-loop μ-loop
+greatest-of-requires c κs = search needs
+
+add-i : tie.Need-add-i Inv-loop μ-loop
+add-i c = search needs
+
+loop-less : tie.Need-loop-less Inv-loop μ-loop
+loop-less c = search needs
+
+loop-again : tie.Need-loop-again Inv-loop μ-loop
+loop-again c =
+    let s = c .before .before .before .before in
+    let a = s .before .before .args in
+    (search needs, s .loop .inv .1 ∙ top-next (a .more) (a .t .now) (s .loop .i) (s .loop .greatest) (search needs) ∙ cc)
+
+returns : tie.Need-returns Inv-loop μ-loop
+returns c =
+    let s = c .before in
+    let a = s .before .before .args in
+    sym (s .loop .inv .1 ∙ top-end (a .more) (a .t .now) (s .loop .i) (s .loop .greatest) (c .loop-test .left))
+
+pub top-spec : {M : Type 1} → statement M
+top-spec =
+    tie.close
+    (tie.spec
+    Inv-loop
+    μ-loop
+    loop-holds
+    mul-wrapping-add-u16
+    shared-slice-read-wrapping-add-u16
+    wrapping-add-u16-requires
+    greatest-of-requires
+    add-i
+    loop-less
+    loop-again
+    returns)

@@ -1,0 +1,79 @@
+-- The greatest entry is within a limit exactly when every entry is. Raised by 1, an absent entry is 0, which is within every limit.
+use mathlib.Core.Path.{_≡_}
+use mathlib.Core.Bool.{Bool, _&&_}
+use mathlib.Core.List.{List, [], _∷_}
+use Prim.Native.Nat.{ℕ, zero, suc, _+_, _≤_, _<_, max}
+use native.Mathlib.Decide.{decLe, decLt}
+use native.Mathlib.Omega.{arith}
+use lib.Dec.{leb}
+use lib.ListN.{length, getD, drop, drop-of-length-le}
+use borrow.Author.Tests.{le-leb, lt-leb, lt-ltb, le-ltb, eq-eqb, ne-eqb}
+use Rattle.lists.specs.Folds.{every}
+use Rattle.lists.specs.Rests.{rest-one}
+use Rattle.rules.specs.Basics.{ABSENT, MAX-NUMBER}
+use Rattle.rules.specs.Bounds.{nameOk, numberOk, distOk}
+use Rattle.values.specs.Tops.{raised, topOf}
+
+-- ---- along the table
+
+-- the entry at `i` is taken in
+pub top-next : (more : ℕ) (t : List ℕ) (i x : ℕ) → i < length t
+    → max x (topOf more (drop i t)) ≡ max (max x (raised more (getD t i 0))) (topOf more (drop (i + 1) t))
+unfolding topOf
+top-next more t i x h = rw (rest-one t i 0 h) (omega arith)
+
+pub top-end : (more : ℕ) (t : List ℕ) (i x : ℕ) → length t ≤ i → max x (topOf more (drop i t)) ≡ x
+unfolding topOf
+top-end more t i x h = rw (drop-of-length-le t h) (omega arith)
+
+-- ---- the limit
+
+both-within : (a b limit : ℕ) → leb (max a b) limit ≡ (leb a limit && leb b limit)
+both-within a b limit = go (decLe a limit) (decLe b limit)
+  where
+    go : Dec (a ≤ limit) → Dec (b ≤ limit) → leb (max a b) limit ≡ (leb a limit && leb b limit)
+    go (yes h) (yes l) = rw (le-leb a limit h, le-leb b limit l) (le-leb (max a b) limit (omega arith))
+    go (yes h) (no l) = rw (le-leb a limit h, lt-leb b limit (omega arith)) (lt-leb (max a b) limit (omega arith))
+    go (no h) l = rw (lt-leb a limit (omega arith)) (lt-leb (max a b) limit (omega arith))
+
+-- for a test that an entry passes whose raised word is within the limit
+module _ (more limit : ℕ) (p : ℕ → Bool) (exact : (x : ℕ) → x < 65536 → leb (raised more x) limit ≡ p x) where
+  top-every : (t : List ℕ) → ((i : ℕ) → getD t i 0 < 65536) → leb (topOf more t) limit ≡ every p t
+  unfolding topOf
+  top-every [] words = le-leb 0 limit (omega arith)
+  top-every (x ∷ t) words =
+      rw (both-within (raised more x) (topOf more t) limit, exact x (words zero), top-every t (λ i. words (suc i)))
+
+-- ---- the three tests
+
+name-within : (count x : ℕ) → x < 65536 → leb (raised 1 x) count ≡ nameOk count x
+name-within count x w = go (decLt x ABSENT) (decLt x count)
+  where
+    go : Dec (x < ABSENT) → Dec (x < count) → leb (raised 1 x) count ≡ nameOk count x
+    go (yes l) (yes h) = rw (lt-ltb x count h) (le-leb (raised 1 x) count (omega arith))
+    go (yes l) (no h) = rw (le-ltb x count (omega arith), ne-eqb x ABSENT (λ e. omega arith)) (lt-leb (raised 1 x) count (omega arith))
+    go (no l) (yes h) = rw (lt-ltb x count h) (le-leb (raised 1 x) count (omega arith))
+    go (no l) (no h) = rw (le-ltb x count (omega arith), eq-eqb x ABSENT (omega arith)) (le-leb (raised 1 x) count (omega arith))
+
+number-within : (x : ℕ) → x < 65536 → leb (raised 0 x) MAX-NUMBER ≡ numberOk x
+number-within x w = let e : raised 0 x ≡ x = omega arith in rw e
+
+dist-within : (x : ℕ) → x < 65536 → leb (raised 1 x) 2049 ≡ distOk x
+dist-within x w = go (decLe x MAX-NUMBER) (decLt x ABSENT)
+  where
+    go : Dec (x ≤ MAX-NUMBER) → Dec (x < ABSENT) → leb (raised 1 x) 2049 ≡ distOk x
+    go (yes h) l = rw (le-leb x MAX-NUMBER h) (le-leb (raised 1 x) 2049 (omega arith))
+    go (no h) (yes l) =
+        rw (lt-leb x MAX-NUMBER (omega arith), ne-eqb x ABSENT (λ e. omega arith)) (lt-leb (raised 1 x) 2049 (omega arith))
+    go (no h) (no l) =
+        rw (lt-leb x MAX-NUMBER (omega arith), eq-eqb x ABSENT (omega arith)) (le-leb (raised 1 x) 2049 (omega arith))
+
+module _ (t : List ℕ) (words : (i : ℕ) → getD t i 0 < 65536) where
+  pub names-within : (count : ℕ) → leb (topOf 1 t) count ≡ every (nameOk count) t
+  names-within count = top-every 1 count (nameOk count) (name-within count) t words
+
+  pub numbers-within : leb (topOf 0 t) MAX-NUMBER ≡ every numberOk t
+  numbers-within = top-every 0 MAX-NUMBER numberOk number-within t words
+
+  pub dists-within : leb (topOf 1 t) 2049 ≡ every distOk t
+  dists-within = top-every 1 2049 distOk dist-within t words
