@@ -1,4 +1,3 @@
-// Stages 8 to 10 as code: a function for each table that a round leaves, equal to its rule for every input.
-pub mod aux;
+// Stages 8 and 10 as code: a function for each table that a round leaves, equal to its rule for every input.
+pub mod edges;
 pub mod labels;
-mod silent;

@@ -1,7 +1,4 @@
-// Stages 1 to 3 as code: a function for each table that a round leaves, equal to its rule for every input.
-mod buckets;
+// Stages 1 and 2 as code: a function for each table that a round leaves, equal to its rule for every input.
 pub mod components;
-mod siblings;
-pub mod tour;
 pub mod tree;
 mod within;

@@ -6,8 +6,9 @@ use super::state::Labels;
 use super::state::Order;
 use super::state::Range;
 use super::tick;
-use blocks::aux;
+use blocks::edges;
 use blocks::labels;
+use joins::aux;
 use ranges::moves;
 use ranges::range;
 ghost use mathlib.Core.Path.{_≡_};
@@ -170,7 +171,7 @@ pub(crate) fn edges_step<'a>(
     let parents = group.parents;
     let linked = group.links;
     let color = group.color;
-    let new = aux::parent_joins_round(
+    let new = edges::parent_joins_round(
         units,
         parent,
         &order.nd,
@@ -179,7 +180,7 @@ pub(crate) fn edges_step<'a>(
         &range.high,
         parents,
     );
-    let new_linked = aux::link_joins_round(links, ends, parent, linked);
+    let new_linked = edges::link_joins_round(links, ends, parent, linked);
     AuxStep {
         aux: Aux {
             parents: new,

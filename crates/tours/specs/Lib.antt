@@ -1,0 +1,4 @@
+pub mod Firsts
+pub mod Siblings
+pub mod Neighbors
+pub mod Predecessors
