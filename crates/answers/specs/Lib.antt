@@ -1,4 +1,6 @@
 pub mod Flags
 pub mod Sharing
-pub mod Extremes
+pub mod BitFolds
+pub mod LabelBits
 pub mod Lines
+pub mod Pairs

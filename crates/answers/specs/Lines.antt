@@ -15,13 +15,19 @@ use Rattle.frames.specs.FrameLaws.{length-line}
 use Rattle.frames.specs.FrameRests.{line-next}
 use Rattle.rules.specs.Basics.{at}
 
+-- the body of a unit's line, and of a link's
+abbrev pub unitFields : ℕ → ℕ → ℕ → ℕ → ℕ → List ℕ
+unitFields unit color parent place single = 0x12 ∷ wordBytes unit ++ wordBytes color ++ wordBytes parent ++ wordBytes place ++ single ∷ []
+
+abbrev pub linkFields : ℕ → ℕ → ℕ → List ℕ
+linkFields position label lone = 0x13 ∷ wordBytes position ++ wordBytes label ++ lone ∷ []
+
 -- what the tables say of unit v, and of the link at position j
 abbrev pub unitBody : List ℕ → List ℕ → List ℕ → List ℕ → ℕ → List ℕ
-unitBody color parent place singles v =
-    0x12 ∷ wordBytes v ++ wordBytes (at color v) ++ wordBytes (at parent v) ++ wordBytes (at place v) ++ at singles v ∷ []
+unitBody color parent place singles v = unitFields v (at color v) (at parent v) (at place v) (at singles v)
 
 abbrev pub linkBody : List ℕ → List ℕ → ℕ → List ℕ
-linkBody label lones j = 0x13 ∷ wordBytes j ++ wordBytes (at label j) ++ at lones j ∷ []
+linkBody label lones j = linkFields j (at label j) (at lones j)
 
 -- n lines of so many characters
 abbrev pub linesOf : ℕ → (ℕ → List ℕ) → List ℕ

@@ -2,7 +2,7 @@
 use mathlib.Core.Path.{_≡_, refl, sym, _∙_}
 use mathlib.Core.Bool.{cond}
 use mathlib.Core.List.{List}
-use Prim.Native.Nat.{ℕ, _+_, _≤_, _<_, min}
+use Prim.Native.Nat.{ℕ, _+_, _%_, _≤_, _<_}
 use native.Mathlib.Decide.{decLt, ℕ-discrete}
 use native.Mathlib.Numerals.{add-one}
 use native.Mathlib.Omega.{arith}
@@ -35,6 +35,9 @@ pub sharing-more : (k : ℕ) (label : List ℕ) (x : ℕ) → sharing k label x 
 unfolding sharing
 sharing-more k label x = rw (add-one k)
 
+pub sharing-other : (k : ℕ) (label : List ℕ) (x : ℕ) → (at label k ≡ x → ⊥) → sharing k label x ≡ sharing (k + 1) label x
+sharing-other k label x d = rw (← sharing-more k label x, ne-eqb (at label k) x d) (omega arith)
+
 -- ---- buckets: a label below 1,024 is the number of its bucket
 
 abbrev pub BUCKETS : ℕ
@@ -48,23 +51,23 @@ pub record Shared (m : ℕ) (label bucket : List ℕ) : Type 0 where
 pub shared-none : (label : List ℕ) → Shared 0 label (replicate BUCKETS 0)
 shared-none label = record { long = length-replicate {A = ℕ} BUCKETS 0; known = λ q h. getD-replicate BUCKETS q 0 0 h ∙ sym (sharing-none label q) }
 
--- one more in bucket q, as far as a word holds it
+-- one more in bucket q, as a word
 abbrev pub counted : List ℕ → ℕ → List ℕ
-counted bucket q = set bucket q (min (getD bucket q 0 + 1) ABSENT)
+counted bucket q = set bucket q ((getD bucket q 0 + 1) % 65536)
 
 module _ (k : ℕ) (label bucket : List ℕ) (was : Shared k label bucket) (fits : k < ABSENT) where
   one-more : (q : ℕ) → q < BUCKETS → Dec (q ≡ at label k) → getD (counted bucket (at label k)) q 0 ≡ sharing (k + 1) label q
   one-more q h (yes e) =
       rw (
         ← e,
-        getD-set-same bucket q (min (getD bucket q 0 + 1) ABSENT) 0 (omega (arith, was .long)),
+        getD-set-same bucket q ((getD bucket q 0 + 1) % 65536) 0 (omega (arith, was .long)),
         was .known q h,
         ← sharing-more k label q,
         eq-eqb (at label k) q (sym e),
       ) (omega (arith, sharing-le k label q))
   one-more q h (no e) =
       rw (
-        getD-set-other bucket (at label k) q (min (getD bucket (at label k) 0 + 1) ABSENT) 0 e,
+        getD-set-other bucket (at label k) q ((getD bucket (at label k) 0 + 1) % 65536) 0 e,
         was .known q h,
         ← sharing-more k label q,
         ne-eqb (at label k) q (λ d. e (sym d)),
@@ -73,9 +76,16 @@ module _ (k : ℕ) (label bucket : List ℕ) (was : Shared k label bucket) (fits
   -- link k is counted
   pub shared-more : Shared (k + 1) label (counted bucket (at label k))
   shared-more = record {
-    long = length-set bucket (at label k) (min (getD bucket (at label k) 0 + 1) ABSENT) ∙ was .long;
+    long = length-set bucket (at label k) ((getD bucket (at label k) 0 + 1) % 65536) ∙ was .long;
     known = λ q h. one-more q h (ℕ-discrete q (at label k));
   }
+
+-- a link whose label has no bucket
+pub shared-other : (k : ℕ) (label bucket : List ℕ) → Shared k label bucket → BUCKETS ≤ at label k → Shared (k + 1) label bucket
+shared-other k label bucket was h = record {
+  long = was .long;
+  known = λ q l. was .known q l ∙ sharing-other k label q (λ e. omega (arith, e));
+}
 
 -- a label is the number of a bucket, or absent; one that no state holds is counted anew
 unfoldable pub lookup : ℕ → List ℕ → List ℕ → ℕ → ℕ → ℕ

@@ -4,6 +4,8 @@ mod flags;
 mod lines;
 mod links;
 mod listing;
+mod pairs;
+mod rows;
 mod units;
 
 pub use flags::count_flags;

@@ -1,6 +1,5 @@
 // Lone links: those alone in their label.
 ghost use mathlib.Core.Path.{_≡_};
-ghost use Prim.Native.Nat.{min, _+_};
 ghost use Rattle.rules.specs.Labels.{lone};
 ghost use Rattle.answers.specs.Flags.{flagTable};
 ghost use Rattle.answers.specs.Sharing.{sharing, counted, lookup, Shared};
@@ -29,33 +28,33 @@ pub fn lone(links: u16, label: &[u16], j: u16) -> bool
     sharing(links, label, slices::word(label, j as usize)) == 1
 }
 
-// One more, as far as a word holds it.
-fn up(x: u16) -> u16
-    ensures { λ r. ⌜ r ≡ min (x + 1) 65535 ⌝ }
-{
-    if x < ABSENT { x + 1 } else { ABSENT }
-}
-
 // One more in bucket `q`.
 fn count_in(bucket: &mut [u16], q: u16)
     ensures { λ _. ⌜ now (bucket .exit) ≡ counted (now (bucket .entry)) q ⌝ }
 {
-    let more = up(slices::word(bucket, q as usize));
+    let more = std::num::wrapping_add_u16(slices::word(bucket, q as usize), 1);
     slices::put(bucket, q as usize, more);
 }
 
-// For each label below 1,024 how many links have it: one pass over the links.
-fn buckets(links: u16, label: &[u16]) -> [u16; 1024]
-    ensures { λ r. ⌜ Shared links (now (label .entry)) r ⌝ }
+// For each label below 1,024 how many links have it, and how many have the absent label: one pass over the links.
+fn count_labels(links: u16, label: &[u16], bucket: &mut [u16]) -> u16
+    requires { ⌜ Shared 0 (now label) (now bucket) ⌝ }
+    ensures buckets { λ _. ⌜ Shared links (now (label .entry)) (now (bucket .exit)) ⌝ }
+    ensures absent { λ r. ⌜ r ≡ sharing links (now (label .entry)) 65535 ⌝ }
 {
-    let mut bucket = [0u16; 1024];
+    let mut absent = 0;
     let mut k = 0;
     while k < links {
         let q = slices::word(label, k as usize);
-        count_in(&mut bucket, q);
         k += 1;
+        if q < 1024 {
+            count_in(bucket, q);
+            continue;
+        }
+        let one = flags::one_if(q == ABSENT);
+        absent += one;
     }
-    bucket
+    absent
 }
 
 // The count of the label `x` from the buckets, and from `absent` for the absent label; a label that no state holds is counted.
@@ -75,8 +74,8 @@ fn look_up<'a>(links: u16, label: &'a [u16], bucket: &'a [u16], absent: u16, x: 
 pub fn lones(links: u16, label: &[u16]) -> [u8; 1024]
     ensures { λ r. ⌜ r ≡ flagTable 1024 links (lone links (now (label .entry))) ⌝ }
 {
-    let bucket = buckets(links, label);
-    let absent = sharing(links, label, ABSENT);
+    let mut bucket = [0u16; 1024];
+    let absent = count_labels(links, label, &mut bucket);
     let mut table = [0u8; 1024];
     let mut j = 0;
     while j < links {

@@ -1,11 +1,16 @@
 // The lines of all units and of all links, one after the other: each is written to the rest of the slice, past those before it.
 ghost use mathlib.Core.Path.{_≡_};
+ghost use Prim.Native.Nat.{_≤_};
+ghost use lib.ListN.{length};
 ghost use Rattle.frames.specs.Frame.{lineOver};
 ghost use Rattle.answers.specs.Lines.{unitBody, linkBody, linesOver};
-use super::lines;
+ghost use Rattle.answers.specs.Pairs.{pairTable};
+use super::pairs;
+use super::rows;
 
 // The line of unit `v`.
 fn unit_at<'a>(
+    pairs: &'a [u16],
     v: u16,
     color: &'a [u16],
     parent: &'a [u16],
@@ -13,6 +18,7 @@ fn unit_at<'a>(
     singles: &'a [u8],
     out: &mut [u8],
 )
+    requires { ⌜ (now pairs ≡ pairTable) × (23 ≤ length (now out)) ⌝ }
     ensures { λ _. ⌜ now (out .exit) ≡ lineOver (unitBody (now (color .entry)) (now (parent .entry)) (now (place .entry)) (now (singles .entry)) v) (now (out .entry)) ⌝ }
 {
     let i = v as usize;
@@ -20,7 +26,7 @@ fn unit_at<'a>(
     let p = slices::word(parent, i);
     let at = slices::word(place, i);
     let single = slices::byte(singles, i);
-    lines::unit_line(v, c, p, at, single, out);
+    rows::unit_row(pairs, v, c, p, at, single, out);
 }
 
 // The lines of all units; nothing where they do not fit.
@@ -37,22 +43,24 @@ pub fn unit_lines<'a>(
     if out.len() < 23 * (units as usize) {
         return;
     }
+    let pairs = pairs::table();
     let mut v = 0;
     while v < units {
         let at = 23 * (v as usize);
-        unit_at(v, color, parent, place, singles, &mut out[at..]);
+        unit_at(&pairs, v, color, parent, place, singles, &mut out[at..]);
         v += 1;
     }
 }
 
 // The line of link `j`.
-fn link_at<'a>(j: u16, label: &'a [u16], lones: &'a [u8], out: &mut [u8])
+fn link_at<'a>(pairs: &'a [u16], j: u16, label: &'a [u16], lones: &'a [u8], out: &mut [u8])
+    requires { ⌜ (now pairs ≡ pairTable) × (15 ≤ length (now out)) ⌝ }
     ensures { λ _. ⌜ now (out .exit) ≡ lineOver (linkBody (now (label .entry)) (now (lones .entry)) j) (now (out .entry)) ⌝ }
 {
     let i = j as usize;
     let x = slices::word(label, i);
     let lone = slices::byte(lones, i);
-    lines::link_line(j, x, lone, out);
+    rows::link_row(pairs, j, x, lone, out);
 }
 
 // The lines of all links; nothing where they do not fit.
@@ -62,10 +70,11 @@ pub fn link_lines<'a>(links: u16, label: &'a [u16], lones: &'a [u8], out: &mut [
     if out.len() < 15 * (links as usize) {
         return;
     }
+    let pairs = pairs::table();
     let mut j = 0;
     while j < links {
         let at = 15 * (j as usize);
-        link_at(j, label, lones, &mut out[at..]);
+        link_at(&pairs, j, label, lones, &mut out[at..]);
         j += 1;
     }
 }

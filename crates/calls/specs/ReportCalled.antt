@@ -1,5 +1,5 @@
 -- A report that is not refused is the one that the writer lays down.
-use mathlib.Core.Path.{_≡_}
+use mathlib.Core.Path.{_≡_, _∙_}
 use mathlib.Core.Bool.{not}
 use mathlib.Core.List.{List}
 use Prim.Native.Nat.{ℕ, _≤_}
@@ -13,9 +13,9 @@ use Rattle.survey.specs.declared.state.Survey.{Survey}
 use Rattle.survey.specs.State.{units, links, words, finished}
 use Rattle.survey.specs.Kept.{Kept, kept-exact}
 use Rattle.survey.specs.WellFormed.{wellFormed}
-use Rattle.survey.specs.Report.{reportLength, reportOver}
+use Rattle.survey.specs.Report.{reportLength}
 use Rattle.survey.specs.ReportLaws.{length-report}
-use Rattle.calls.specs.ReportWritten.{report-fits}
+use Rattle.calls.specs.ReportWritten.{partsOver, report-fits, parts-report}
 use Rattle.survey.specs.Calls.{reportRefusal, reported}
 
 module _ (s : Survey) (out : List ℕ) (accepted : reportRefusal s (length out) ≡ 0) where
@@ -30,8 +30,9 @@ module _ (s : Survey) (out : List ℕ) (accepted : reportRefusal s (length out) 
       let last = passed-test (not (finished s)) 12 _ (omega arith) later .1 in
       ltb-false (length out) (reportLength (units s) (links s)) (passed-test (ltb (length out) (reportLength (units s) (links s))) 14 0 (omega arith) last .0)
 
-  pub reported-over : reportOver s out ≡ reported s out
+  -- the parts, from the state's numbers and tables
+  pub reported-parts : partsOver (units s) (links s) (s .clock .rounds) (s .clock .requests) (s .table .ends) (s .labels .label) (s .components .color) (s .tree .parent) (s .order .pre) out ≡ reported s out
   unfolding reported
-  reported-over =
-      rw (accepted, length-report s)
-      (report-fits s out (passes (units s) (words s) (kept .passes) .fewUnits) (kept .few) fits)
+  reported-parts =
+      let n = passes (units s) (words s) (kept .passes) .fewUnits in
+      parts-report s out n (kept .few) fits ∙ rw (accepted, length-report s) (report-fits s out n (kept .few) fits)

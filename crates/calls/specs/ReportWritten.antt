@@ -1,8 +1,10 @@
 -- The report laid down over a slice: the first line, then each part to the lent rest past those before it.
-use mathlib.Core.Path.{_≡_, refl, ap, _∙_}
+use mathlib.Core.Path.{_≡_, refl, sym, ap, _∙_}
+use mathlib.Core.Bool.{cond, _&&_}
 use mathlib.Core.List.{List, _∷_, _++_}
 use Prim.Native.Nat.{ℕ, _+_, _*_, _≤_, _<_}
 use native.Mathlib.Omega.{arith}
+use lib.Dec.{leb}
 use lib.ListN.{length, drop, length-append, length-drop}
 use borrow.Author.Tests.{le-leb, lt-leb}
 use Rattle.lists.specs.Lent.{lent, back, back-next}
@@ -22,25 +24,11 @@ use Rattle.survey.specs.ReportLaws.{length-head, length-report, units-long, lin
 
 -- ---- by the tests
 
-module _ (s : Survey) (out : List ℕ) where
-  pub report-units : maxUnits < units s → out ≡ reportOver s out
-  unfolding reportOver
-  report-units h = rw (lt-leb (units s) maxUnits h)
-
-  pub report-links : units s ≤ maxUnits → maxLinks < links s → out ≡ reportOver s out
-  unfolding reportOver
-  report-links n h = rw (le-leb (units s) maxUnits n, lt-leb (links s) maxLinks h)
-
-  pub report-short : units s ≤ maxUnits → links s ≤ maxLinks → length out < reportLength (units s) (links s) → out ≡ reportOver s out
-  unfolding reportOver
-  report-short n m h =
-      rw (le-leb (units s) maxUnits n, le-leb (links s) maxLinks m, lt-leb (reportLength (units s) (links s)) (length out) h)
-
-  pub report-fits : units s ≤ maxUnits → links s ≤ maxLinks → reportLength (units s) (links s) ≤ length out
-      → reportOver s out ≡ report s ++ drop (reportLength (units s) (links s)) out
-  unfolding reportOver
-  report-fits n m h =
-      rw (le-leb (units s) maxUnits n, le-leb (links s) maxLinks m, le-leb (reportLength (units s) (links s)) (length out) h, length-report s)
+pub report-fits : (s : Survey) (out : List ℕ) → units s ≤ maxUnits → links s ≤ maxLinks → reportLength (units s) (links s) ≤ length out
+    → reportOver s out ≡ report s ++ drop (reportLength (units s) (links s)) out
+unfolding reportOver
+report-fits s out n m h =
+    rw (le-leb (units s) maxUnits n, le-leb (links s) maxLinks m, le-leb (reportLength (units s) (links s)) (length out) h, length-report s)
 
 -- ---- the lines of units and of links, from the tables and the flags
 
@@ -109,6 +97,31 @@ partsDown n m r q ends label color parent place out =
     (over-rest (13 + 23 * n) (linkLines m label)
     (over-rest 13 (unitLines n m ends label color parent place) (lineOver (0x11 ∷ wordBytes r ++ wordBytes q) out)))
 
+-- the same where it fits and no count is past its table; else the slice as it was
+unfoldable pub partsOver : ℕ → ℕ → ℕ → ℕ → List ℕ → List ℕ → List ℕ → List ℕ → List ℕ → List ℕ → List ℕ
+partsOver n m r q ends label color parent place out =
+    cond (leb n maxUnits && leb m maxLinks && leb (reportLength n m) (length out))
+    (partsDown n m r q ends label color parent place out)
+    out
+
+module _ (n m r q : ℕ) (ends label color parent place out : List ℕ) where
+  pub parts-units : maxUnits < n → out ≡ partsOver n m r q ends label color parent place out
+  unfolding partsOver
+  parts-units h = rw (lt-leb n maxUnits h)
+
+  pub parts-links : n ≤ maxUnits → maxLinks < m → out ≡ partsOver n m r q ends label color parent place out
+  unfolding partsOver
+  parts-links a h = rw (le-leb n maxUnits a, lt-leb m maxLinks h)
+
+  pub parts-short : n ≤ maxUnits → m ≤ maxLinks → length out < reportLength n m → out ≡ partsOver n m r q ends label color parent place out
+  unfolding partsOver
+  parts-short a b h = rw (le-leb n maxUnits a, le-leb m maxLinks b, lt-leb (reportLength n m) (length out) h)
+
+  pub parts-fit : n ≤ maxUnits → m ≤ maxLinks → reportLength n m ≤ length out
+      → partsDown n m r q ends label color parent place out ≡ partsOver n m r q ends label color parent place out
+  unfolding partsOver
+  parts-fit a b h = rw (le-leb n maxUnits a, le-leb m maxLinks b, le-leb (reportLength n m) (length out) h)
+
 -- as the calls leave them: z after the first line, u, l and t what the other parts make of the rest that they are lent
 pub parts-down : (n m r q : ℕ) (ends label color parent place out z u l t : List ℕ) (singles lones : ℕ)
     → z ≡ lineOver (0x11 ∷ wordBytes r ++ wordBytes q) out
@@ -161,3 +174,11 @@ module _ (s : Survey) (out : List ℕ) (n : units s ≤ maxUnits) (m : links s �
       ≡ report s ++ drop (reportLength (units s) (links s)) out
   unfolding partsDown
   report-laid = rw (after-head, after-units, after-links) after-tail
+
+-- the parts from a state's numbers and tables are its report
+pub parts-report : (s : Survey) (out : List ℕ) → units s ≤ maxUnits → links s ≤ maxLinks → reportLength (units s) (links s) ≤ length out
+    → partsOver (units s) (links s) (s .clock .rounds) (s .clock .requests) (s .table .ends) (s .labels .label) (s .components .color) (s .tree .parent) (s .order .pre) out
+    ≡ reportOver s out
+parts-report s out n m h =
+    sym (parts-fit (units s) (links s) (s .clock .rounds) (s .clock .requests) (s .table .ends) (s .labels .label) (s .components .color) (s .tree .parent) (s .order .pre) out n m h)
+    ∙ (report-laid s out n m h ∙ sym (report-fits s out n m h))

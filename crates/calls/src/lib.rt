@@ -18,6 +18,8 @@ use survey::Survey;
 mod fields;
 mod lines;
 
+pub use lines::report_lines;
+
 // The stage of a finished survey.
 const FINISHED: u16 = 11;
 
@@ -88,15 +90,27 @@ pub fn report(survey: Survey, out: &mut [u8]) -> Answer
             reply: Reply::Refused(refused),
         };
     }
-    lines::write(survey, out);
+    let length = 26 + 23 * (units as u32) + 15 * (links as u32);
+    lines::report_lines(
+        units,
+        links,
+        survey.clock.rounds,
+        survey.clock.requests,
+        &survey.table.ends,
+        &survey.labels.label,
+        &survey.components.color,
+        &survey.tree.parent,
+        &survey.order.pre,
+        out,
+    );
     Answer {
         survey,
-        reply: Reply::Written(26 + 23 * (units as u32) + 15 * (links as u32)),
+        reply: Reply::Written(length),
     }
 }
 
 // The number of the first cause among 10, 12, 14, given whether the state is well formed.
-fn report_refusal(well: bool, stage: u16, units: u16, links: u16, places: usize) -> u8
+pub fn report_refusal(well: bool, stage: u16, units: u16, links: u16, places: usize) -> u8
     ensures { λ r. ⌜ r ≡ firstOf ((10, not well) ∷ (12, not (eqb stage 11)) ∷ (14, ltb places (reportLength units links)) ∷ []) ⌝ }
 {
     if !well {

@@ -4,9 +4,8 @@ ghost use Prim.Native.Nat.{_≤_};
 ghost use lib.ListN.{length};
 ghost use Rattle.lists.specs.Folds.{count};
 ghost use Rattle.rules.specs.Labels.{single, lone};
-ghost use Rattle.survey.specs.Report.{reportLength, reportOver};
-ghost use Rattle.calls.specs.ReportWritten.{unitLines, linkLines, partsDown};
-use survey::Survey;
+ghost use Rattle.survey.specs.Report.{reportLength};
+ghost use Rattle.calls.specs.ReportWritten.{unitLines, linkLines, partsDown, partsOver};
 
 // The lines of all units, and the number of single points.
 fn unit_part<'a>(
@@ -73,11 +72,20 @@ fn all<'a>(
 }
 
 // The report at the front of the slice; nothing where it does not fit, or a count is past its table, as in no well-formed state.
-pub(crate) fn write(s: Survey, out: &mut [u8])
-    ensures { λ _. ⌜ now (out .exit) ≡ reportOver s (now (out .entry)) ⌝ }
+pub fn report_lines<'a>(
+    units: u16,
+    links: u16,
+    rounds: u16,
+    requests: u16,
+    ends: &'a [u16],
+    label: &'a [u16],
+    color: &'a [u16],
+    parent: &'a [u16],
+    place: &'a [u16],
+    out: &mut [u8],
+)
+    ensures { λ _. ⌜ now (out .exit) ≡ partsOver units links rounds requests (now (ends .entry)) (now (label .entry)) (now (color .entry)) (now (parent .entry)) (now (place .entry)) (now (out .entry)) ⌝ }
 {
-    let units = s.table.units;
-    let links = s.table.links;
     if 256 < units {
         return;
     }
@@ -90,13 +98,13 @@ pub(crate) fn write(s: Survey, out: &mut [u8])
     all(
         units,
         links,
-        s.clock.rounds,
-        s.clock.requests,
-        &s.table.ends,
-        &s.labels.label,
-        &s.components.color,
-        &s.tree.parent,
-        &s.order.pre,
+        rounds,
+        requests,
+        ends,
+        label,
+        color,
+        parent,
+        place,
         out,
     );
 }

@@ -2,6 +2,8 @@ pub mod File
 pub mod LineLaws
 pub mod OrderLaws
 pub mod ShapeLaws
+pub mod Marks
+pub mod Regular
 pub mod PlaceLaws
 pub mod ReadLaws
 pub mod WriteLaws

@@ -1,6 +1,7 @@
 -- Reading: the reply by its tests, and what an accepted file holds.
 use mathlib.Core.Path.{_≡_, refl, ap, _∙_}
 use mathlib.Core.Bool.{true, false, cond, not}
+use mathlib.Core.Logic.{_⊎_, inl, inr}
 use mathlib.Core.List.{List, [], _∷_, _++_}
 use Prim.Native.Nat.{ℕ, zero, suc, _+_, _*_, _-_, _/_, _≤_, _<_}
 use native.Mathlib.Numerals.{add-one}
@@ -9,7 +10,9 @@ use native.Mathlib.Omega.{arith}
 use lib.Dec.{eqb, ltb}
 use lib.ListN.{length, drop, set}
 use borrow.Author.Tests.{eq-eqb, ne-eqb, eqb-true, lt-ltb, le-ltb, ltb-false, not-false}
+use Rattle.lists.specs.Tests.{either}
 use Rattle.lists.specs.Puts.{put-two}
+use Rattle.table.specs.Refusals.{firstOf}
 use Rattle.table.specs.RefusalLaws.{passed-test}
 use Rattle.table.specs.Table.{maxLinks}
 use Rattle.frames.specs.Frame.{wordAt}
@@ -21,14 +24,40 @@ use Rattle.files.specs.ShapeLaws.{Accepted, file-shape}
 
 -- ---- the reply, by the tests passed and the one that holds
 
-module _ (ls : List Line) (places : ℕ) where
-  pub refused-1 : faultyLine ls ≡ true → 1 ≡ readRefusal ls places
-  unfolding readRefusal
-  refused-1 e = rw e
+-- the first cause among 1 and 2
+unfoldable pub orderRefusal : List Line → ℕ
+orderRefusal ls = firstOf ((1, faultyLine ls) ∷ (2, not (inOrder ls)) ∷ [])
 
-  pub refused-2 : faultyLine ls ≡ false → inOrder ls ≡ false → 2 ≡ readRefusal ls places
-  unfolding readRefusal
-  refused-2 p1 e = rw (p1, e)
+module _ (ls : List Line) where
+  pub faulty-order : faultyLine ls ≡ true → 1 ≡ orderRefusal ls
+  unfolding orderRefusal
+  faulty-order e = rw e
+
+  pub broken-order : faultyLine ls ≡ false → inOrder ls ≡ false → 2 ≡ orderRefusal ls
+  unfolding orderRefusal
+  broken-order p1 e = rw (p1, e)
+
+  pub kept-order : faultyLine ls ≡ false → inOrder ls ≡ true → 0 ≡ orderRefusal ls
+  unfolding orderRefusal
+  kept-order p1 e = rw (p1, e)
+
+  pub order-kept : orderRefusal ls ≡ 0 → (faultyLine ls ≡ false) × (inOrder ls ≡ true)
+  unfolding orderRefusal
+  order-kept e =
+      let t1 = passed-test (faultyLine ls) 1 _ (omega arith) e in
+      let t2 = passed-test (not (inOrder ls)) 2 _ (omega arith) (t1 .1) in
+      (t1 .0, not-false (inOrder ls) (t2 .0))
+
+module _ (ls : List Line) (places : ℕ) where
+  -- a cause among 1 and 2 comes before the others
+  pub refused-order : (k : ℕ) → k ≡ orderRefusal ls → (k ≡ 0 → ⊥) → k ≡ readRefusal ls places
+  unfolding orderRefusal readRefusal
+  refused-order k e n = go (either (faultyLine ls)) (either (inOrder ls))
+    where
+      go : (faultyLine ls ≡ true) ⊎ (faultyLine ls ≡ false) → (inOrder ls ≡ true) ⊎ (inOrder ls ≡ false) → k ≡ readRefusal ls places
+      go (inl f) o = rw f (e ∙ rw f)
+      go (inr f) (inr o) = rw (f, o) (e ∙ rw (f, o))
+      go (inr f) (inl o) = absurd (n (e ∙ rw (f, o)))
 
   module _ (p1 : faultyLine ls ≡ false) (p2 : inOrder ls ≡ true) where
     pub refused-3 : (statedCount ls ≡ linkFrames ls → ⊥) → 3 ≡ readRefusal ls places
@@ -95,13 +124,19 @@ ends-last (suc m) s =
     ap (λ (l : List ℕ). wordAt s 2 ∷ wordAt s 6 ∷ l)
     (ends-last m (drop 13 s) ∙ rw (wordAt-drop s 13 (13 * m + 2), wordAt-drop s 13 (13 * m + 6), a, b))
 
+pub ends-none : (s words : List ℕ) → words ≡ endsFrom 0 s ++ words
+unfolding endsFrom
+ends-none s words = refl
+
 pub ends-more : (s words : List ℕ) (j : ℕ) → 2 * (j + 1) ≤ length words
-    → set (set (endsFrom j (drop 9 s) ++ drop (2 * j) words) (2 * j) (wordAt s (9 + (13 * j + 2)))) (2 * j + 1) (wordAt s (9 + (13 * j + 6)))
+    → set (set (endsFrom j (drop 9 s) ++ drop (2 * j) words) (2 * j) (wordAt s (9 + 13 * j + 2))) (2 * j + 1) (wordAt s (9 + 13 * j + 6))
     ≡ endsFrom (j + 1) (drop 9 s) ++ drop (2 * (j + 1)) words
 ends-more s words j h =
     let further : 2 * (j + 1) ≡ 2 * j + 2 = omega arith in
-    put-two (endsFrom j (drop 9 s)) words (2 * j) (wordAt s (9 + (13 * j + 2))) (wordAt s (9 + (13 * j + 6))) (length-ends j (drop 9 s)) (omega arith)
-    ∙ rw (further, add-one j, ends-last j (drop 9 s), wordAt-drop s 9 (13 * j + 2), wordAt-drop s 9 (13 * j + 6))
+    let a : 9 + 13 * j + 2 ≡ 9 + (13 * j + 2) = omega arith in
+    let b : 9 + 13 * j + 6 ≡ 9 + (13 * j + 6) = omega arith in
+    put-two (endsFrom j (drop 9 s)) words (2 * j) (wordAt s (9 + 13 * j + 2)) (wordAt s (9 + 13 * j + 6)) (length-ends j (drop 9 s)) (omega arith)
+    ∙ rw (further, add-one j, ends-last j (drop 9 s), wordAt-drop s 9 (13 * j + 2), wordAt-drop s 9 (13 * j + 6), a, b)
 
 -- ---- the reply and the words of a call
 

@@ -5,7 +5,9 @@ ghost use Rattle.files.specs.File.{readReply, readWords, writeReply, wri
 use frames::digits;
 
 mod lines;
+mod marks;
 mod reader;
+mod regular;
 pub mod trips;
 mod writer;
 
@@ -26,12 +28,13 @@ pub fn read(file: &[u8], words: &mut [u16]) -> Reading
     ensures reply { λ r. ⌜ r ≡ readReply (now (file .entry)) (length (now (words .entry))) ⌝ }
     ensures lent { λ _. ⌜ now (words .exit) ≡ readWords (now (file .entry)) (now (words .entry)) ⌝ }
 {
-    let refused = reader::refusal(file, words.len());
+    let marks = marks::made();
+    let refused = reader::refusal(&marks, file, words.len());
     if refused != 0 {
         return Reading::Refused(refused);
     }
     let links = (file.len() - 18) / 13;
-    reader::fill(file, links, words);
+    reader::fill(&marks, file, links, words);
     Reading::Read {
         units: digits::word_at(file, 2),
         links: links as u16,

@@ -18,7 +18,7 @@ Bytes f = (i : ℕ) → getD f i 0 < 256
 
 -- ---- a digit there and back
 
-digit-back : (d : ℕ) → d < 16 → digitValue (digitOf d) ≡ d
+pub digit-back : (d : ℕ) → d < 16 → digitValue (digitOf d) ≡ d
 digit-back d h = go (decLt d 10)
   where
     go : Dec (d < 10) → digitValue (digitOf d) ≡ d
@@ -74,7 +74,7 @@ digit-kind c = go (decLt c 48) (decLt 57 c) (decLt c 65) (decLt 70 c)
     go (no a) (yes b) (no l) (no m) = letter (omega arith) (omega arith) (value-letter c (omega arith) (omega arith))
     go (no a) (yes b) (no l) (yes m) = other (no-digit c (λ d. omega (arith, d .1)) (λ d. omega (arith, d .1))) (value-high c m)
 
-digit-forth : (c : ℕ) → digitValue c < 16 → digitOf (digitValue c) ≡ c
+pub digit-forth : (c : ℕ) → digitValue c < 16 → digitOf (digitValue c) ≡ c
 digit-forth c h = go (digit-kind c)
   where
     go : Kind c → digitOf (digitValue c) ≡ c

@@ -176,6 +176,78 @@ pub fn segments_later(i: u16, units: u16, low: [u16; 256], high: [u16; 256]) -> 
     }
 }
 
+// How many of `count` entries a table has.
+fn entries_of(count: usize, t: &[u16]) -> usize
+    ensures { λ r. ⌜ r ≡ min count (length (now (t .entry))) ⌝ }
+{
+    let n = t.len();
+    if count < n { count } else { n }
+}
+
+// A round of the units' tables in place: a unit's entries are read before they are made anew.
+pub fn units_move<'a>(
+    i: u16,
+    units: u16,
+    least: &'a [u16],
+    greatest: &'a [u16],
+    low: &mut [u16; 256],
+    high: &mut [u16; 256],
+    little: &mut [u16; 256],
+    big: &mut [u16; 256],
+)
+    ensures low { λ _. ⌜ now (low .exit)
+        ≡ rangeLater min (min i 16) units (now (least .entry)) (now (little .entry)) (now (big .entry)) (now (low .entry)) ⌝ }
+    ensures high { λ _. ⌜ now (high .exit)
+        ≡ rangeLater max (min i 16) units (now (greatest .entry)) (now (little .entry)) (now (big .entry)) (now (high .entry)) ⌝ }
+    ensures little { λ _. ⌜ now (little .exit) ≡ littleLater (min i 16) units (now (big .entry)) (now (little .entry)) ⌝ }
+    ensures big { λ _. ⌜ now (big .exit) ≡ bigLater (min i 16) units (now (little .entry)) (now (big .entry)) ⌝ }
+{
+    let span = span_of(i);
+    let mask = 2 * span - 1;
+    let places_low = places_of(units, least);
+    let places_high = places_of(units, greatest);
+    let narrow = entries_of(entries_of(values::index(units), low), high);
+    let count = entries_of(entries_of(narrow, little), big);
+    let mut v: usize = 0;
+    while v < count {
+        let from = little[v];
+        let to = big[v];
+        if to <= from {
+            v += 1;
+            continue;
+        }
+        let odd_from = is_odd(mask, from);
+        let odd_to = is_odd(mask, to);
+        let x = with_little(false, odd_from, places_low, least, from, low[v]);
+        let y = with_little(true, odd_from, places_high, greatest, from, high[v]);
+        low[v] = with_big(false, odd_to, span, places_low, least, to, x);
+        high[v] = with_big(true, odd_to, span, places_high, greatest, to, y);
+        little[v] = values::choose(odd_from, values::bounded_step(from, span), from);
+        big[v] = values::choose(odd_to, values::less_step(to, span), to);
+        v += 1;
+    }
+}
+
+// A round of the segments in place.
+pub fn segments_move(i: u16, units: u16, low: &mut [u16; 256], high: &mut [u16; 256])
+    ensures low { λ _. ⌜ now (low .exit) ≡ globalLater min (min i 16) units (now (low .entry)) ⌝ }
+    ensures high { λ _. ⌜ now (high .exit) ≡ globalLater max (min i 16) units (now (high .entry)) ⌝ }
+{
+    let span = span_of(i);
+    let step = span as usize;
+    let period = 2 * step;
+    let joined = values::index(values::less_step(units, span));
+    let last = entries_of(entries_of(joined, low), high);
+    let mut q: usize = 0;
+    while q < last {
+        let next_low = slices::word(low, q + step);
+        let next_high = slices::word(high, q + step);
+        low[q] = values::least_of(low[q], next_low);
+        high[q] = values::greatest_of(high[q], next_high);
+        q += period;
+    }
+}
+
 // Whether the stage ends: all lg(n) rounds are made after the first.
 pub fn range_ends(units: u16, made: u16) -> bool
     ensures { λ r. ⌜ r ≡ rangeEnds units made ⌝ }

@@ -2,11 +2,22 @@
 use mathlib.Core.Path.{_≡_, sym, ap, _∙_}
 use mathlib.Core.Bool.{true, false, not}
 use mathlib.Core.List.{List}
-use Prim.Native.Nat.{ℕ, _+_}
+use Prim.Native.Nat.{ℕ, _+_, _≤_}
+use native.Mathlib.Nat.{le-refl}
+use lib.ListN.{length, getD, List·getD-eq-default}
+use lib.Seq.{set-getD}
 use borrow.Author.Tests.{eq-eqb, ne-eqb}
+use Rattle.lists.specs.Rounds.{over-more}
+use Rattle.lists.specs.Tables.{over, getD-over-past}
 use Rattle.lists.specs.Tests.{cond-true, cond-false}
 use Rattle.rules.specs.Basics.{ABSENT, at, bounded}
 use Rattle.rules.specs.Ranking.{asks, jumpAfter, sumAfter}
+
+-- a turn that leaves an entry
+entry-stays : (a : ℕ) (f : ℕ → ℕ) (old t : List ℕ) → getD old a 0 ≡ f a → t ≡ over a f old → t ≡ over (a + 1) f old
+entry-stays a f old t is was =
+    let found : getD t a 0 ≡ f a = rw was (getD-over-past a f old a 0 (le-refl a)) ∙ is in
+    over-more a f old t t (getD t a 0) was found (sym (set-getD t a 0))
 
 module _ (jump sum : List ℕ) (a before own : ℕ) (is : before ≡ at jump a) (has : own ≡ at sum a) where
   asking : (before ≡ ABSENT → ⊥) → asks jump a ≡ true
@@ -30,3 +41,19 @@ module _ (jump sum : List ℕ) (a before own : ℕ) (is : before ≡ at jump a) 
 
   pub sum-kept : before ≡ ABSENT → own ≡ sumAfter jump sum a
   sum-kept e = has ∙ sym (cond-false (asks jump a) (bounded (at sum a + at sum (at jump a))) (at sum a) (still e))
+
+  -- a predecessor past the tables' end: 0 is read there
+  module _ (n : before ≡ ABSENT → ⊥) where
+    pub jump-past : length jump ≤ before → 0 ≡ jumpAfter jump a
+    jump-past h = jump-taken 0 (sym (List·getD-eq-default jump 0 h)) n
+
+    pub sum-past : length sum ≤ before → (x : ℕ) → x ≡ bounded (own + 0) → x ≡ sumAfter jump sum a
+    sum-past h x e = sum-taken x (e ∙ ap (λ (y : ℕ). bounded (own + y)) (sym (List·getD-eq-default sum 0 h))) n
+
+  -- no predecessor: both entries stay
+  module _ (e : before ≡ ABSENT) (t : List ℕ) where
+    pub jump-stays : t ≡ over a (jumpAfter jump) jump → t ≡ over (a + 1) (jumpAfter jump) jump
+    jump-stays was = entry-stays a (jumpAfter jump) jump t (sym is ∙ jump-kept e) was
+
+    pub sum-stays : t ≡ over a (sumAfter jump sum) sum → t ≡ over (a + 1) (sumAfter jump sum) sum
+    sum-stays was = entry-stays a (sumAfter jump sum) sum t (sym has ∙ sum-kept e) was

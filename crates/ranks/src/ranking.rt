@@ -3,7 +3,7 @@ use values::tables;
 ghost use mathlib.Core.Path.{_≡_};
 ghost use mathlib.Core.Bool.{cond};
 ghost use Prim.Native.Nat.{_+_, _≤_, min};
-ghost use lib.ListN.{getD};
+ghost use lib.ListN.{length, getD};
 ghost use Rattle.lists.specs.Folds.{count};
 ghost use Rattle.rules.specs.Basics.{bounded};
 ghost use Rattle.rules.specs.Ranking.{asks, sumAfter, sumRound, jumpAfter, jumpRound, requestsOf, rankingEnds};
@@ -82,6 +82,42 @@ pub fn ranking_round(objects: usize, jump: [u16; 512], sum: [u16; 512]) -> Doubl
     Doubled {
         jump: new_jump,
         sum: new_sum,
+    }
+}
+
+// How many of `objects` objects a table has entries for.
+fn entries_of(objects: usize, t: &[u16]) -> usize
+    ensures { λ r. ⌜ r ≡ min objects (length (now (t .entry))) ⌝ }
+{
+    let n = t.len();
+    if objects < n { objects } else { n }
+}
+
+// A round in place, from copies of the tables. An object without a predecessor keeps its entries: nothing is stored there.
+pub fn double(objects: usize, jump: &mut [u16; 512], sum: &mut [u16; 512])
+    ensures jumps { λ _. ⌜ now (jump .exit) ≡ jumpRound objects (now (jump .entry)) ⌝ }
+    ensures sums { λ _. ⌜ now (sum .exit) ≡ sumRound objects (now (jump .entry)) (now (sum .entry)) ⌝ }
+{
+    let old_jump = *jump;
+    let old_sum = *sum;
+    let limit = entries_of(entries_of(objects, jump), sum);
+    let mut a = 0;
+    while a < limit {
+        let before = old_jump[a];
+        if before < 512 {
+            let at = before as usize;
+            sum[a] = values::bounded_sum(old_sum[a], old_sum[at]);
+            jump[a] = old_jump[at];
+            a += 1;
+            continue;
+        }
+        if before != ABSENT {
+            sum[a] = values::bounded_sum(old_sum[a], 0);
+            jump[a] = 0;
+            a += 1;
+            continue;
+        }
+        a += 1;
     }
 }
 

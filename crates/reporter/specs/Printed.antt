@@ -8,8 +8,6 @@ use Rattle.table.specs.Table.{tableRefusal}
 use Rattle.frames.specs.Frame.{lineOf}
 use Rattle.files.specs.File.{linesOf, readRefusal, unitsIn, endsIn}
 use Rattle.survey.specs.declared.state.Survey.{Survey}
-use Rattle.survey.specs.declared.reply.Reply.{Reply}
-use Rattle.survey.specs.declared.reply.Reply.the-variants.{Refused, Done, Made, Status, Unit, Link, Read, Written}
 use Rattle.survey.specs.Load.{loaded}
 use Rattle.survey.specs.Run.{ran}
 use Rattle.survey.specs.Report.{report}
@@ -58,14 +56,3 @@ printedOver input out = laidOver (printed input) out
 
 abbrev pub printedCount : List ℕ → ℕ → ℕ
 printedCount input places = laidCount (printed input) places
-
--- what a report's reply counts
-abbrev pub charactersOf : Reply → ℕ
-charactersOf (Written k) = k
-charactersOf (Refused k) = 0
-charactersOf Done = 0
-charactersOf (Made k) = 0
-charactersOf (Status stage countdown rounds requests) = 0
-charactersOf (Unit v color parent place single) = 0
-charactersOf (Link j label lone) = 0
-charactersOf (Read n m) = 0

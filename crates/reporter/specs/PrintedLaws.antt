@@ -17,7 +17,7 @@ use Rattle.survey.specs.Step.{steps}
 use Rattle.survey.specs.StepLaws.{loaded-wellFormed, first-countdown}
 use Rattle.survey.specs.Run.{ran}
 use Rattle.survey.specs.RunLaws.{Made, ran-made, total, total-least, total-countdown, ended-exact, steps-wellFormed}
-use Rattle.reach.specs.Reach.{SurveyRight, survey-right}
+use Rattle.reach.specs.Reach.{SurveyRight, survey-right, table-steps}
 use Rattle.reporter.specs.Printed.{surveyed}
 
 module _ (n : ℕ) (t : List ℕ) (accepted : tableRefusal n t ≡ 0) where
@@ -46,6 +46,9 @@ module _ (n : ℕ) (t : List ℕ) (accepted : tableRefusal n t ≡ 0) where
 
   pub surveyed-end : surveyed n t ≡ steps (total (loaded n t)) (loaded n t)
   surveyed-end = made .state ∙ ap (λ (k : ℕ). steps k (loaded n t)) all-made
+
+  pub surveyed-table : surveyed n t .table ≡ loaded n t .table
+  surveyed-table = rw surveyed-end (table-steps n t accepted (total (loaded n t)))
 
   pub surveyed-finished : surveyed n t .clock .stage ≡ FINISHED
   surveyed-finished = rw surveyed-end (total-least (loaded n t) w .ends)

@@ -3,16 +3,17 @@ ghost use mathlib.Core.Path.{_≡_};
 ghost use mathlib.Core.List.{[], _∷_};
 ghost use Prim.Native.Nat.{_≤_};
 ghost use lib.ListN.{length};
-ghost use Rattle.reporter.specs.Printed.{WORDS, refusalLine, printedTable, printedFile, printed, laidOver, laidCount, charactersOf};
+ghost use Rattle.reporter.specs.Printed.{WORDS, refusalLine, printedTable, printedFile, printed, laidOver, laidCount};
 use files::Reading;
 use frames::line;
-use survey::Reply;
-use survey::Survey;
 
 // The longest input, and the longest output: the report of 256 units and 1,024 links.
 pub const MAX_INPUT: usize = 65535;
 
 pub const MAX_OUTPUT: usize = 21274;
+
+// The words that hold a state (lent/specs/Layout.antt).
+const STATE_WORDS: usize = 11014;
 
 // Prints over the front of `out` and gives the number of bytes: the report, or only a refusal's line; where `out` is too short, nothing and 0.
 pub fn report(input: &[u8], out: &mut [u8]) -> u32
@@ -53,37 +54,22 @@ fn refusal(number: u8, out: &mut [u8]) -> u32
     if out.len() < 7 { 0 } else { 7 }
 }
 
-// A table loaded, surveyed to the end and reported.
+// A table loaded, surveyed to the end and reported, on the words of a state.
 fn surveyed(units: u16, table: &[u16], out: &mut [u8]) -> u32
     ensures count { λ r. ⌜ r ≡ laidCount (printedTable units (now (table .entry))) (length (now (out .entry))) ⌝ }
     ensures bytes { λ _. ⌜ now (out .exit) ≡ laidOver (printedTable units (now (table .entry))) (now (out .entry)) ⌝ }
 {
-    let loading = Survey::new().load(units, table);
-    let reply = loading.reply;
-    let refused = reply.number();
+    let mut state = [0; STATE_WORDS];
+    let refused = lent::load(&mut state, units, table);
     if refused != 0 {
-        return refusal(refused, out);
+        let number = refused as u8;
+        return refusal(number, out);
     }
-    let loaded = loading.survey;
-    let running = loaded.run(65535);
-    let finished = running.survey;
-    let answer = calls::report(finished, out);
-    let told = answer.reply;
-    characters(told)
-}
-
-// What a report's reply counts; a refused one wrote nothing.
-fn characters(reply: Reply) -> u32
-    ensures { λ r. ⌜ r ≡ charactersOf reply ⌝ }
-{
-    match reply {
-        Reply::Written(characters) => characters,
-        Reply::Refused(_) => 0,
-        Reply::Done => 0,
-        Reply::Made(_) => 0,
-        Reply::Status { .. } => 0,
-        Reply::Unit { .. } => 0,
-        Reply::Link { .. } => 0,
-        Reply::Read { .. } => 0,
+    let mut made = [0; 1];
+    lent::run(&mut state, 65535, &mut made);
+    if lent::report(&state, out) != 0 {
+        return 0;
     }
+    // The report's head and tail, a line a unit and a line a link.
+    26 + 23 * (units as u32) + 15 * ((table.len() / 2) as u32)
 }

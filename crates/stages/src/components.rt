@@ -46,7 +46,8 @@ fn lower(t: &mut [u16], i: u16, x: u16)
     }
 }
 
-// A link of two units that exist. None has more than it says, so that only the end that says more can come to less.
+// A link of two units that exist. None has more than it says, so that only the end that says more can come to less; where both say the same, the first
+// takes in what it says itself. No branch: which end says more is up to chance.
 fn hear_near(n: u16, said: &[u16], a: u16, b: u16, t: &mut [u16])
     requires { ⌜ Hearer n (now said) (now t) a × Hearer n (now said) (now t) b ⌝ }
     ensures { λ _. ⌜ now (t .exit) ≡ hears false n (now (said .entry)) a b (now (t .entry)) ⌝ }
@@ -55,13 +56,7 @@ fn hear_near(n: u16, said: &[u16], a: u16, b: u16, t: &mut [u16])
     let at_b = b as usize;
     let x = said[at_a];
     let y = said[at_b];
-    if x < y {
-        lower(t, b, x);
-        return;
-    }
-    if y < x {
-        lower(t, a, y);
-    }
+    lower(t, values::choose(x < y, b, a), values::least_of(x, y));
 }
 
 // The least that each unit hears, itself included, over links whose ends all exist.

@@ -36,6 +36,12 @@ ceiling-two n k f t not1 not2 not46 not7 not8 not9 = go (decLe k 6)
         gt : (k ≤ 6 → ⊥) → 6 < k
         gt h = omega arith
 
+-- past the tenth there is none
+pub ceiling-past : (n k : ℕ) → 10 < k → ceiling n k ≡ 0
+ceiling-past n k h =
+    let e : k - 1 ≡ suc (suc (suc (suc (suc (suc (suc (suc (suc (suc (k - 11)))))))))) = omega arith in
+    rw e refl
+
 -- the ceilings from stage k on
 abbrev pub left : ℕ → ℕ → ℕ
 left n k = total (drop (k - 1) (ceilings n))

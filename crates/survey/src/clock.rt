@@ -1,6 +1,6 @@
 // The ceilings of the stages and the countdown. Units are at most 256 here: a state is judged first.
 ghost use mathlib.Core.Path.{_≡_};
-ghost use Prim.Native.Nat.{_≤_};
+ghost use Prim.Native.Nat.{_≤_, min};
 ghost use Rattle.rules.specs.Ceilings.{rankingCeiling, ceiling, countdown};
 
 // What a ranking of the arcs of so many units takes at most.
@@ -25,6 +25,20 @@ pub(crate) fn ceiling(units: u16, stage: u16) -> u16
         9 => values::greatest_of(2, values::less(units, 1)),
         _ => 2,
     }
+}
+
+// The same for every unit count, of which at most 256 count, and every stage.
+pub fn stage_ceiling(units: u16, stage: u16) -> u16
+    ensures { λ r. ⌜ r ≡ ceiling (min units 256) stage ⌝ }
+{
+    let count = values::least_of(units, 256);
+    if stage < 1 {
+        return ceiling(count, 1);
+    }
+    if 10 < stage {
+        return 0;
+    }
+    ceiling(count, stage)
 }
 
 // The rounds still to come at most: the ceilings from this stage on, less the rounds made of it.

@@ -10,6 +10,7 @@ mod status;
 mod tick;
 mod tree_rounds;
 
+pub use clock::stage_ceiling;
 pub use reply::Answer;
 pub use reply::Reply;
 pub use state::Aux;

@@ -1,23 +1,10 @@
-// The survey for callers in C: the state is a slice of words that the caller lends, in the order of the struct's fields (specs/Layout.antt). A
-// number that comes back is document 01's number of the refusal, 0 where the call was not refused; on a refusal nothing lent is altered.
+// The survey for callers in C: the state is a slice of words that the caller lends (lent/specs/Layout.antt). A number that comes back is document 01's
+// number of the refusal, 0 where the call was not refused; on a refusal nothing lent is altered.
 ghost use mathlib.Core.Path.{_≡_};
-ghost use mathlib.Core.Bool.{cond};
-ghost use lib.Dec.{eqb};
 ghost use lib.ListN.{length};
 ghost use Rattle.survey.specs.Calls.{loadAnswer, roundAnswer, runAnswer, statusAnswer, unitAnswer, linkAnswer, reportAnswer};
 ghost use Rattle.reporter.specs.Printed.{printed, laidOver, laidCount};
-ghost use Rattle.survey_c.specs.Layout.{STATE-WORDS, wordsOf};
-ghost use Rattle.survey_c.specs.Face.{numberOn, numberInto, stateAfter, replyAfter, reportAfter};
-use survey::Survey;
-
-mod pack;
-mod replies;
-mod unpack;
-
-const STATE_WORDS: usize = 11014;
-
-// The number of a state slice of another length.
-const NOT_KEPT: u32 = 10;
+ghost use Rattle.lent.specs.Face.{numberOn, numberInto, stateAfter, replyAfter, reportAfter};
 
 // No state: what the program prints for the bytes of a file, at the front of `out`, and the number of bytes; nothing and 0 where `out` is too short.
 #[no_mangle]
@@ -34,13 +21,7 @@ pub extern "C" fn link_survey_load(state: &mut [u16], units: u16, table: &[u16])
     ensures number { λ r. ⌜ r ≡ numberOn (loadAnswer units (now (table .entry))) (now (state .entry)) ⌝ }
     ensures words { λ _. ⌜ now (state .exit) ≡ stateAfter (numberOn (loadAnswer units (now (table .entry))) (now (state .entry))) (loadAnswer units (now (table .entry))) (now (state .entry)) ⌝ }
 {
-    if state.len() != STATE_WORDS {
-        return NOT_KEPT;
-    }
-    let answer = unpack::unpack(state).load(units, table);
-    let reply = answer.reply;
-    let after = answer.survey;
-    stored(reply.number() as u32, after, state)
+    lent::load(state, units, table)
 }
 
 // One round: 10, 11.
@@ -49,13 +30,7 @@ pub extern "C" fn link_survey_round(state: &mut [u16]) -> u32
     ensures number { λ r. ⌜ r ≡ numberOn roundAnswer (now (state .entry)) ⌝ }
     ensures words { λ _. ⌜ now (state .exit) ≡ stateAfter (numberOn roundAnswer (now (state .entry))) roundAnswer (now (state .entry)) ⌝ }
 {
-    if state.len() != STATE_WORDS {
-        return NOT_KEPT;
-    }
-    let answer = unpack::unpack(state).round();
-    let reply = answer.reply;
-    let after = answer.survey;
-    stored(reply.number() as u32, after, state)
+    lent::round(state)
 }
 
 // At most `budget` rounds: 10, 11, 14. The reply is the rounds made.
@@ -65,25 +40,7 @@ pub extern "C" fn link_survey_run(state: &mut [u16], budget: u16, reply: &mut [u
     ensures words { λ _. ⌜ now (state .exit) ≡ stateAfter (numberInto (runAnswer budget) (now (state .entry)) (length (now (reply .entry)))) (runAnswer budget) (now (state .entry)) ⌝ }
     ensures said { λ _. ⌜ now (reply .exit) ≡ replyAfter (numberInto (runAnswer budget) (now (state .entry)) (length (now (reply .entry)))) (runAnswer budget) (now (state .entry)) (now (reply .entry)) ⌝ }
 {
-    if state.len() != STATE_WORDS {
-        return NOT_KEPT;
-    }
-    let answer = unpack::unpack(state).run(budget);
-    let said = answer.reply;
-    let after = answer.survey;
-    stored(replies::give(said, reply), after, state)
-}
-
-// The state over the words where the number is 0.
-fn stored(number: u32, after: Survey, state: &mut [u16]) -> u32
-    requires { ⌜ length (now state) ≡ STATE-WORDS ⌝ }
-    ensures number { λ r. ⌜ r ≡ number ⌝ }
-    ensures words { λ _. ⌜ now (state .exit) ≡ cond (eqb number 0) (wordsOf after) (now (state .entry)) ⌝ }
-{
-    if number == 0 {
-        pack::pack(after, state);
-    }
-    number
+    lent::run(state, budget, reply)
 }
 
 // Status: 10, 14. The reply is stage, countdown, all rounds, requests.
@@ -92,12 +49,7 @@ pub extern "C" fn link_survey_status(state: &[u16], reply: &mut [u16]) -> u32
     ensures number { λ r. ⌜ r ≡ numberInto statusAnswer (now (state .entry)) (length (now (reply .entry))) ⌝ }
     ensures said { λ _. ⌜ now (reply .exit) ≡ replyAfter (numberInto statusAnswer (now (state .entry)) (length (now (reply .entry)))) statusAnswer (now (state .entry)) (now (reply .entry)) ⌝ }
 {
-    if state.len() != STATE_WORDS {
-        return NOT_KEPT;
-    }
-    let answer = unpack::unpack(state).status();
-    let said = answer.reply;
-    replies::give(said, reply)
+    lent::status(state, reply)
 }
 
 // A unit: 10, 12, 13, 14. The reply is unit, colour, parent, place, single.
@@ -106,12 +58,7 @@ pub extern "C" fn link_survey_unit(state: &[u16], unit: u16, reply: &mut [u16]) 
     ensures number { λ r. ⌜ r ≡ numberInto (unitAnswer unit) (now (state .entry)) (length (now (reply .entry))) ⌝ }
     ensures said { λ _. ⌜ now (reply .exit) ≡ replyAfter (numberInto (unitAnswer unit) (now (state .entry)) (length (now (reply .entry)))) (unitAnswer unit) (now (state .entry)) (now (reply .entry)) ⌝ }
 {
-    if state.len() != STATE_WORDS {
-        return NOT_KEPT;
-    }
-    let answer = calls::unit(unpack::unpack(state), unit);
-    let said = answer.reply;
-    replies::give(said, reply)
+    lent::unit(state, unit, reply)
 }
 
 // A link: 10, 12, 13, 14. The reply is position, label, lone.
@@ -120,12 +67,7 @@ pub extern "C" fn link_survey_link(state: &[u16], position: u16, reply: &mut [u1
     ensures number { λ r. ⌜ r ≡ numberInto (linkAnswer position) (now (state .entry)) (length (now (reply .entry))) ⌝ }
     ensures said { λ _. ⌜ now (reply .exit) ≡ replyAfter (numberInto (linkAnswer position) (now (state .entry)) (length (now (reply .entry)))) (linkAnswer position) (now (state .entry)) (now (reply .entry)) ⌝ }
 {
-    if state.len() != STATE_WORDS {
-        return NOT_KEPT;
-    }
-    let answer = calls::link(unpack::unpack(state), position);
-    let said = answer.reply;
-    replies::give(said, reply)
+    lent::link(state, position, reply)
 }
 
 // The report of a finished survey at the front of `out`: 10, 12, 14.
@@ -134,10 +76,5 @@ pub extern "C" fn link_survey_state_report(state: &[u16], out: &mut [u8]) -> u32
     ensures number { λ r. ⌜ r ≡ numberOn (reportAnswer (length (now (out .entry)))) (now (state .entry)) ⌝ }
     ensures bytes { λ _. ⌜ now (out .exit) ≡ reportAfter (now (state .entry)) (now (out .entry)) ⌝ }
 {
-    if state.len() != STATE_WORDS {
-        return NOT_KEPT;
-    }
-    let answer = calls::report(unpack::unpack(state), out);
-    let reply = answer.reply;
-    reply.number() as u32
+    lent::report(state, out)
 }

@@ -5,7 +5,7 @@ use Rattle.survey.specs.Report.{report}
 use Rattle.survey.specs.Calls.{reportRefusal, reportAnswer, reported}
 use Rattle.survey.specs.AnswerLaws.{answered-refused, answered-made}
 use Rattle.calls.specs.AskLaws.{report-told, written-refused}
-use Rattle.calls.specs.ReportCalled.{reported-over}
+use Rattle.calls.specs.ReportCalled.{reported-parts}
 use borrow.Author.Needs.{needs}
 use Rattle.calls.proofs.report.Statement.{statement}
 use Rattle.calls.proofs.report.Tie as tie
@@ -14,8 +14,8 @@ well-formed-requires : tie.Need-well-formed-requires
 well-formed-requires c κs = search needs
 
 -- the refusal is the report's
-told : (r : tie.After-report-refusal) → r .report-refusal .result ≡ reportRefusal (r .before .before .before .args .survey) (length (r .before .before .before .args .out .now))
-told r = report-told (r .before .before .before .args .survey) _ _ _ (r .before .well-formed .ensures) (r .report-refusal .ensures)
+told : (r : tie.After-report-refusal) → r .report-refusal .result ≡ reportRefusal (r .before .before .before .args .t1) (length (r .before .before .before .args .out .now))
+told r = report-told (r .before .before .before .args .t1) _ _ _ (r .before .well-formed .ensures) (r .report-refusal .ensures)
 
 report-refusal-requires : tie.Need-report-refusal-requires
 report-refusal-requires c κs = search needs
@@ -25,28 +25,28 @@ unfolding reportAnswer reported
 returns c =
     let a = c .before .before .before .before .args in
     let r = c .before .report-refusal in
-    (answered-refused _ (r .result) (a .survey) _ _ (told (c .before)) (c .if1 .taken), written-refused _ (report (a .survey)) (a .out .now) (λ z. c .if1 .taken (told (c .before) ∙ z)))
+    (answered-refused _ (r .result) (a .t1) _ _ (told (c .before)) (c .if1 .taken), written-refused _ (report (a .t1)) (a .out .now) (λ z. c .if1 .taken (told (c .before) ∙ z)))
 
-write-requires : tie.Need-write-requires
-write-requires c κs = search needs
+cast-length : tie.Need-cast-length
+cast-length c = search needs
 
-cast-t12 : tie.Need-cast-t12
-cast-t12 c = search needs
+mul-length : tie.Need-mul-length
+mul-length c = search needs
 
-mul-t13 : tie.Need-mul-t13
-mul-t13 c = search needs
+add-length : tie.Need-add-length
+add-length c = search needs
 
-add-t14 : tie.Need-add-t14
-add-t14 c = search needs
+cast-length-2 : tie.Need-cast-length-2
+cast-length-2 c = search needs
 
-cast-t15 : tie.Need-cast-t15
-cast-t15 c = search needs
+mul-length-2 : tie.Need-mul-length-2
+mul-length-2 c = search needs
 
-mul-t16 : tie.Need-mul-t16
-mul-t16 c = search needs
+add-length-2 : tie.Need-add-length-2
+add-length-2 c = search needs
 
-add-t17 : tie.Need-add-t17
-add-t17 c = search needs
+report-lines-requires : tie.Need-report-lines-requires
+report-lines-requires c κs = search needs
 
 same-length : tie.Need-same-length
 same-length c = search needs
@@ -54,9 +54,9 @@ same-length c = search needs
 returns-2 : tie.Need-returns-2
 unfolding reportAnswer
 returns-2 c =
-    let e = c .before .before .before .before in
-    let none = sym (told (e .before)) ∙ e .if1 .left in
-    (answered-made _ _ _ _ none, c .before .before .write .ensures ∙ reported-over _ _ none)
+    let s = c .before .before .before .before .before .before .before .before .before .before .before .before .before .before .before .before .before .before .before .args in
+    let none = sym (told (c .before .before .before .before .before .before .before .before .before .before .before .before .before .before .before .before)) ∙ c .before .before .before .before .before .before .before .before .before .before .before .before .before .before .before .if1 .left in
+    (answered-made _ _ _ _ none, c .before .before .report-lines .ensures ∙ reported-parts (s .t1) (s .out .now) none)
 
 pub report-spec : {M : Type 1} → statement M
 report-spec =
@@ -65,12 +65,12 @@ report-spec =
     well-formed-requires
     report-refusal-requires
     returns
-    write-requires
-    cast-t12
-    mul-t13
-    add-t14
-    cast-t15
-    mul-t16
-    add-t17
+    cast-length
+    mul-length
+    add-length
+    cast-length-2
+    mul-length-2
+    add-length-2
+    report-lines-requires
     same-length
     returns-2)

@@ -1,25 +1,39 @@
--- Load, run, report, by whether the table passes.
-use mathlib.Core.Path.{refl, sym, ap, _∙_}
+-- Load, run, report on the words of a state, by whether the table passes.
+use mathlib.Core.Path.{_≡_, sym, _∙_}
 use mathlib.Core.List.{List}
 use Prim.Native.Nat.{ℕ}
-use lib.ListN.{length}
+use native.Mathlib.Omega.{arith}
+use lib.ListN.{length, replicate, length-replicate}
 use borrow.Author.Needs.{needs}
-use Rattle.survey.specs.declared.state.Survey.{Survey}
-use Rattle.survey.specs.declared.reply.Answer.{Answer}
-use Rattle.survey.specs.Calls.{numberOf, runAnswer, reportAnswer, reported}
-use Rattle.reporter.specs.Printed.{laidCount, laidOver, charactersOf}
-use Rattle.reporter.specs.LaidLaws.{load-number, load-made, run-made, table-refused, table-printed, report-count, report-laid}
+use Rattle.table.specs.Table.{tableRefusal}
+use Rattle.survey.specs.LoadLaws.{passed-fits}
+use Rattle.survey.specs.Calls.{loadAnswer}
+use Rattle.lent.specs.Face.{numberOn}
+use Rattle.reporter.specs.LaidLaws.{load-number, number-byte, table-refused, survey-held, report-laid, report-none, report-all}
 use Rattle.reporter.proofs.surveyed.Statement.{statement}
 use Rattle.reporter.proofs.surveyed.Tie as tie
 
-new-requires : tie.Need-new-requires
-new-requires c κs = search needs
+-- the words of the new array
+abbrev blank : List ℕ
+blank = replicate 11014 0
+
+blank-long : length blank ≡ 11014
+blank-long = length-replicate {A = ℕ} 11014 0
+
+-- the number of a load on them
+told : {r : ℕ} (n : ℕ) (t : List ℕ) → r ≡ numberOn (loadAnswer n t) blank → r ≡ tableRefusal n t
+told n t e = e ∙ load-number n t blank blank-long
+
+slice-aggregate-load : tie.Need-slice-aggregate-load
+slice-aggregate-load c = search needs
 
 load-requires : tie.Need-load-requires
 load-requires c κs = search needs
 
-number-requires : tie.Need-number-requires
-number-requires c κs = search needs
+cast-number : tie.Need-cast-number
+cast-number c =
+    let a = c .before .before .before .before .before .before .args in
+    omega (arith, told (a .units) (a .table .now) (c .before .before .load .ensures .0), number-byte (a .units) (a .table .now))
 
 refusal-requires : tie.Need-refusal-requires
 refusal-requires c κs = search needs
@@ -30,60 +44,92 @@ same-length c = search needs
 returns : tie.Need-returns
 returns c =
     let a = c .before .before .before .before .before .before .before .before .before .before .args in
-    let s = c .before .before .before .before .before .before .before .new .result in
-    let k = c .before .before .before .before .before .number .ensures ∙ ap (λ (x : Answer). numberOf (x .reply)) (c .before .before .before .before .before .before .load .ensures) ∙ load-number (a .units) (a .table .now) s in
+    let k = told (a .units) (a .table .now) (c .before .before .before .before .before .before .load .ensures .0) in
     let r = c .before .before .refusal in
-    rw (table-refused (a .units) (a .table .now) s (λ z. c .before .before .before .before .if1 .taken (k ∙ z)), sym k) (r .ensures .0, r .ensures .1)
+    rw (table-refused (a .units) (a .table .now) (λ z. c .before .before .before .before .if1 .taken (k ∙ z)), sym k) (r .ensures .0, r .ensures .1)
+
+slice-aggregate-run : tie.Need-slice-aggregate-run
+slice-aggregate-run c = search needs
+
+slice-aggregate-run-2 : tie.Need-slice-aggregate-run-2
+slice-aggregate-run-2 c = search needs
 
 run-requires : tie.Need-run-requires
 run-requires c κs = search needs
 
+slice-aggregate-report : tie.Need-slice-aggregate-report
+slice-aggregate-report c = search needs
+
 report-requires : tie.Need-report-requires
 report-requires c κs = search needs
-
-characters-requires : tie.Need-characters-requires
-characters-requires c κs = search needs
 
 same-length-2 : tie.Need-same-length-2
 same-length-2 c = search needs
 
 returns-2 : tie.Need-returns-2
 returns-2 c =
-    let a = c .before .before .before .before .before .before .before .before .before .before .before .before .before .before .args in
-    let s = c .before .before .before .before .before .before .before .before .before .before .before .new .result in
-    let l = c .before .before .before .before .before .before .before .before .before .before .load in
-    let n = c .before .before .before .before .before .before .before .before .before .number in
-    let k = n .ensures ∙ ap (λ (x : Answer). numberOf (x .reply)) (l .ensures) ∙ load-number (a .units) (a .table .now) s in
-    let passes = sym k ∙ c .before .before .before .before .before .before .before .before .if1 .left in
-    let begun = ap (λ (x : Answer). x .survey) (l .ensures) ∙ load-made (a .units) (a .table .now) s passes in
-    let ended =
-    ap (λ (x : Answer). x .survey) (c .before .before .before .before .before .before .run .ensures) ∙ ap (λ (x : Survey). runAnswer 65535 x .survey) begun ∙ run-made (a .units) (a .table .now) s passes in
+    let a = c .before .before .before .before .before .before .before .before .before .before .before .before .before .before .before .before .before .args in
+    let passes = sym (told (a .units) (a .table .now) (c .before .before .before .before .before .before .before .before .before .before .before .before .before .load .ensures .0)) ∙ c .before .before .before .before .before .before .before .before .before .before .before .if1 .left in
+    let e = survey-held (a .units) (a .table .now) passes blank _ _ blank-long (c .before .before .before .before .before .before .before .before .before .before .before .before .before .load .ensures .1) (c .before .before .before .before .before .before .before .before .run .ensures .1 .0) in
     let r = c .before .before .before .report in
-    let whole = sym (table-printed (a .units) (a .table .now) s passes) in
-    let out = a .out .now in (
-      c .characters .ensures
-          ∙ ap (λ (x : Answer). charactersOf (x .reply)) (r .ensures .0)
-          ∙ ap (λ (x : Survey). charactersOf (reportAnswer (length out) x .reply)) ended
-          ∙ report-count (a .units) (a .table .now) s passes (length out)
-          ∙ ap (λ (x : List ℕ). laidCount x (length out)) whole,
-      r .ensures .1
-          ∙ ap (λ (x : Survey). reported x out) ended
-          ∙ report-laid (a .units) (a .table .now) s passes out
-          ∙ ap (λ (x : List ℕ). laidOver x out) whole,
-    )
+    (report-none (a .units) (a .table .now) passes _ e (length (a .out .now)) (λ z. c .if2 .taken (r .ensures .0 ∙ z)), r .ensures .1 ∙ report-laid (a .units) (a .table .now) passes _ e (a .out .now))
+
+mul-result : tie.Need-mul-result
+mul-result c = search needs
+
+add-result : tie.Need-add-result
+add-result c = search needs
+
+cast-result : tie.Need-cast-result
+cast-result c =
+    let a = c .before .before .before .before .before .before .before .before .before .before .before .before .before .before .before .before .before .args in
+    let passes = sym (told (a .units) (a .table .now) (c .before .before .before .before .before .before .before .before .before .before .before .before .before .load .ensures .0)) ∙ c .before .before .before .before .before .before .before .before .before .before .before .if1 .left in
+    omega (arith, passed-fits (a .units) (a .table .now) passes)
+
+mul-result-2 : tie.Need-mul-result-2
+mul-result-2 c =
+    let a = c .before .before .before .before .before .before .before .before .before .before .before .before .before .before .before .before .before .args in
+    let passes = sym (told (a .units) (a .table .now) (c .before .before .before .before .before .before .before .before .before .before .before .before .before .load .ensures .0)) ∙ c .before .before .before .before .before .before .before .before .before .before .before .if1 .left in
+    omega (arith, passed-fits (a .units) (a .table .now) passes)
+
+add-result-2 : tie.Need-add-result-2
+add-result-2 c =
+    let a = c .before .before .before .before .before .before .before .before .before .before .before .before .before .before .before .before .before .args in
+    let passes = sym (told (a .units) (a .table .now) (c .before .before .before .before .before .before .before .before .before .before .before .before .before .load .ensures .0)) ∙ c .before .before .before .before .before .before .before .before .before .before .before .if1 .left in
+    omega (arith, passed-fits (a .units) (a .table .now) passes)
+
+same-length-3 : tie.Need-same-length-3
+same-length-3 c = search needs
+
+returns-3 : tie.Need-returns-3
+returns-3 c =
+    let a = c .before .before .before .before .before .before .before .before .before .before .before .before .before .before .before .before .before .args in
+    let passes = sym (told (a .units) (a .table .now) (c .before .before .before .before .before .before .before .before .before .before .before .before .before .load .ensures .0)) ∙ c .before .before .before .before .before .before .before .before .before .before .before .if1 .left in
+    let e = survey-held (a .units) (a .table .now) passes blank _ _ blank-long (c .before .before .before .before .before .before .before .before .before .before .before .before .before .load .ensures .1) (c .before .before .before .before .before .before .before .before .run .ensures .1 .0) in
+    let r = c .before .before .before .report in
+    (report-all (a .units) (a .table .now) passes _ e (length (a .out .now)) (sym (r .ensures .0) ∙ c .if2 .left), r .ensures .1 ∙ report-laid (a .units) (a .table .now) passes _ e (a .out .now))
 
 pub surveyed-spec : {M : Type 1} → statement M
 surveyed-spec =
     tie.close
     (tie.spec
-    new-requires
+    slice-aggregate-load
     load-requires
-    number-requires
+    cast-number
     refusal-requires
     same-length
     returns
+    slice-aggregate-run
+    slice-aggregate-run-2
     run-requires
+    slice-aggregate-report
     report-requires
-    characters-requires
     same-length-2
-    returns-2)
+    returns-2
+    mul-result
+    add-result
+    cast-result
+    mul-result-2
+    add-result-2
+    same-length-3
+    returns-3)

@@ -1,4 +1,4 @@
--- The word there, one more.
+-- The count there, and one more.
 use borrow.Author.Needs.{needs}
 use Rattle.answers.proofs.links.count_in.Statement.{statement}
 use Rattle.answers.proofs.links.count_in.Tie as tie
@@ -6,8 +6,8 @@ use Rattle.answers.proofs.links.count_in.Tie as tie
 word-requires : tie.Need-word-requires
 word-requires c κs = search needs
 
-up-requires : tie.Need-up-requires
-up-requires c κs = search needs
+wrapping-add-u16-requires : tie.Need-wrapping-add-u16-requires
+wrapping-add-u16-requires c κs = search needs
 
 put-requires : tie.Need-put-requires
 put-requires c κs = search needs
@@ -16,7 +16,8 @@ same-length : tie.Need-same-length
 same-length c = search needs
 
 returns : tie.Need-returns
-returns c = cc
+returns c = rw (c .before .before .put .ensures, c .before .before .before .before .wrapping-add-u16 .ensures, c .before .before .before .before .before .word .ensures)
 
 pub count-in-spec : {M : Type 1} → statement M
-count-in-spec = tie.close (tie.spec word-requires up-requires put-requires same-length returns)
+count-in-spec =
+    tie.close (tie.spec word-requires wrapping-add-u16-requires put-requires same-length returns)

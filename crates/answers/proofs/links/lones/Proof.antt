@@ -6,7 +6,7 @@ use native.Mathlib.Omega.{arith}
 use lib.ListN.{length}
 use Rattle.rules.specs.Labels.{lone}
 use Rattle.answers.specs.Flags.{flagTable, flags-none, flags-more}
-use Rattle.answers.specs.Sharing.{lookup-lone}
+use Rattle.answers.specs.Sharing.{shared-none, lookup-lone}
 use borrow.Author.Needs.{needs}
 use Rattle.answers.proofs.links.lones.Statement.{statement}
 use Rattle.answers.proofs.links.lones.Tie as tie
@@ -17,15 +17,15 @@ Inv-loop links label bucket absent table₀ j₀ table j = (j ≤ links) × (len
 abbrev μ-loop : tie.MeasureT-loop
 μ-loop links label bucket absent table₀ j₀ table j = links - j
 
-buckets-requires : tie.Need-buckets-requires Inv-loop μ-loop
-buckets-requires c κs = search needs
+slice-aggregate-count-labels : tie.Need-slice-aggregate-count-labels Inv-loop μ-loop
+slice-aggregate-count-labels c = search needs
 
-sharing-requires : tie.Need-sharing-requires Inv-loop μ-loop
-sharing-requires c κs = search needs
+count-labels-requires : tie.Need-count-labels-requires Inv-loop μ-loop
+count-labels-requires c κs = shared-none (c .before .before .args .label .now)
 
 loop-holds : tie.Need-loop-holds Inv-loop μ-loop
 loop-holds c =
-    let a = c .before .before .before .args in
+    let a = c .before .before .before .before .args in
     (search needs, search needs, flags-none 1024 (lone (a .links) (a .label .now)))
 
 cast-word : tie.Need-cast-word Inv-loop μ-loop
@@ -61,11 +61,10 @@ loop-less c = search needs
 loop-again : tie.Need-loop-again Inv-loop μ-loop
 loop-again c =
     let s = c .before .before .before .before .before .before .before .before in
-    let a = s .before .before .before .before .args in
+    let a = s .before .before .before .before .before .args in
     let p = lone (a .links) (a .label .now) in
     let j = s .loop .j in
-    let counts = s .before .before .buckets in
-    let absent = s .before .sharing in (
+    let counts = s .before .before .count-labels in (
       search needs,
       search needs,
       rw (
@@ -73,7 +72,7 @@ loop-again c =
         c .before .before .before .flag .ensures,
         c .before .before .before .before .look-up .ensures,
         c .before .before .before .before .before .before .word .ensures,
-        lookup-lone (a .links) (a .label .now) (counts .result) (counts .ensures) (absent .result) (absent .ensures) j,
+        lookup-lone (a .links) (a .label .now) (counts .last .1 .1 .0) (counts .ensures .0) (counts .result) (counts .ensures .1) j,
         s .loop .inv .2,
       ) (flags-more 1024 j p (cond (p j) 1 0) (λ _. refl)),
     )
@@ -81,8 +80,8 @@ loop-again c =
 returns : tie.Need-returns Inv-loop μ-loop
 returns c =
     let s = c .before in
-    let e : s .loop .j ≡ s .before .before .before .before .args .links = omega arith in
-    let a = s .before .before .before .before .args in
+    let a = s .before .before .before .before .before .args in
+    let e : s .loop .j ≡ a .links = omega arith in
     s .loop .inv .2 ∙ ap (λ (n : ℕ). flagTable 1024 n (lone (a .links) (a .label .now))) e
 
 pub lones-spec : {M : Type 1} → statement M
@@ -91,8 +90,8 @@ lones-spec =
     (tie.spec
     Inv-loop
     μ-loop
-    buckets-requires
-    sharing-requires
+    slice-aggregate-count-labels
+    count-labels-requires
     loop-holds
     cast-word
     word-requires

@@ -15,8 +15,8 @@ word-requires-3 c κs = search needs
 byte-requires : tie.Need-byte-requires
 byte-requires c κs = search needs
 
-unit-line-requires : tie.Need-unit-line-requires
-unit-line-requires c κs = search needs
+unit-row-requires : tie.Need-unit-row-requires
+unit-row-requires c κs = search needs
 
 same-length : tie.Need-same-length
 same-length c = search needs
@@ -32,6 +32,6 @@ unit-at-spec =
     word-requires-2
     word-requires-3
     byte-requires
-    unit-line-requires
+    unit-row-requires
     same-length
     returns)

@@ -1,22 +1,22 @@
--- The least label differs from the greatest.
+-- The bits of all labels differ from those of any.
 use native.Mathlib.Omega.{arith}
-use Rattle.answers.specs.Extremes.{single-extremes}
+use Rattle.answers.specs.LabelBits.{single-bits}
 use borrow.Author.Needs.{needs}
 use Rattle.answers.proofs.units.single.Statement.{statement}
 use Rattle.answers.proofs.units.single.Tie as tie
 
-extreme-requires : tie.Need-extreme-requires
-extreme-requires c κs = search needs
+label-bits-requires : tie.Need-label-bits-requires
+label-bits-requires c κs = search needs
 
-extreme-requires-2 : tie.Need-extreme-requires-2
-extreme-requires-2 c κs = search needs
+label-bits-requires-2 : tie.Need-label-bits-requires-2
+label-bits-requires-2 c κs = search needs
 
 returns : tie.Need-returns
 returns c =
     let s = c .before .before in
     let a = s .before .before .args in
-    rw (c .extreme2 .ensures, c .before .extreme .ensures)
-    (single-extremes (a .links) (a .ends .now) (a .label .now) (a .u) (λ i. omega (arith, s .shared-slice-known2 .given i)))
+    rw (c .label-bits2 .ensures, c .before .label-bits .ensures)
+    (single-bits (a .links) (a .ends .now) (a .label .now) (a .u) (λ i. omega (arith, s .shared-slice-known2 .given i)))
 
 pub single-spec : {M : Type 1} → statement M
-single-spec = tie.close (tie.spec extreme-requires extreme-requires-2 returns)
+single-spec = tie.close (tie.spec label-bits-requires label-bits-requires-2 returns)

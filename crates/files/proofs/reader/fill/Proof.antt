@@ -1,67 +1,65 @@
 -- The ends of the links passed are laid down, and the rest is as it was.
 use mathlib.Core.Path.{_≡_, refl, _∙_}
-use mathlib.Core.List.{List, _++_}
-use Prim.Native.Nat.{ℕ, _≤_, _-_, _*_}
+use mathlib.Core.List.{_++_}
+use Prim.Native.Nat.{_+_, _*_, _-_, _≤_}
 use native.Mathlib.Omega.{arith}
-use lib.ListN.{length, drop}
+use lib.ListN.{length, drop, set, length-set}
 use Rattle.files.specs.File.{endsFrom}
-use Rattle.files.specs.ReadLaws.{ends-more}
+use Rattle.files.specs.ReadLaws.{ends-none, ends-more}
 use borrow.Author.Needs.{needs}
 use Rattle.files.proofs.reader.fill.Statement.{statement}
 use Rattle.files.proofs.reader.fill.Tie as tie
 
 abbrev Inv-loop : tie.InvT-loop
-Inv-loop file links words₀ j₀ words j =
+Inv-loop t file links words₀ j₀ words j =
     (j ≤ links) × (length words ≡ length words₀) × (words ≡ endsFrom j (drop 9 file) ++ drop (2 * j) words₀)
 
 abbrev μ-loop : tie.MeasureT-loop
-μ-loop file links words₀ j₀ words j = links - j
-
-start : (s words : List ℕ) → words ≡ endsFrom 0 (drop 9 s) ++ words
-unfolding endsFrom
-start s words = refl
+μ-loop t file links words₀ j₀ words j = links - j
 
 loop-holds : tie.Need-loop-holds Inv-loop μ-loop
-loop-holds c = (omega arith, refl, start (c .before .before .args .file .now) (c .before .before .args .words .now))
+loop-holds c = (omega arith, refl, ends-none (drop 9 (c .before .before .before .args .file .now)) (c .before .before .before .args .words .now))
 
-mul-put : tie.Need-mul-put Inv-loop μ-loop
-mul-put c = search needs
+mul-at : tie.Need-mul-at Inv-loop μ-loop
+mul-at c = search needs
 
-mul-word-at : tie.Need-mul-word-at Inv-loop μ-loop
-mul-word-at c = search needs
+add-at : tie.Need-add-at Inv-loop μ-loop
+add-at c = search needs
 
 add-word-at : tie.Need-add-word-at Inv-loop μ-loop
 add-word-at c = search needs
 
-add-word-at-2 : tie.Need-add-word-at-2 Inv-loop μ-loop
-add-word-at-2 c = search needs
-
 word-at-requires : tie.Need-word-at-requires Inv-loop μ-loop
 word-at-requires c κs = search needs
 
-put-requires : tie.Need-put-requires Inv-loop μ-loop
-put-requires c κs = search needs
+mul-words : tie.Need-mul-words Inv-loop μ-loop
+mul-words c = search needs
 
-mul-put-2 : tie.Need-mul-put-2 Inv-loop μ-loop
-mul-put-2 c = search needs
+mul-words-2 : tie.Need-mul-words-2 Inv-loop μ-loop
+mul-words-2 c = search needs
 
-add-put : tie.Need-add-put Inv-loop μ-loop
-add-put c = search needs
+slice-write-words : tie.Need-slice-write-words Inv-loop μ-loop
+slice-write-words c = search needs
 
-mul-word-at-2 : tie.Need-mul-word-at-2 Inv-loop μ-loop
-mul-word-at-2 c = search needs
-
-add-word-at-3 : tie.Need-add-word-at-3 Inv-loop μ-loop
-add-word-at-3 c = search needs
-
-add-word-at-4 : tie.Need-add-word-at-4 Inv-loop μ-loop
-add-word-at-4 c = search needs
+add-word-at-2 : tie.Need-add-word-at-2 Inv-loop μ-loop
+add-word-at-2 c = search needs
 
 word-at-requires-2 : tie.Need-word-at-requires-2 Inv-loop μ-loop
 word-at-requires-2 c κs = search needs
 
-put-requires-2 : tie.Need-put-requires-2 Inv-loop μ-loop
-put-requires-2 c κs = search needs
+mul-words-3 : tie.Need-mul-words-3 Inv-loop μ-loop
+mul-words-3 c = search needs
+
+add-words : tie.Need-add-words Inv-loop μ-loop
+add-words c = search needs
+
+mul-words-4 : tie.Need-mul-words-4 Inv-loop μ-loop
+mul-words-4 c = search needs
+
+slice-write-words-2 : tie.Need-slice-write-words-2 Inv-loop μ-loop
+slice-write-words-2 c =
+    let l = c .before .before .before in
+    omega (arith, length-set (l .loop .words) (2 * (l .loop .j)) (c .before .word-at .result), l .loop .inv .1, l .before .before .before .before .pre)
 
 add-j : tie.Need-add-j Inv-loop μ-loop
 add-j c = search needs
@@ -71,12 +69,15 @@ loop-less c = search needs
 
 loop-again : tie.Need-loop-again Inv-loop μ-loop
 loop-again c =
-    let l = c .before .before .before .before .before .before .before .before .before .before .before in
-    let a = l .before .before .before .args in (
+    let l = c .before .before .before in
+    let a = l .before .before .before .before .args in
+    let w = l .loop .words in
+    let j = l .loop .j in
+    let x = c .before .word-at .result in (
       search needs,
-      search needs,
-      rw (c .before .before .put2 .ensures, c .before .before .before .before .before .before .before .put .ensures, c .before .before .before .word-at2 .ensures, c .before .before .before .before .before .before .before .before .word-at .ensures, l .loop .inv .2)
-          (ends-more (a .file .now) (a .words .now) (l .loop .j) (omega (arith, l .before .before .before .pre))),
+      length-set (set w (2 * j) x) (2 * j + 1) (c .word-at2 .result) ∙ length-set w (2 * j) x ∙ l .loop .inv .1,
+      rw (c .word-at2 .ensures, c .before .word-at .ensures, l .loop .inv .2)
+          (ends-more (a .file .now) (a .words .now) j (omega (arith, l .before .before .before .before .pre))),
     )
 
 same-length : tie.Need-same-length Inv-loop μ-loop
@@ -85,7 +86,7 @@ same-length c = search needs
 returns : tie.Need-returns Inv-loop μ-loop
 returns c =
     let l = c .before in
-    let e : l .loop .j ≡ l .before .before .before .args .links = omega arith in
+    let e : l .loop .j ≡ l .before .before .before .before .args .links = omega arith in
     l .loop .inv .2 ∙ rw e
 
 pub fill-spec : {M : Type 1} → statement M
@@ -95,19 +96,19 @@ fill-spec =
     Inv-loop
     μ-loop
     loop-holds
-    mul-put
-    mul-word-at
+    mul-at
+    add-at
     add-word-at
-    add-word-at-2
     word-at-requires
-    put-requires
-    mul-put-2
-    add-put
-    mul-word-at-2
-    add-word-at-3
-    add-word-at-4
+    mul-words
+    mul-words-2
+    slice-write-words
+    add-word-at-2
     word-at-requires-2
-    put-requires-2
+    mul-words-3
+    add-words
+    mul-words-4
+    slice-write-words-2
     add-j
     loop-less
     loop-again

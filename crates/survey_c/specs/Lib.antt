@@ -1,9 +1,0 @@
-pub mod Layout
-pub mod CopyLaws
-pub mod Laid
-pub mod Face
-pub mod FaceLaws
-pub mod Parts
-pub mod WordsBack
-pub mod SurveyBack
-pub mod Holds
