@@ -5,7 +5,7 @@
  * parts the site) and every lone link (one that no ring backs up). "Document 01" is the customer's paper.
  *
  * Link with libsurvey_c.a, made by `rt staticlib survey_c` (x86-64). The library has no variables of its own and uses no heap and no files; of the
- * C library it needs memcpy and memset. Allow 256 KiB of stack; the deepest call, link_survey_report, was measured at 168 KiB.
+ * C library it needs memcpy and memset. Allow 96 KiB of stack; the deepest call, link_survey_report, was measured at 48 KiB.
  *
  * Common to all functions:
  *
