@@ -8,7 +8,6 @@ use lib.Dec.{T, eqb, ltb, ltb→lt, lit<}
 use lib.ListN.{length, getD, take, drop, length-append, length-drop, take-append-drop}
 use lib.Seq.{take-at, drop-at, take-append-le, drop-append-le, length-take-le, drop-drop}
 use borrow.Author.Tests.{eqb-true, eqb-false, ltb-true, ltb-false}
-use Rattle.survey.specs.State.{withClock, withRanking}
 use Rattle.lent.specs.Layout
 use Rattle.lent.specs.Layout.{STATE-WORDS, part, surveyOf}
 use Rattle.lent.specs.Laid.{laid}
@@ -143,11 +142,3 @@ pub laid-fields : (ps : List (ℕ × List ℕ)) (ws : List ℕ) → length ws �
 laid-fields ps ws state fit =
     survey-by (laidAll ps ws)
     ∙ same-fields (λ (j : ℕ). field j (laidAll ps ws)) (λ (j : ℕ). chosen ps j (field j ws)) (fields-after ps ws state fit)
-
--- the clock and the ranking replaced
-pub laid-ranking : (stage made rounds requests : ℕ) (jump sum ws : List ℕ) → length ws ≡ STATE-WORDS → length jump ≡ 512 → length sum ≡ 512
-    → surveyOf (laid 4358 sum (laid 3846 jump (laid 2050 (stage ∷ made ∷ rounds ∷ requests ∷ []) ws)))
-    ≡ withClock (record { stage = stage; made = made; rounds = rounds; requests = requests }) (withRanking (record { jump = jump; sum = sum }) (surveyOf ws))
-laid-ranking stage made rounds requests jump sum ws state e f =
-    rw (survey-by ws)
-    (laid-fields ((2, stage ∷ made ∷ rounds ∷ requests ∷ []) ∷ (8, jump) ∷ (9, sum) ∷ []) ws state ((tt, refl), ((tt, e), ((tt, f), tt))))
