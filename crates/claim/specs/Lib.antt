@@ -1,8 +1,4 @@
 pub mod Play
 pub mod PlayLaws
 pub mod Claim
-pub mod Words
-pub mod WordLaws
-pub mod WordSteps
-pub mod KindLaws
-pub mod StoreLaws
+pub mod ClaimProof

@@ -4,11 +4,11 @@ use mathlib.Core.List.{List, [], _∷_}
 use Prim.Native.Nat.{ℕ, _+_}
 use lib.Dec.{eqb}
 use lib.ListN.{length}
-use Rattle.survey.specs.declared.state.Survey.{Survey}
-use Rattle.survey.specs.declared.reply.Answer.{Answer}
-use Rattle.survey.specs.declared.reply.Reply.{Reply}
-use Rattle.survey.specs.declared.reply.Reply.the-variants.{Refused, Done, Made, Status, Unit, Link, Read, Written}
-use Rattle.survey.specs.Calls.{numberOf, roundAnswer, runAnswer, statusAnswer, unitAnswer, linkAnswer, reportAnswer, reported}
+use Rattle.machine.specs.State.{State}
+use Rattle.machine.specs.Calls.{Answer}
+use Rattle.state.specs.declared.reply.Reply.{Reply}
+use Rattle.state.specs.declared.reply.Reply.the-variants.{Refused, Done, Made, Status, Unit, Link, Read, Written}
+use Rattle.machine.specs.Calls.{numberOf, roundAnswer, runAnswer, statusAnswer, unitAnswer, linkAnswer, reportAnswer, reported}
 
 -- a call with any budget, number or slice
 pub data Call : Type 0 where
@@ -20,7 +20,7 @@ pub data Call : Type 0 where
   report : List ℕ → Call
 
 -- what a call hands back
-abbrev pub answerTo : Call → Survey → Answer
+abbrev pub answerTo : Call → State → Answer
 answerTo round s = roundAnswer s
 answerTo (run budget) s = runAnswer budget s
 answerTo status s = statusAnswer s
@@ -29,7 +29,7 @@ answerTo (link j) s = linkAnswer j s
 answerTo (report out) s = reportAnswer (length out) s
 
 -- what the lent slice holds after the call
-abbrev pub sliceAfter : Call → Survey → List ℕ
+abbrev pub sliceAfter : Call → State → List ℕ
 sliceAfter round s = []
 sliceAfter (run budget) s = []
 sliceAfter status s = []
@@ -39,14 +39,14 @@ sliceAfter (report out) s = reported s out
 
 -- the last state, the replies, and the lent slices after their calls
 pub record Played : Type 0 where
-  pub last : Survey
+  pub last : State
   pub replies : List Reply
   pub slices : List (List ℕ)
 
-unfoldable pub play : List Call → Survey → Played
+unfoldable pub play : List Call → State → Played
 play [] s = record { last = s; replies = []; slices = [] }
 play (c ∷ cs) s =
-    let later = play cs (answerTo c s .survey) in
+    let later = play cs (answerTo c s .state) in
     record { last = later .last; replies = answerTo c s .reply ∷ later .replies; slices = sliceAfter c s ∷ later .slices }
 
 -- ---- rounds, from the calls and the replies alone

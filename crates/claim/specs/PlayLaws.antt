@@ -10,45 +10,45 @@ use native.Mathlib.Omega.{arith}
 use lib.Dec.{eqb}
 use lib.ListN.{length}
 use Rattle.lists.specs.Tests.{either, not-both}
-use Rattle.survey.specs.declared.state.Survey.{Survey}
-use Rattle.survey.specs.declared.reply.Reply.{Reply}
-use Rattle.survey.specs.State.{finished}
-use Rattle.survey.specs.WellFormed.{wellFormed}
-use Rattle.survey.specs.Step.{step, steps}
-use Rattle.survey.specs.Run.{ran}
-use Rattle.survey.specs.RunLaws
-use Rattle.survey.specs.RunLaws.{steps-add, steps-finished, steps-wellFormed, ran-made}
-use Rattle.survey.specs.Calls.{numberOf, answered, roundRefusal, roundAnswer, runAnswer, statusAnswer, statusRefusal, unitAnswer, unitRefusal, linkAnswer, linkRefusal, reportAnswer, reportRefusal}
+use Rattle.machine.specs.State.{State}
+use Rattle.state.specs.declared.reply.Reply.{Reply}
+use Rattle.machine.specs.State.{finished}
+use Rattle.machine.specs.WellFormed.{wellFormed}
+use Rattle.machine.specs.Step.{step, steps}
+use Rattle.machine.specs.Run.{ran}
+use Rattle.machine.specs.RunLaws
+use Rattle.machine.specs.RunLaws.{steps-add, steps-finished, steps-wellFormed, ran-made}
+use Rattle.machine.specs.Calls.{numberOf, answered, roundRefusal, roundAnswer, runAnswer, statusAnswer, statusRefusal, unitAnswer, unitRefusal, linkAnswer, linkRefusal, reportAnswer, reportRefusal}
 use Rattle.claim.specs.Play.{Call, round, run, status, unit, link, report, answerTo, Played, play, usedBy, used, askedBy, asked}
 
 -- from s to s′ by u steps that were not past the end: all `wanted`, or up to the end
-pub record Spent (wanted : ℕ) (s s′ : Survey) (u : ℕ) : Type 0 where
+pub record Spent (wanted : ℕ) (s s′ : State) (u : ℕ) : Type 0 where
   pub state : s′ ≡ steps u s
   pub going : (i : ℕ) → i < u → finished (steps i s) ≡ false
   pub stops : (u ≡ wanted) ⊎ (finished s′ ≡ true)
 
 -- nothing wanted, nothing done
-idle : (s : Survey) → Spent 0 s s 0
+idle : (s : State) → Spent 0 s s 0
 unfolding steps
 idle s = record { state = refl; going = λ i l. absurd (not-suc-le-zero l); stops = inl refl }
 
 -- a finished survey has none left
-over : (wanted : ℕ) (s : Survey) → finished s ≡ true → Spent wanted s s 0
+over : (wanted : ℕ) (s : State) → finished s ≡ true → Spent wanted s s 0
 unfolding steps
 over wanted s f = record { state = refl; going = λ i l. absurd (not-suc-le-zero l); stops = inr f }
 
 -- ---- one call
 
 -- a call that makes no round hands the state back as it came, refused or not
-unmoved : (k : ℕ) (s : Survey) (r : Reply) → answered k s s r .survey ≡ s
+unmoved : (k : ℕ) (s : State) (r : Reply) → answered k s s r .state ≡ s
 unmoved k s r = go (either (eqb k 0))
   where
-    go : (eqb k 0 ≡ true) ⊎ (eqb k 0 ≡ false) → answered k s s r .survey ≡ s
+    go : (eqb k 0 ≡ true) ⊎ (eqb k 0 ≡ false) → answered k s s r .state ≡ s
     go (inl e) = rw e refl
     go (inr e) = rw e refl
 
 -- one round
-single : (s : Survey) → finished s ≡ false → Spent 1 s (step s) 1
+single : (s : State) → finished s ≡ false → Spent 1 s (step s) 1
 unfolding steps
 single s f = record { state = refl; going = first; stops = inl refl }
   where
@@ -56,27 +56,27 @@ single s f = record { state = refl; going = first; stops = inl refl }
     first zero l = f
     first (suc i) l = absurd (omega arith)
 
-round-spent : (s : Survey) → wellFormed s ≡ true → Spent 1 s (roundAnswer s .survey) (usedBy round (roundAnswer s .reply))
+round-spent : (s : State) → wellFormed s ≡ true → Spent 1 s (roundAnswer s .state) (usedBy round (roundAnswer s .reply))
 unfolding roundAnswer roundRefusal
 round-spent s w = go (either (finished s))
   where
-    go : (finished s ≡ true) ⊎ (finished s ≡ false) → Spent 1 s (roundAnswer s .survey) (usedBy round (roundAnswer s .reply))
+    go : (finished s ≡ true) ⊎ (finished s ≡ false) → Spent 1 s (roundAnswer s .state) (usedBy round (roundAnswer s .reply))
     go (inl f) = rw (w, f) (over 1 s f)
     go (inr f) = rw (w, f) (single s f)
 
-run-spent : (budget : ℕ) (s : Survey) → wellFormed s ≡ true
-    → Spent budget s (runAnswer budget s .survey) (usedBy (run budget) (runAnswer budget s .reply))
+run-spent : (budget : ℕ) (s : State) → wellFormed s ≡ true
+    → Spent budget s (runAnswer budget s .state) (usedBy (run budget) (runAnswer budget s .reply))
 unfolding runAnswer roundRefusal
 run-spent budget s w = go (either (finished s))
   where
-    go : (finished s ≡ true) ⊎ (finished s ≡ false) → Spent budget s (runAnswer budget s .survey) (usedBy (run budget) (runAnswer budget s .reply))
+    go : (finished s ≡ true) ⊎ (finished s ≡ false) → Spent budget s (runAnswer budget s .state) (usedBy (run budget) (runAnswer budget s .reply))
     go (inl f) = rw (w, f) (over budget s f)
     go (inr f) = rw (w, f) (record { state = m .state; going = m .going; stops = m .stops })
       where
         m : RunLaws.Made budget s (ran budget 0 s .0) (ran budget 0 s .1)
         m = ran-made budget s
 
-call-spent : (c : Call) (s : Survey) → wellFormed s ≡ true → Spent (askedBy c) s (answerTo c s .survey) (usedBy c (answerTo c s .reply))
+call-spent : (c : Call) (s : State) → wellFormed s ≡ true → Spent (askedBy c) s (answerTo c s .state) (usedBy c (answerTo c s .reply))
 unfolding statusAnswer unitAnswer linkAnswer reportAnswer
 call-spent round s w = round-spent s w
 call-spent (run budget) s w = run-spent budget s w
@@ -88,7 +88,7 @@ call-spent (report out) s w = rw (unmoved (reportRefusal s (length out)) s _) (i
 -- ---- a list of calls
 
 -- one stretch after another
-joined : (a b : ℕ) (s s′ s″ : Survey) (u v : ℕ) → Spent a s s′ u → Spent b s′ s″ v → Spent (a + b) s s″ (u + v)
+joined : (a b : ℕ) (s s′ s″ : State) (u v : ℕ) → Spent a s s′ u → Spent b s′ s″ v → Spent (a + b) s s″ (u + v)
 joined a b s s′ s″ u v p q =
     record {
       state = q .state ∙ ap (steps v) (p .state) ∙ sym (steps-add u v s);
@@ -111,11 +111,11 @@ joined a b s s′ s″ u v p q =
     stop (inl e) (inl g) = inl (omega arith)
     stop (inr f) (inl g) = inr (at-end f)
 
-pub play-spent : (calls : List Call) (s : Survey) → wellFormed s ≡ true → Spent (asked calls) s (play calls s .last) (used calls (play calls s .replies))
+pub play-spent : (calls : List Call) (s : State) → wellFormed s ≡ true → Spent (asked calls) s (play calls s .last) (used calls (play calls s .replies))
 unfolding play used asked
 play-spent [] s w = idle s
 play-spent (c ∷ cs) s w =
-    joined (askedBy c) (asked cs) s (answerTo c s .survey) (play cs (answerTo c s .survey) .last) _ _ first (play-spent cs (answerTo c s .survey) (rw (first .state) (steps-wellFormed _ s w)))
+    joined (askedBy c) (asked cs) s (answerTo c s .state) (play cs (answerTo c s .state) .last) _ _ first (play-spent cs (answerTo c s .state) (rw (first .state) (steps-wellFormed _ s w)))
   where
-    first : Spent (askedBy c) s (answerTo c s .survey) (usedBy c (answerTo c s .reply))
+    first : Spent (askedBy c) s (answerTo c s .state) (usedBy c (answerTo c s .reply))
     first = call-spent c s w

@@ -8,14 +8,14 @@ use native.Mathlib.Decide.{decLt}
 use native.Mathlib.Omega.{arith}
 use borrow.Author.Tests.{eq-eqb, ne-eqb}
 use Rattle.table.specs.Table.{tableRefusal}
-use Rattle.survey.specs.declared.state.Survey.{Survey}
-use Rattle.survey.specs.declared.state.Clock.{Clock}
-use Rattle.survey.specs.State.{finished, FINISHED, MAX-ROUNDS, MAX-REQUESTS}
-use Rattle.survey.specs.Load.{loaded}
-use Rattle.survey.specs.Step
-use Rattle.survey.specs.StageLaws.{ticked, step-1, step-2, step-3, step-4, step-5, step-6, step-7, step-8, step-9, step-10, ends-6}
-use Rattle.survey.specs.StepLaws.{loaded-wellFormed, first-countdown}
-use Rattle.survey.specs.RunLaws.{steps-suc, step-finished, ended-exact, total, total-least, total-countdown}
+use Rattle.machine.specs.State.{State}
+use Rattle.state.specs.declared.groups.Clock.{Clock}
+use Rattle.machine.specs.State.{finished, FINISHED, MAX-ROUNDS, MAX-REQUESTS}
+use Rattle.machine.specs.Load.{loaded}
+use Rattle.machine.specs.Step
+use Rattle.machine.specs.StageLaws.{ticked, step-1, step-2, step-3, step-4, step-5, step-6, step-7, step-8, step-9, step-10, ends-6}
+use Rattle.machine.specs.StepLaws.{loaded-wellFormed, first-countdown}
+use Rattle.machine.specs.RunLaws.{steps-suc, step-finished, ended-exact, total, total-least, total-countdown}
 use Rattle.reach.specs.Invariant.{Base, In6, Reached, in1, in2, in3, in4, in5, in6, in7, in8, in9, in10, in11}
 use Rattle.reach.specs.RankingOf.{first-potential, second-potential}
 use Rattle.reach.specs.Ticks.{Goes}
@@ -26,57 +26,57 @@ use Rattle.reach.specs.ExactStep.{stepExact, stepsExact, exactClock}
 use Rattle.reach.specs.ExactTables.{ends-exact, requests-exact, components-exact, tree-exact, tour-exact, ranking-exact, marks-exact, places-exact, range-exact, edges-exact, aux-exact, labels-exact}
 
 -- the exact round makes the tables of the round
-record Exact (s : Survey) : Type 0 where
+record Exact (s : State) : Type 0 where
   ends : ExactStep.ruleEnds? s ≡ some (Step.ruleEnds s)
-  tables : Survey
+  tables : State
   plain : Step.step s ≡ ticked s tables
   exact : ExactStep.roundTables? (Step.ruleEnds s) s ≡ some tables
 
 -- ---- the tables at each stage, by the number that the clock shows
 
-tables-1 : (last : Bool) (s : Survey) → s .clock .stage ≡ 1 → ExactStep.roundTables? last s ≡ ExactStep.components? s
+tables-1 : (last : Bool) (s : State) → s .clock .stage ≡ 1 → ExactStep.roundTables? last s ≡ ExactStep.components? s
 unfolding ExactStep.roundTables?
 tables-1 last s e = rw e refl
 
-tables-2 : (last : Bool) (s : Survey) → s .clock .stage ≡ 2 → ExactStep.roundTables? last s ≡ ExactStep.tree? s
+tables-2 : (last : Bool) (s : State) → s .clock .stage ≡ 2 → ExactStep.roundTables? last s ≡ ExactStep.tree? s
 unfolding ExactStep.roundTables?
 tables-2 last s e = rw e refl
 
-tables-3 : (last : Bool) (s : Survey) → s .clock .stage ≡ 3 → ExactStep.roundTables? last s ≡ ExactStep.tour? s
+tables-3 : (last : Bool) (s : State) → s .clock .stage ≡ 3 → ExactStep.roundTables? last s ≡ ExactStep.tour? s
 unfolding ExactStep.roundTables?
 tables-3 last s e = rw e refl
 
-tables-4 : (last : Bool) (s : Survey) → s .clock .stage ≡ 4 → ExactStep.roundTables? last s ≡ ExactStep.ranking? s
+tables-4 : (last : Bool) (s : State) → s .clock .stage ≡ 4 → ExactStep.roundTables? last s ≡ ExactStep.ranking? s
 unfolding ExactStep.roundTables?
 tables-4 last s e = rw e refl
 
-tables-5 : (last : Bool) (s : Survey) → s .clock .stage ≡ 5 → ExactStep.roundTables? last s ≡ ExactStep.marks? s
+tables-5 : (last : Bool) (s : State) → s .clock .stage ≡ 5 → ExactStep.roundTables? last s ≡ ExactStep.marks? s
 unfolding ExactStep.roundTables?
 tables-5 last s e = rw e refl
 
-tables-6 : (last : Bool) (s : Survey) → s .clock .stage ≡ 6 → ExactStep.roundTables? last s ≡ cond last (ExactStep.places? s) (ExactStep.ranking? s)
+tables-6 : (last : Bool) (s : State) → s .clock .stage ≡ 6 → ExactStep.roundTables? last s ≡ cond last (ExactStep.places? s) (ExactStep.ranking? s)
 unfolding ExactStep.roundTables?
 tables-6 last s e = rw e refl
 
-tables-7 : (last : Bool) (s : Survey) → s .clock .stage ≡ 7 → ExactStep.roundTables? last s ≡ ExactStep.range? s
+tables-7 : (last : Bool) (s : State) → s .clock .stage ≡ 7 → ExactStep.roundTables? last s ≡ ExactStep.range? s
 unfolding ExactStep.roundTables?
 tables-7 last s e = rw e refl
 
-tables-8 : (last : Bool) (s : Survey) → s .clock .stage ≡ 8 → ExactStep.roundTables? last s ≡ ExactStep.auxEdges? s
+tables-8 : (last : Bool) (s : State) → s .clock .stage ≡ 8 → ExactStep.roundTables? last s ≡ ExactStep.auxEdges? s
 unfolding ExactStep.roundTables?
 tables-8 last s e = rw e refl
 
-tables-9 : (last : Bool) (s : Survey) → s .clock .stage ≡ 9 → ExactStep.roundTables? last s ≡ ExactStep.auxComponents? s
+tables-9 : (last : Bool) (s : State) → s .clock .stage ≡ 9 → ExactStep.roundTables? last s ≡ ExactStep.auxComponents? s
 unfolding ExactStep.roundTables?
 tables-9 last s e = rw e refl
 
-tables-10 : (last : Bool) (s : Survey) → s .clock .stage ≡ 10 → ExactStep.roundTables? last s ≡ ExactStep.labels? s
+tables-10 : (last : Bool) (s : State) → s .clock .stage ≡ 10 → ExactStep.roundTables? last s ≡ ExactStep.labels? s
 unfolding ExactStep.roundTables?
 tables-10 last s e = rw e refl
 
 -- ---- every stage
 
-module _ (s : Survey) (b : Base s) where
+module _ (s : State) (b : Base s) where
   -- at any stage but 9 the end asks for no tree
   ends-at : (k : ℕ) → s .clock .stage ≡ k → (k ≡ 9 → ⊥) → ExactStep.ruleEnds? s ≡ some (Step.ruleEnds s)
   ends-at k e h = ends-exact s b (λ q. absurd (h (sym e ∙ q)))
@@ -133,7 +133,7 @@ clock-exact last r c h k =
     let requests : min (c .requests + r) MAX-REQUESTS ≡ c .requests + r = omega arith in
     rw (rounds, requests) refl
 
-round-exact : (s : Survey) → (s .clock .stage ≡ FINISHED → ⊥) → Exact s → Goes s → s .clock .rounds + 1 ≤ MAX-ROUNDS → stepExact s ≡ some (Step.step s)
+round-exact : (s : State) → (s .clock .stage ≡ FINISHED → ⊥) → Exact s → Goes s → s .clock .rounds + 1 ≤ MAX-ROUNDS → stepExact s ≡ some (Step.step s)
 unfolding stepExact
 round-exact s h x g l =
     let clock : exactClock (Step.ruleEnds s) (Step.roundRequests s) (s .clock) ≡ Step.nextClock (Step.lastRound s) (Step.roundRequests s) (s .clock) =

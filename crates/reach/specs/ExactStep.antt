@@ -8,71 +8,71 @@ use lib.Dec.{eqb}
 use Rattle.rules.specs.Components.{colorEnds}
 use Rattle.rules.specs.Range.{rangeEnds}
 use Rattle.rules.specs.Aux.{auxEnds}
-use Rattle.survey.specs.declared.state.Survey.{Survey}
-use Rattle.survey.specs.declared.state.Clock.{Clock}
-use Rattle.survey.specs.State.{units, links, finished, withClock, withComponents, withTree, withTour, withRanking, withOrder, withRange, withGlobal, withAux, withLabels}
+use Rattle.machine.specs.State.{State}
+use Rattle.state.specs.declared.groups.Clock.{Clock}
+use Rattle.machine.specs.State.{units, links, finished, withClock, withComponents, withTree, withTour, withRanking, withOrder, withRange, withGlobal, withAux, withLabels}
 use Rattle.reach.specs.Partial.{Value, Test, _>>=_}
 use Rattle.reach.specs.ExactRules
 
 -- ---- the tables of each stage after a round
 
-unfoldable pub colors? : Survey → Option (List ℕ)
+unfoldable pub colors? : State → Option (List ℕ)
 colors? s = ExactRules.colorRound? (units s) (links s) (s .clock .made) (s .table .ends) (s .components .color)
 
-unfoldable pub components? : Survey → Option Survey
+unfoldable pub components? : State → Option State
 components? s = do
   color ← colors? s
   some (withComponents (record { color = color }) s)
 
-unfoldable pub tree? : Survey → Option Survey
+unfoldable pub tree? : State → Option State
 tree? s = do
   parent ← ExactRules.parentRound? (units s) (links s) (s .clock .made) (s .table .ends) (s .components .color) (s .tree .dist) (s .tree .parent)
   dist ← ExactRules.distRound? (units s) (links s) (s .clock .made) (s .table .ends) (s .components .color) (s .tree .dist)
   some (withTree (record { parent = parent; dist = dist }) s)
 
-unfoldable pub tourNext? : Survey → Option Survey
+unfoldable pub tourNext? : State → Option State
 tourNext? s = do
   next ← ExactRules.nextRound? (units s) (s .tree .parent) (s .tour .next)
   some (withTour (record { next = next; pred = s .tour .pred }) s)
 
-unfoldable pub tourPred? : Survey → Option Survey
+unfoldable pub tourPred? : State → Option State
 tourPred? s = do
   pred ← ExactRules.predRound? (units s) (s .tree .parent) (s .tour .next) (s .tour .pred)
   jump ← ExactRules.firstJumps? (units s) (s .tree .parent) (s .tour .next) (s .ranking .jump)
   sum ← ExactRules.firstSums? (units s) (s .tree .parent) (s .ranking .sum)
   some (withTour (record { next = s .tour .next; pred = pred }) (withRanking (record { jump = jump; sum = sum }) s))
 
-unfoldable pub tour? : Survey → Option Survey
+unfoldable pub tour? : State → Option State
 tour? s = cond (eqb (s .clock .made) 0) (tourNext? s) (tourPred? s)
 
-unfoldable pub ranking? : Survey → Option Survey
+unfoldable pub ranking? : State → Option State
 ranking? s = do
   jump ← ExactRules.jumpRound? (2 * units s) (s .ranking .jump)
   sum ← ExactRules.sumRound? (2 * units s) (s .ranking .jump) (s .ranking .sum)
   some (withRanking (record { jump = jump; sum = sum }) s)
 
-unfoldable pub marksForward? : Survey → Option Survey
+unfoldable pub marksForward? : State → Option State
 marksForward? s = do
   forward ← ExactRules.forwardRound? (units s) (s .tree .parent) (s .ranking .sum) (s .order .forward)
   some (withOrder (record { forward = forward; nd = s .order .nd; pre = s .order .pre }) s)
 
-unfoldable pub marksDescendants? : Survey → Option Survey
+unfoldable pub marksDescendants? : State → Option State
 marksDescendants? s = do
   nd ← ExactRules.ndRound? (units s) (s .components .color) (s .tree .parent) (s .ranking .sum) (s .order .nd)
   jump ← ExactRules.secondJumps? (units s) (s .tour .pred) (s .ranking .jump)
   sum ← ExactRules.secondSums? (units s) (s .tree .parent) (s .order .forward) (s .ranking .sum)
   some (withOrder (record { forward = s .order .forward; nd = nd; pre = s .order .pre }) (withRanking (record { jump = jump; sum = sum }) s))
 
-unfoldable pub marks? : Survey → Option Survey
+unfoldable pub marks? : State → Option State
 marks? s = cond (eqb (s .clock .made) 0) (marksForward? s) (marksDescendants? s)
 
-unfoldable pub places? : Survey → Option Survey
+unfoldable pub places? : State → Option State
 places? s = do
   pre ← ExactRules.preRound? (units s) (s .components .color) (s .tree .parent) (s .ranking .sum) (s .order .pre)
   ranked ← ranking? s
   some (withOrder (record { forward = s .order .forward; nd = s .order .nd; pre = pre }) ranked)
 
-unfoldable pub rangeBegun? : Survey → Option Survey
+unfoldable pub rangeBegun? : State → Option State
 rangeBegun? s = do
   low ← ExactRules.rangeFirst? min (units s) (links s) (s .table .ends) (s .tree .parent) (s .order .nd) (s .order .pre) (s .range .low)
   high ← ExactRules.rangeFirst? max (units s) (links s) (s .table .ends) (s .tree .parent) (s .order .nd) (s .order .pre) (s .range .high)
@@ -83,7 +83,7 @@ rangeBegun? s = do
   some
       (withRange (record { low = low; high = high; little = little; big = big }) (withGlobal (record { low = globalLow; high = globalHigh }) s))
 
-unfoldable pub rangeDoubled? : ℕ → Survey → Option Survey
+unfoldable pub rangeDoubled? : ℕ → State → Option State
 rangeDoubled? i s = do
   low ← ExactRules.rangeLater? min i (units s) (s .global .low) (s .range .little) (s .range .big) (s .range .low)
   high ← ExactRules.rangeLater? max i (units s) (s .global .high) (s .range .little) (s .range .big) (s .range .high)
@@ -94,40 +94,40 @@ rangeDoubled? i s = do
   some
       (withRange (record { low = low; high = high; little = little; big = big }) (withGlobal (record { low = globalLow; high = globalHigh }) s))
 
-unfoldable pub range? : Survey → Option Survey
+unfoldable pub range? : State → Option State
 range? s = cond (eqb (s .clock .made) 0) (rangeBegun? s) (rangeDoubled? (s .clock .made - 1) s)
 
-unfoldable pub auxEdges? : Survey → Option Survey
+unfoldable pub auxEdges? : State → Option State
 auxEdges? s = do
   parents ← ExactRules.parentJoinsRound? (units s) (s .tree .parent) (s .order .nd) (s .order .pre) (s .range .low) (s .range .high) (s .aux .parents)
   joins ← ExactRules.linkJoinsRound? (units s) (links s) (s .table .ends) (s .tree .parent) (s .aux .links)
   some (withAux (record { parents = parents; links = joins; color = s .aux .color }) s)
 
-unfoldable pub auxColors? : Survey → Option (List ℕ)
+unfoldable pub auxColors? : State → Option (List ℕ)
 auxColors? s =
     ExactRules.auxRound? (units s) (links s) (s .clock .made) (s .table .ends) (s .tree .parent) (s .aux .links) (s .aux .parents) (s .aux .color)
 
-unfoldable pub auxComponents? : Survey → Option Survey
+unfoldable pub auxComponents? : State → Option State
 auxComponents? s = do
   color ← auxColors? s
   some (withAux (record { parents = s .aux .parents; links = s .aux .links; color = color }) s)
 
-unfoldable pub labelClasses? : Survey → Option Survey
+unfoldable pub labelClasses? : State → Option State
 labelClasses? s = do
   class ← ExactRules.classRound? (units s) (links s) (s .table .ends) (s .tree .parent) (s .order .pre) (s .aux .color) (s .labels .class)
   some (withLabels (record { class = class; label = s .labels .label }) s)
 
-unfoldable pub labelPositions? : Survey → Option Survey
+unfoldable pub labelPositions? : State → Option State
 labelPositions? s = do
   label ← ExactRules.labelRound? (links s) (s .labels .class) (s .labels .label)
   some (withLabels (record { class = s .labels .class; label = label }) s)
 
-unfoldable pub labels? : Survey → Option Survey
+unfoldable pub labels? : State → Option State
 labels? s = cond (eqb (s .clock .made) 0) (labelClasses? s) (labelPositions? s)
 
 -- ---- the end of a stage, by its rule alone; what a round changed is seen from the entries below n
 
-unfoldable pub ruleEnds? : Survey → Test
+unfoldable pub ruleEnds? : State → Test
 ruleEnds? s =
     cond (eqb (s .clock .stage) 1) (colors? s >>= λ after. some (colorEnds (units s) (s .clock .made) (s .components .color) after))
     (cond (eqb (s .clock .stage) 2)
@@ -144,7 +144,7 @@ ruleEnds? s =
 -- ---- the round
 
 -- `last` says that this round ends its stage
-unfoldable pub roundTables? : Bool → Survey → Option Survey
+unfoldable pub roundTables? : Bool → State → Option State
 roundTables? last s =
     cond (eqb (s .clock .stage) 1) (components? s)
     (cond (eqb (s .clock .stage) 2) (tree? s)
@@ -157,7 +157,7 @@ roundTables? last s =
     (cond (eqb (s .clock .stage) 9) (auxComponents? s)
     (labels? s)))))))))
 
-unfoldable pub roundRequests? : Survey → Value
+unfoldable pub roundRequests? : State → Value
 roundRequests? s =
     cond (eqb (s .clock .stage) 4 || eqb (s .clock .stage) 6) (ExactRules.requestsOf? (2 * units s) (s .ranking .jump)) (some 0)
 
@@ -172,7 +172,7 @@ exactClock last requests c =
     }
 
 -- a finished survey stays as it is
-unfoldable pub stepExact : Survey → Option Survey
+unfoldable pub stepExact : State → Option State
 stepExact s =
     cond (finished s) (some s) do
       last ← ruleEnds? s
@@ -181,6 +181,6 @@ stepExact s =
       some (withClock (exactClock last requests (s .clock)) tables)
 
 -- stepExact, k times
-unfoldable pub stepsExact : ℕ → Survey → Option Survey
+unfoldable pub stepsExact : ℕ → State → Option State
 stepsExact zero s = some s
 stepsExact (suc k) s = stepsExact k s >>= stepExact

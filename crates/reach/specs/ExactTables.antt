@@ -20,9 +20,9 @@ use Rattle.rules.specs.Range.{unitAt, localAt, globalFirst, rangeFirst, movesLi
 use Rattle.rules.specs.ChoiceLaws.{AtLeast}
 use Rattle.rules.specs.RangeEntries.{unit-at}
 use Rattle.rules.specs.Order.{placeOf}
-use Rattle.survey.specs.declared.state.Survey.{Survey}
-use Rattle.survey.specs.State.{units, links}
-use Rattle.survey.specs.Step
+use Rattle.machine.specs.State.{State}
+use Rattle.machine.specs.State.{units, links}
+use Rattle.machine.specs.Step
 use Rattle.reach.specs.Rooted.{Rooted}
 use Rattle.reach.specs.Potentials.{arc-exact, rank-into, rank-out}
 use Rattle.reach.specs.SizeAndOrder.{nd}
@@ -72,7 +72,7 @@ module _ {K : ℕ} {R S : ℕ → ℕ} (potential : Potential K R S) {jump sum :
 
 -- ---- the end of a stage, and the requests
 
-module _ (s : Survey) (b : Base s) where
+module _ (s : State) (b : Base s) where
   few : units s ≤ ABSENT
   few = omega (arith, b .site .fewUnits)
 
@@ -108,14 +108,14 @@ module _ (s : Survey) (b : Base s) where
       conds (eqb (s .clock .stage) 8) (λ q. refl)
       (λ q. conds (eqb (s .clock .stage) 9) (λ q. rw (classes-exact (t (eqb-true (s .clock .stage) 9 q))) refl) (λ q. refl)))))))))
 
-pub requests-exact : (s : Survey) → ExactStep.roundRequests? s ≡ some (Step.roundRequests s)
+pub requests-exact : (s : State) → ExactStep.roundRequests? s ≡ some (Step.roundRequests s)
 unfolding ExactStep.roundRequests? Step.roundRequests
 requests-exact s =
     conds (eqb (s .clock .stage) 4 || eqb (s .clock .stage) 6) (λ q. Laws2.request-count (2 * units s) (s .ranking .jump)) (λ q. refl)
 
 -- ---- stages 1 and 2
 
-module _ (s : Survey) (b : Base s) where
+module _ (s : State) (b : Base s) where
   pub components-exact : ExactStep.components? s ≡ some (Step.components s)
   unfolding ExactStep.components? Step.components
   components-exact = rw (colors-exact s b) refl
@@ -131,7 +131,7 @@ module _ (s : Survey) (b : Base s) where
 
 -- ---- stages 3 and 5
 
-module _ (s : Survey) (b : Base s) (t : Treed s) where
+module _ (s : State) (b : Base s) (t : Treed s) where
   names : (v : ℕ) → v < units s → Names (units s) (at (s .tree .parent) v)
   names = parent-names (t .rooted)
 
@@ -180,7 +180,7 @@ module _ (s : Survey) (b : Base s) (t : Treed s) where
 
 -- ---- stages 4 and 6
 
-pub ranking-exact : (s : Survey) {R S : ℕ → ℕ} {k : ℕ} → Potential (2 * units s) R S → Ranked (2 * units s) R S (s .ranking .jump) (s .ranking .sum) k
+pub ranking-exact : (s : State) {R S : ℕ → ℕ} {k : ℕ} → Potential (2 * units s) R S → Ranked (2 * units s) R S (s .ranking .jump) (s .ranking .sum) k
     → ExactStep.ranking? s ≡ some (Step.ranking s)
 unfolding ExactStep.ranking? Step.ranking
 ranking-exact s potential ranked =
@@ -192,7 +192,7 @@ ranking-exact s potential ranked =
     refl
 
 -- the last round's places
-pub places-exact : (s : Survey) → Base s → (i : In6 s) → rankingEnds (2 * units s) (s .ranking .jump) ≡ true → ExactStep.places? s ≡ some (Step.places s)
+pub places-exact : (s : State) → Base s → (i : In6 s) → rankingEnds (2 * units s) (s .ranking .jump) ≡ true → ExactStep.places? s ≡ some (Step.places s)
 unfolding ExactStep.places? Step.places
 places-exact s b i r =
     rw (
@@ -224,7 +224,7 @@ between {little = little} {big = big} {i = i} now v l q = go (now .aligned v l)
     go (inl e) = absurd (omega (arith, less))
     go (inr w) = multiple-step (2 ^ i) (at little v) (at big v) (w .0) (w .1) less
 
-module _ (s : Survey) (b : Base s) (numbered : Numbered s) where
+module _ (s : State) (b : Base s) (numbered : Numbered s) where
   few-places : units s ≤ MAX-NUMBER
   few-places = omega (arith, b .site .fewUnits)
 
@@ -289,7 +289,7 @@ module _ (s : Survey) (b : Base s) (numbered : Numbered s) where
       room : (v : ℕ) → v < units s → movesBig i (s .range .little) (s .range .big) v ≡ true → 2 ^ i ≤ at (s .range .big) v
       room v l q = omega (arith, between now v l (and-left (ltb (at (s .range .little) v) (at (s .range .big) v)) (odd i (at (s .range .big) v)) q))
 
-pub range-exact : (s : Survey) → Base s → In7 s → ExactStep.range? s ≡ some (Step.range s)
+pub range-exact : (s : State) → Base s → In7 s → ExactStep.range? s ≡ some (Step.range s)
 unfolding ExactStep.range? Step.range
 range-exact s b i =
     conds (eqb (s .clock .made) 0) (λ q. begun-exact s b (i .numbered)) (λ q. later q (i .segments))
@@ -307,7 +307,7 @@ range-exact s b i =
 
 -- ---- stages 8 to 10
 
-module _ (s : Survey) (b : Base s) where
+module _ (s : State) (b : Base s) where
   pub edges-exact : Treed s → ExactStep.auxEdges? s ≡ some (Step.auxEdges s)
   unfolding ExactStep.auxEdges? Step.auxEdges
   edges-exact t =

@@ -11,8 +11,8 @@ use Rattle.rules.specs.Tour.{isInto, isArc, follower, predecessor}
 use Rattle.rules.specs.Range.{localAt}
 use Rattle.rules.specs.Labels.{namingUnit}
 use Rattle.graph.specs.Forest.{Anc, OffTree, Classes}
-use Rattle.survey.specs.declared.state.Survey.{Survey}
-use Rattle.survey.specs.State.{units, links, FINISHED}
+use Rattle.machine.specs.State.{State}
+use Rattle.machine.specs.State.{units, links, FINISHED}
 use Rattle.reach.specs.Site.{Site, Link}
 use Rattle.reach.specs.Rooted.{Rooted}
 use Rattle.reach.specs.Sized.{Sized}
@@ -29,76 +29,76 @@ use Rattle.reach.specs.LabelsRight.{Right}
 -- ---- what earlier stages leave
 
 -- parents and distances as the load left them
-pub record Fresh (s : Survey) : Type 0 where
+pub record Fresh (s : State) : Type 0 where
   pub parents : (v : ℕ) → v < units s → at (s .tree .parent) v ≡ ABSENT
   pub distances : (v : ℕ) → v < units s → at (s .tree .dist) v ≡ ABSENT
 
 -- stage 2's tree, with the one law that breadth-first gives: a link off the tree joins units of which neither is the other's ancestor
-pub record Treed (s : Survey) : Type 0 where
+pub record Treed (s : State) : Type 0 where
   pub depth : ℕ → ℕ
   pub rooted : Rooted (units s) (links s) (s .table .ends) (s .components .color) (s .tree .parent) depth
   pub unrelated : (u v : ℕ) → OffTree (Link (links s) (s .table .ends)) (at (s .tree .parent)) depth u v
       → (Anc (at (s .tree .parent)) depth u v → ⊥) × (Anc (at (s .tree .parent)) depth v u → ⊥)
 
 -- round one of stage 3
-abbrev pub Followers : Survey → Type 0
+abbrev pub Followers : State → Type 0
 Followers s = (a : ℕ) → a < 2 * units s → at (s .tour .next) a ≡ follower (units s) (s .tree .parent) a
 
 -- round two of stage 3
-abbrev pub Predecessors : Survey → Type 0
+abbrev pub Predecessors : State → Type 0
 Predecessors s = (a : ℕ) → a < 2 * units s → at (s .tour .pred) a ≡ predecessor (units s) (s .tree .parent) (s .tour .next) a
 
 -- the tour as stage 3 leaves it
-pub record Toured (s : Survey) : Type 0 where
+pub record Toured (s : State) : Type 0 where
   pub treed : Treed s
   pub followers : Followers s
   pub predecessors : Predecessors s
 
 -- the potentials of this state's tour: an arc's rank, and its forward sum
-abbrev pub rank : (s : Survey) → Treed s → ℕ → ℕ
+abbrev pub rank : (s : State) → Treed s → ℕ → ℕ
 rank s t a = rankOf (units s) (s .tree .parent) (t .depth) a
 
 -- what the first ranking sums up to: the rank of an arc, 0 where there is none
-abbrev pub ranks : (s : Survey) → Treed s → ℕ → ℕ
+abbrev pub ranks : (s : State) → Treed s → ℕ → ℕ
 ranks s t a = cond (isArc (s .tree .parent) a) (rank s t a) 0
 
-abbrev pub sums : (s : Survey) → Treed s → ℕ → ℕ
+abbrev pub sums : (s : State) → Treed s → ℕ → ℕ
 sums s t a = forwardSum (units s) (s .tree .parent) (t .depth) a
 
 -- stages 5 and 6 have numbered the units
-pub record Numbered (s : Survey) : Type 0 where
+pub record Numbered (s : State) : Type 0 where
   pub treed : Treed s
   pub ordered : Ordered (units s) (s .tree .parent) (s .order .nd) (s .order .pre) (treed .depth)
 
 -- ---- each stage
 
-pub record In1 (s : Survey) : Type 0 where
+pub record In1 (s : State) : Type 0 where
   pub stage : s .clock .stage ≡ 1
   pub quiet : s .clock .requests ≡ 0
   pub fresh : Fresh s
   pub colors : (s .clock .made ≡ 0)
       ⊎ ((1 ≤ s .clock .made) × ColorsAt (units s) (links s) (s .table .ends) (s .components .color) (s .clock .made))
 
-pub record In2 (s : Survey) : Type 0 where
+pub record In2 (s : State) : Type 0 where
   pub stage : s .clock .stage ≡ 2
   pub quiet : s .clock .requests ≡ 0
   pub colored : Colored (units s) (links s) (s .table .ends) (s .components .color)
   pub tree : ((s .clock .made ≡ 0) × Fresh s)
       ⊎ ((1 ≤ s .clock .made) × TreeAt (units s) (links s) (s .table .ends) (s .components .color) (s .tree .parent) (s .tree .dist) (s .clock .made))
 
-pub record In3 (s : Survey) : Type 0 where
+pub record In3 (s : State) : Type 0 where
   pub stage : s .clock .stage ≡ 3
   pub quiet : s .clock .requests ≡ 0
   pub treed : Treed s
   pub tour : (s .clock .made ≡ 0) ⊎ ((s .clock .made ≡ 1) × Followers s)
 
-pub record In4 (s : Survey) : Type 0 where
+pub record In4 (s : State) : Type 0 where
   pub stage : s .clock .stage ≡ 4
   pub toured : Toured s
   pub asks : s .clock .requests ≡ asked (2 * units s) (rank s (toured .treed)) (s .clock .made)
   pub ranked : Ranked (2 * units s) (rank s (toured .treed)) (ranks s (toured .treed)) (s .ranking .jump) (s .ranking .sum) (s .clock .made)
 
-pub record In5 (s : Survey) : Type 0 where
+pub record In5 (s : State) : Type 0 where
   pub stage : s .clock .stage ≡ 5
   pub few : s .clock .requests ≤ 4079
   pub toured : Toured s
@@ -106,14 +106,14 @@ pub record In5 (s : Survey) : Type 0 where
   pub marks : (s .clock .made ≡ 0)
       ⊎ ((s .clock .made ≡ 1) × ((a : ℕ) → a < 2 * units s → isArc (s .tree .parent) a ≡ true → at (s .order .forward) a ≡ cond (isInto a) 1 0))
 
-pub record In6 (s : Survey) : Type 0 where
+pub record In6 (s : State) : Type 0 where
   pub stage : s .clock .stage ≡ 6
   pub treed : Treed s
   pub few : s .clock .requests ≤ 4079 + asked (2 * units s) (rank s treed) (s .clock .made)
   pub sizes : (v : ℕ) → v < units s → at (s .order .nd) v ≡ nd (units s) (s .tree .parent) (treed .depth) v
   pub ranked : Ranked (2 * units s) (rank s treed) (sums s treed) (s .ranking .jump) (s .ranking .sum) (s .clock .made)
 
-pub record In7 (s : Survey) : Type 0 where
+pub record In7 (s : State) : Type 0 where
   pub stage : s .clock .stage ≡ 7
   pub few : s .clock .requests ≤ 8158
   pub early : s .clock .made ≤ lg (units s)
@@ -125,14 +125,14 @@ pub record In7 (s : Survey) : Type 0 where
       × SegmentsAt AtLeast (units s) (localAt max (units s) (links s) (s .table .ends) (s .tree .parent) (s .order .pre)) (at (s .order .pre))
       (lastPlace (s .order .nd) (s .order .pre)) (s .global .high) (s .range .high) (s .range .little) (s .range .big) (s .clock .made - 1))
 
-pub record In8 (s : Survey) : Type 0 where
+pub record In8 (s : State) : Type 0 where
   pub stage : s .clock .stage ≡ 8
   pub few : s .clock .requests ≤ 8158
   pub start : s .clock .made ≡ 0
   pub numbered : Numbered s
   pub ranged : Ranged (units s) (links s) (s .table .ends) (s .tree .parent) (s .order .pre) (numbered .treed .depth) (s .range .low) (s .range .high)
 
-pub record In9 (s : Survey) : Type 0 where
+pub record In9 (s : State) : Type 0 where
   pub stage : s .clock .stage ≡ 9
   pub few : s .clock .requests ≤ 8158
   pub numbered : Numbered s
@@ -141,7 +141,7 @@ pub record In9 (s : Survey) : Type 0 where
       ⊎ ((first : List ℕ) × (units s ≤ lib.ListN.length first) × (1 ≤ s .clock .made)
       × (s .aux .color ≡ auxAfter (units s) (links s) (s .table .ends) (s .tree .parent) (s .aux .links) (s .aux .parents) first (s .clock .made)))
 
-pub record In10 (s : Survey) : Type 0 where
+pub record In10 (s : State) : Type 0 where
   pub stage : s .clock .stage ≡ 10
   pub few : s .clock .requests ≤ 8158
   pub numbered : Numbered s
@@ -152,12 +152,12 @@ pub record In10 (s : Survey) : Type 0 where
       → at (s .labels .class) j
       ≡ at (s .aux .color) (namingUnit (s .tree .parent) (s .order .pre) (Rattle.table.specs.Table.endA (s .table .ends) j) (Rattle.table.specs.Table.endB (s .table .ends) j))))
 
-pub record In11 (s : Survey) : Type 0 where
+pub record In11 (s : State) : Type 0 where
   pub stage : s .clock .stage ≡ FINISHED
   pub few : s .clock .requests ≤ 8158
   pub right : Right (units s) (links s) (s .table .ends) (s .labels .label)
 
-pub data Reached (s : Survey) : Type 0 where
+pub data Reached (s : State) : Type 0 where
   in1 : In1 s → Reached s
   in2 : In2 s → Reached s
   in3 : In3 s → Reached s
@@ -171,6 +171,6 @@ pub data Reached (s : Survey) : Type 0 where
   in11 : In11 s → Reached s
 
 -- the site behind the state, and its tables' lengths
-pub record Base (s : Survey) : Type 0 where
+pub record Base (s : State) : Type 0 where
   pub site : Site (units s) (links s) (s .table .ends)
   pub sized : Sized s

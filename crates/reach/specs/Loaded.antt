@@ -9,9 +9,9 @@ use Rattle.table.specs.Table.{linkCount, endA, endB, tableRefusal}
 use Rattle.table.specs.Passes.{Passes, passes}
 use Rattle.rules.specs.Basics.{ABSENT, at}
 use Rattle.graph.specs.Rings.{SameLink}
-use Rattle.survey.specs.declared.state.Survey.{Survey}
-use Rattle.survey.specs.State.{units, links}
-use Rattle.survey.specs.Load.{absents, zeros, endsOf, begun, loaded}
+use Rattle.machine.specs.State.{State}
+use Rattle.machine.specs.State.{units, links}
+use Rattle.machine.specs.Load.{absents, zeros, endsOf, begun, loaded}
 use Rattle.reach.specs.Site.{Site, Link}
 use Rattle.reach.specs.Sized.{loaded-sized}
 use Rattle.reach.specs.Invariant.{Base, Fresh, In1, Reached, in1}

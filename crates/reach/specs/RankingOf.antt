@@ -14,14 +14,14 @@ use Rattle.numbers.specs.LgLaws.{lg-small}
 use Rattle.rules.specs.Basics.{ABSENT, MAX-NUMBER, at}
 use Rattle.rules.specs.Ceilings.{rankingCeiling}
 use Rattle.rules.specs.Tour.{isArc, follower, predecessor}
-use Rattle.survey.specs.declared.state.Survey.{Survey}
-use Rattle.survey.specs.State.{units}
+use Rattle.machine.specs.State.{State}
+use Rattle.machine.specs.State.{units}
 use Rattle.reach.specs.Potentials.{Step, rank-positive, rank-le-all, forward-le}
 use Rattle.reach.specs.TourOf.{Preceded, none, start, after, preceded, arcs-le}
 use Rattle.reach.specs.Doubling.{Potential, asked, asked-few}
 use Rattle.reach.specs.Invariant.{Base, Treed, rank, ranks, sums}
 
-module _ (s : Survey) (b : Base s) (t : Treed s) where
+module _ (s : State) (b : Base s) (t : Treed s) where
   few-arcs : 2 * units s ≤ 512
   few-arcs = omega (arith, b .site .fewUnits)
 

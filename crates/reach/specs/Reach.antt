@@ -13,15 +13,15 @@ use Rattle.rules.specs.Basics.{at}
 use Rattle.rules.specs.Labels.{lone, single}
 use Rattle.graph.specs.Rings.{Ring, Holds, OnRing, Articulation}
 use Rattle.graph.specs.Same.{onRing-same, no-ring-same, articulation-same}
-use Rattle.survey.specs.declared.state.Survey.{Survey}
-use Rattle.survey.specs.State.{units, links, finished, FINISHED, MAX-ROUNDS, MAX-REQUESTS}
-use Rattle.survey.specs.WellFormed.{wellFormed}
-use Rattle.survey.specs.Load.{endsOf, begun, loaded}
-use Rattle.survey.specs.Step
-use Rattle.survey.specs.StageLaws.{step-table, step-going}
-use Rattle.survey.specs.StepLaws.{loaded-wellFormed, first-countdown}
-use Rattle.survey.specs.Report.{unitSingle, linkLabel, linkLone}
-use Rattle.survey.specs.RunLaws.{steps-suc, step-finished, Total, total, total-least, total-countdown, ended-exact, steps-wellFormed}
+use Rattle.machine.specs.State.{State}
+use Rattle.machine.specs.State.{units, links, finished, FINISHED, MAX-ROUNDS, MAX-REQUESTS}
+use Rattle.machine.specs.WellFormed.{wellFormed}
+use Rattle.machine.specs.Load.{endsOf, begun, loaded}
+use Rattle.machine.specs.Step
+use Rattle.machine.specs.StageLaws.{step-table, step-going}
+use Rattle.machine.specs.StepLaws.{loaded-wellFormed, first-countdown}
+use Rattle.machine.specs.Report.{unitSingle, linkLabel, linkLone}
+use Rattle.machine.specs.RunLaws.{steps-suc, step-finished, Total, total, total-least, total-countdown, ended-exact, steps-wellFormed}
 use Rattle.reach.specs.Site.{Link}
 use Rattle.reach.specs.Sized.{step-sized}
 use Rattle.reach.specs.Invariant
@@ -37,7 +37,7 @@ use Rattle.reach.specs.Loaded.{end-a, end-b, same-links, base-loaded, re
 
 -- ---- a step of a reached state
 
-pub goes : (s : Survey) → Base s → Reached s → (s .clock .stage ≡ FINISHED → ⊥) → Goes s
+pub goes : (s : State) → Base s → Reached s → (s .clock .stage ≡ FINISHED → ⊥) → Goes s
 goes s b (in1 i) h = goes-1 s b i
 goes s b (in2 i) h = goes-2 s b i
 goes s b (in3 i) h = goes-3 s b i
@@ -50,10 +50,10 @@ goes s b (in9 i) h = goes-9 s b i
 goes s b (in10 i) h = goes-10 s b i
 goes s b (in11 i) h = absurd (h (i .stage))
 
-base-step : (s : Survey) → Base s → Base (Step.step s)
+base-step : (s : State) → Base s → Base (Step.step s)
 base-step s b = record { site = rw (step-table s) (b .site); sized = step-sized s (b .sized) }
 
-reached-step : (s : Survey) → Base s → Reached s → Dec (s .clock .stage ≡ FINISHED) → Reached (Step.step s)
+reached-step : (s : State) → Base s → Reached s → Dec (s .clock .stage ≡ FINISHED) → Reached (Step.step s)
 reached-step s b r (yes e) = rw (step-finished s (eq-eqb (s .clock .stage) FINISHED e)) r
 reached-step s b r (no h) = goes s b r h .after
 
@@ -104,7 +104,7 @@ module _ (n : ℕ) (t : List ℕ) (accepted : tableRefusal n t ≡ 0) where
 -- ---- what the finished survey says
 
 -- labels, lone links and single points of e are those of the graph that the table t of n units draws
-pub record SurveyRight (n : ℕ) (t : List ℕ) (e : Survey) : Type 0 where
+pub record SurveyRight (n : ℕ) (t : List ℕ) (e : State) : Type 0 where
   -- two different links have one label exactly when a ring holds both
   pub labels : (j k : ℕ) → j < linkCount t → k < linkCount t → (j ≡ k → ⊥)
       → (linkLabel e j ≡ linkLabel e k) ↔ OnRing (Link (linkCount t) t) (endA t j) (endB t j) (endA t k) (endB t k)
@@ -116,7 +116,7 @@ pub record SurveyRight (n : ℕ) (t : List ℕ) (e : Survey) : Type 0 where
 
 module _ (n : ℕ) (t : List ℕ) (accepted : tableRefusal n t ≡ 0) where
   -- over the state's own array
-  finished-right : (s : Survey) → s .table ≡ loaded n t .table → Reached s → s .clock .stage ≡ FINISHED
+  finished-right : (s : State) → s .table ≡ loaded n t .table → Reached s → s .clock .stage ≡ FINISHED
       → LabelsRight.Right n (linkCount t) (endsOf t) (s .labels .label)
   unfolding loaded begun
   finished-right s e (in1 i) f = absurd (omega (arith, i .stage))
@@ -132,7 +132,7 @@ module _ (n : ℕ) (t : List ℕ) (accepted : tableRefusal n t ≡ 0) where
   finished-right s e (in11 i) f = rw e at (i .right)
 
   -- in the words of the table
-  right-words : (s : Survey) → s .table ≡ loaded n t .table → LabelsRight.Right n (linkCount t) (endsOf t) (s .labels .label) → SurveyRight n t s
+  right-words : (s : State) → s .table ≡ loaded n t .table → LabelsRight.Right n (linkCount t) (endsOf t) (s .labels .label) → SurveyRight n t s
   unfolding loaded begun
   right-words s e r =
       record {

@@ -12,10 +12,10 @@ use Rattle.rules.specs.Basics.{ABSENT, at}
 use Rattle.rules.specs.Ceilings.{ceiling}
 use Rattle.rules.specs.Components.{colorRound, colorEnds}
 use Rattle.rules.specs.Tree.{parentRound, distRound, treeEnds}
-use Rattle.survey.specs.declared.state.Survey.{Survey}
-use Rattle.survey.specs.State.{MAX-REQUESTS, units, links}
-use Rattle.survey.specs.Step
-use Rattle.survey.specs.StageLaws.{ticked, step-1, ends-1, requests-1, step-2, ends-2, requests-2}
+use Rattle.machine.specs.State.{State}
+use Rattle.machine.specs.State.{MAX-REQUESTS, units, links}
+use Rattle.machine.specs.Step
+use Rattle.machine.specs.StageLaws.{ticked, step-1, ends-1, requests-1, step-2, ends-2, requests-2}
 use Rattle.reach.specs.Site.{Site}
 use Rattle.reach.specs.Rooted.{Rooted}
 use Rattle.reach.specs.Sized.{Sized}
@@ -26,7 +26,7 @@ use Rattle.reach.specs.Ticks.{Goes, uncut, stage-on, made-on, stage-over
 
 -- ---- stage 1
 
-module _ (s : Survey) (b : Base s) (i : In1 s) where
+module _ (s : State) (b : Base s) (i : In1 s) where
   within-1 : s .clock .requests + Step.roundRequests s ≤ MAX-REQUESTS
   within-1 = omega (arith, i .quiet, requests-1 s (i .stage))
 
@@ -95,7 +95,7 @@ module _ (s : Survey) (b : Base s) (i : In1 s) where
 
 -- ---- stage 2
 
-module _ (s : Survey) (b : Base s) (i : In2 s) where
+module _ (s : State) (b : Base s) (i : In2 s) where
   within-2 : s .clock .requests + Step.roundRequests s ≤ MAX-REQUESTS
   within-2 = omega (arith, i .quiet, requests-2 s (i .stage))
 

@@ -13,10 +13,10 @@ use Rattle.lists.specs.Tables.{getD-over, length-over}
 use Rattle.rules.specs.Basics.{ABSENT, at}
 use Rattle.rules.specs.Tour.{isArc, follower, predecessor, nextRound, predRound, firstSums, firstJumps}
 use Rattle.rules.specs.Ranking.{jumpRound, sumRound, requestsOf, rankingEnds}
-use Rattle.survey.specs.declared.state.Survey.{Survey}
-use Rattle.survey.specs.State.{MAX-REQUESTS, units, links}
-use Rattle.survey.specs.Step
-use Rattle.survey.specs.StageLaws.{ticked, tour-first, tour-second, step-3, ends-3, requests-3, step-4, ends-4, requests-4}
+use Rattle.machine.specs.State.{State}
+use Rattle.machine.specs.State.{MAX-REQUESTS, units, links}
+use Rattle.machine.specs.Step
+use Rattle.machine.specs.StageLaws.{ticked, tour-first, tour-second, step-3, ends-3, requests-3, step-4, ends-4, requests-4}
 use Rattle.reach.specs.Potentials.{Step as Next, rank-le-all}
 use Rattle.reach.specs.TourOf.{Preceded, none, start, after, preceded}
 use Rattle.reach.specs.Doubling
@@ -27,7 +27,7 @@ use Rattle.reach.specs.Ticks.{Goes, uncut, stage-on, made-on, stage-over
 
 -- ---- stage 3
 
-module _ (s : Survey) (b : Base s) (i : In3 s) where
+module _ (s : State) (b : Base s) (i : In3 s) where
   within-3 : s .clock .requests + Step.roundRequests s ≤ MAX-REQUESTS
   within-3 = omega (arith, i .quiet, requests-3 s (i .stage))
 
@@ -117,7 +117,7 @@ module _ (s : Survey) (b : Base s) (i : In3 s) where
 
 -- ---- stage 4
 
-module _ (s : Survey) (b : Base s) (i : In4 s) where
+module _ (s : State) (b : Base s) (i : In4 s) where
   asked-1 : s .clock .requests + Step.roundRequests s ≡ asked (2 * units s) (rank s (i .toured .treed)) (suc (s .clock .made))
   asked-1 =
       ap₂ _+_ (i .asks) (requests-4 s (i .stage)) ∙ Doubling.asked-next (first-potential s b (i .toured .treed)) (i .ranked)

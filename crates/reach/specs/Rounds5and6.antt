@@ -15,10 +15,10 @@ use Rattle.rules.specs.Tour.{isInto, isArc, predecessor}
 use Rattle.rules.specs.Ranking.{jumpRound, sumRound, requestsOf, rankingEnds}
 use Rattle.rules.specs.Order.{reverseArc, forwardRound, descendants, ndRound, secondSums, secondJumps, placeOf, preRound}
 use Rattle.graph.specs.Forest.{Anc}
-use Rattle.survey.specs.declared.state.Survey.{Survey}
-use Rattle.survey.specs.State.{MAX-REQUESTS, units, links}
-use Rattle.survey.specs.Step
-use Rattle.survey.specs.StageLaws.{ticked, marks-first, marks-second, step-5, ends-5, requests-5, step-6, ends-6, requests-6}
+use Rattle.machine.specs.State.{State}
+use Rattle.machine.specs.State.{MAX-REQUESTS, units, links}
+use Rattle.machine.specs.Step
+use Rattle.machine.specs.StageLaws.{ticked, marks-first, marks-second, step-5, ends-5, requests-5, step-6, ends-6, requests-6}
 use Rattle.reach.specs.SizeAndOrder.{nd, nd-positive}
 use Rattle.reach.specs.Potentials.{Step as Next, rank-le-all}
 use Rattle.reach.specs.TourOf.{Preceded, none, start, after, preceded, start-into}
@@ -31,15 +31,15 @@ use Rattle.reach.specs.RankingOf.{second-potential, requests-few, room-l
 use Rattle.reach.specs.Ticks.{Goes, uncut, stage-on, made-on, stage-over, made-over, requests-next}
 
 -- a table with an entry for each arc is long enough for n units
-arcs-fit : (s : Survey) → Base s → (k : ℕ) → k ≡ 512 → (a : ℕ) → a < 2 * units s → a < k
+arcs-fit : (s : State) → Base s → (k : ℕ) → k ≡ 512 → (a : ℕ) → a < 2 * units s → a < k
 arcs-fit s b k e a l = omega (arith, b .site .fewUnits)
 
-units-fit : (s : Survey) → Base s → (k : ℕ) → k ≡ 256 → (v : ℕ) → v < units s → v < k
+units-fit : (s : State) → Base s → (k : ℕ) → k ≡ 256 → (v : ℕ) → v < units s → v < k
 units-fit s b k e v l = omega (arith, b .site .fewUnits)
 
 -- ---- stage 5
 
-module _ (s : Survey) (b : Base s) (i : In5 s) where
+module _ (s : State) (b : Base s) (i : In5 s) where
   within-5 : s .clock .requests + Step.roundRequests s ≤ MAX-REQUESTS
   within-5 = omega (arith, i .few, requests-5 s (i .stage))
 
@@ -148,7 +148,7 @@ module _ (s : Survey) (b : Base s) (i : In5 s) where
 
 -- ---- stage 6
 
-module _ (s : Survey) (b : Base s) (i : In6 s) where
+module _ (s : State) (b : Base s) (i : In6 s) where
   asked-6 : asked (2 * units s) (rank s (i .treed)) (s .clock .made) + Step.roundRequests s ≡ asked (2 * units s) (rank s (i .treed)) (suc (s .clock .made))
   asked-6 =
       ap (λ (x : ℕ). asked (2 * units s) (rank s (i .treed)) (s .clock .made) + x) (requests-6 s (i .stage))

@@ -18,12 +18,12 @@ use Rattle.rules.specs.ChoiceLaws.{AtLeast, min-choice, max-choice}
 use Rattle.rules.specs.Range.{localAt, localOf, globalFirst, rangeFirst, littleFirst, bigFirst, rangeLater, littleLater, bigLater, globalLater, rangeEnds}
 use Rattle.rules.specs.Aux.{linkJoinsRound, joinsParent, parentJoinsRound}
 use Rattle.graph.specs.Forest.{Anc, OffTree}
-use Rattle.survey.specs.declared.state.Survey.{Survey}
-use Rattle.survey.specs.declared.state.Range.{Range}
-use Rattle.survey.specs.declared.state.Global.{Global}
-use Rattle.survey.specs.State.{MAX-REQUESTS, units, links, withRange, withGlobal}
-use Rattle.survey.specs.Step
-use Rattle.survey.specs.StageLaws.{ticked, range-first, range-later, step-7, ends-7, requests-7, step-8, ends-8, requests-8}
+use Rattle.machine.specs.State.{State}
+use Rattle.state.specs.declared.groups.Range.{Range}
+use Rattle.state.specs.declared.groups.Global.{Global}
+use Rattle.machine.specs.State.{MAX-REQUESTS, units, links, withRange, withGlobal}
+use Rattle.machine.specs.Step
+use Rattle.machine.specs.StageLaws.{ticked, range-first, range-later, step-7, ends-7, requests-7, step-8, ends-8, requests-8}
 use Rattle.reach.specs.Site.{Link}
 use Rattle.reach.specs.Segments
 use Rattle.reach.specs.Segments.{SegmentsAt, Spans, lastPlace, place-spans, first-round, over-descendants}
@@ -35,7 +35,7 @@ use Rattle.reach.specs.Invariant.{Base, Treed, Numbered, In7, In8, In9, 
 use Rattle.reach.specs.Ticks.{Goes, uncut, stage-on, made-on, stage-over, made-over, requests-next}
 
 -- low and high over all descendants, from the last segments
-module _ (s : Survey) (b : Base s) (numbered : Numbered s) where
+module _ (s : State) (b : Base s) (numbered : Numbered s) where
   o : Ordered (units s) (s .tree .parent) (s .order .nd) (s .order .pre) (numbered .treed .depth)
   o = numbered .ordered
 
@@ -80,7 +80,7 @@ module _ (s : Survey) (b : Base s) (numbered : Numbered s) where
 
 -- ---- stage 7
 
-module _ (s : Survey) (b : Base s) (i : In7 s) where
+module _ (s : State) (b : Base s) (i : In7 s) where
   within-7 : s .clock .requests + Step.roundRequests s ≤ MAX-REQUESTS
   within-7 = omega (arith, i .few, requests-7 s (i .stage))
 
@@ -237,7 +237,7 @@ module _ (s : Survey) (b : Base s) (i : In7 s) where
 
 -- ---- stage 8
 
-module _ (s : Survey) (b : Base s) (i : In8 s) where
+module _ (s : State) (b : Base s) (i : In8 s) where
   within-8 : s .clock .requests + Step.roundRequests s ≤ MAX-REQUESTS
   within-8 = omega (arith, i .few, requests-8 s (i .stage))
 

@@ -15,10 +15,10 @@ use Rattle.rules.specs.Basics.{at}
 use Rattle.rules.specs.Aux.{auxRound, auxEnds}
 use Rattle.rules.specs.Labels.{namingUnit, classRound, labelOf, labelRound}
 use Rattle.graph.specs.Forest.{Classes}
-use Rattle.survey.specs.declared.state.Survey.{Survey}
-use Rattle.survey.specs.State.{MAX-REQUESTS, units, links}
-use Rattle.survey.specs.Step
-use Rattle.survey.specs.StageLaws.{ticked, labels-first, labels-second, step-9, ends-9, requests-9, step-10, ends-10, requests-10}
+use Rattle.machine.specs.State.{State}
+use Rattle.machine.specs.State.{MAX-REQUESTS, units, links}
+use Rattle.machine.specs.Step
+use Rattle.machine.specs.StageLaws.{ticked, labels-first, labels-second, step-9, ends-9, requests-9, step-10, ends-10, requests-10}
 use Rattle.reach.specs.Site.{Link}
 use Rattle.reach.specs.AuxColors.{Marked, auxAfter, aux-first, aux-next, aux-bound, aux-done}
 use Rattle.reach.specs.LabelsRight.{labels-right}
@@ -27,7 +27,7 @@ use Rattle.reach.specs.Ticks.{Goes, uncut, stage-on, made-on, stage-over
 
 -- ---- stage 9
 
-module _ (s : Survey) (b : Base s) (i : In9 s) where
+module _ (s : State) (b : Base s) (i : In9 s) where
   within-9 : s .clock .requests + Step.roundRequests s ≤ MAX-REQUESTS
   within-9 = omega (arith, i .few, requests-9 s (i .stage))
 
@@ -124,7 +124,7 @@ module _ (s : Survey) (b : Base s) (i : In9 s) where
 
 -- ---- stage 10
 
-module _ (s : Survey) (b : Base s) (i : In10 s) where
+module _ (s : State) (b : Base s) (i : In10 s) where
   within-10 : s .clock .requests + Step.roundRequests s ≤ MAX-REQUESTS
   within-10 = omega (arith, i .few, requests-10 s (i .stage))
 

@@ -15,13 +15,13 @@ use Rattle.rules.specs.Order.{forwardRound, ndRound, secondSums, secondJumps, p
 use Rattle.rules.specs.Range.{globalFirst, rangeFirst, littleFirst, bigFirst, rangeLater, littleLater, bigLater, globalLater}
 use Rattle.rules.specs.Aux.{linkJoinsRound, parentJoinsRound, auxRound}
 use Rattle.rules.specs.Labels.{classRound, labelRound}
-use Rattle.survey.specs.declared.state.Survey.{Survey}
-use Rattle.survey.specs.State.{finished}
-use Rattle.survey.specs.Load.{absents, zeros, begun, loaded}
-use Rattle.survey.specs.Step
+use Rattle.machine.specs.State.{State}
+use Rattle.machine.specs.State.{finished}
+use Rattle.machine.specs.Load.{absents, zeros, begun, loaded}
+use Rattle.machine.specs.Step
 
 -- the tables by what indexes them
-abbrev pub unitIndexed : Survey → List (List ℕ)
+abbrev pub unitIndexed : State → List (List ℕ)
 unitIndexed s =
     s .components .color
     ∷ s .tree .parent
@@ -38,16 +38,16 @@ unitIndexed s =
     ∷ s .aux .color
     ∷ []
 
-abbrev pub arcIndexed : Survey → List (List ℕ)
+abbrev pub arcIndexed : State → List (List ℕ)
 arcIndexed s = s .tour .next ∷ s .tour .pred ∷ s .ranking .jump ∷ s .ranking .sum ∷ s .order .forward ∷ []
 
-abbrev pub linkIndexed : Survey → List (List ℕ)
+abbrev pub linkIndexed : State → List (List ℕ)
 linkIndexed s = s .aux .links ∷ s .labels .class ∷ s .labels .label ∷ []
 
 abbrev pub Long : ℕ → List ℕ → Type 0
 Long k t = length t ≡ k
 
-pub record Sized (s : Survey) : Type 0 where
+pub record Sized (s : State) : Type 0 where
   pub byUnit : All (Long 256) (unitIndexed s)
   pub byArc : All (Long 512) (arcIndexed s)
   pub byLink : All (Long 1024) (linkIndexed s)
@@ -69,7 +69,7 @@ loaded-sized n t =
       byLink = (zeros-long 1024, (absents-long 1024, (absents-long 1024, tt)));
     }
 
-module _ (s : Survey) (z : Sized s) where
+module _ (s : State) (z : Sized s) where
   components-sized : Sized (Step.components s)
   unfolding Step.components colorRound
   components-sized =
@@ -210,7 +210,7 @@ module _ (s : Survey) (z : Sized s) where
       (choose (eqb (s .clock .stage) 9) auxComponents-sized
       (choose (eqb (s .clock .made) 0) labelClasses-sized labelPositions-sized)))))))))
     where
-      choose : (b : Bool) {x y : Survey} → Sized x → Sized y → Sized (cond b x y)
+      choose : (b : Bool) {x y : State} → Sized x → Sized y → Sized (cond b x y)
       choose b {x} {y} p q = cond-keeps Sized b x y p q
 
   pub step-sized : Sized (Step.step s)

@@ -8,20 +8,20 @@ use lib.Dec.{leb}
 use borrow.Author.Tests.{lt-leb}
 use Rattle.lists.specs.Tests.{either}
 use Rattle.rules.specs.Ceilings.{ceiling}
-use Rattle.survey.specs.declared.state.Survey.{Survey}
-use Rattle.survey.specs.declared.state.Clock.{Clock}
-use Rattle.survey.specs.State.{units, MAX-REQUESTS}
-use Rattle.survey.specs.Step
+use Rattle.machine.specs.State.{State}
+use Rattle.state.specs.declared.groups.Clock.{Clock}
+use Rattle.machine.specs.State.{units, MAX-REQUESTS}
+use Rattle.machine.specs.Step
 use Rattle.reach.specs.Invariant.{Reached}
 
 -- a round of a reached state: not cut short by the ceiling, its requests within their limit, and it leaves a reached state
-pub record Goes (s : Survey) : Type 0 where
+pub record Goes (s : State) : Type 0 where
   pub uncut : Step.lastRound s ≡ Step.ruleEnds s
   pub unclamped : s .clock .requests + Step.roundRequests s ≤ MAX-REQUESTS
   pub after : Reached (Step.step s)
 
 -- where a round that does not end the stage leaves room below the ceiling, the rule alone decides
-pub uncut : (s : Survey) → (Step.ruleEnds s ≡ false → s .clock .made + 1 < ceiling (units s) (s .clock .stage)) → Step.lastRound s ≡ Step.ruleEnds s
+pub uncut : (s : State) → (Step.ruleEnds s ≡ false → s .clock .made + 1 < ceiling (units s) (s .clock .stage)) → Step.lastRound s ≡ Step.ruleEnds s
 unfolding Step.lastRound
 uncut s h = go (either (Step.ruleEnds s))
   where

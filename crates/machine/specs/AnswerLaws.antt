@@ -1,0 +1,33 @@
+-- An answer by whether the call was refused.
+use mathlib.Core.Path.{_≡_, refl, sym}
+use mathlib.Core.Bool.{true, false}
+use Prim.Native.Nat.{ℕ}
+use lib.Dec.{eqb}
+use borrow.Author.Tests.{eq-eqb, ne-eqb}
+use Rattle.machine.specs.State.{State}
+use Rattle.machine.specs.Calls.{Answer}
+use Rattle.state.specs.declared.reply.Reply.{Reply}
+use Rattle.state.specs.declared.reply.Reply.the-variants.{Refused, Status}
+use Rattle.machine.specs.WellFormed.{wellFormed}
+use Rattle.machine.specs.Step.{countdown}
+use Rattle.machine.specs.Calls.{answered, statusRefusal, statusAnswer}
+
+-- r is the number that came up
+pub answered-refused : (k r : ℕ) (s after : State) (reply : Reply) → r ≡ k → (r ≡ 0 → ⊥)
+    → _≡_ {A = Answer} (record { state = s; reply = Refused r }) (answered k s after reply)
+answered-refused k r s after reply e h = rw (sym e, ne-eqb r 0 h) refl
+
+pub answered-made : (k : ℕ) (s after : State) (reply : Reply) → k ≡ 0
+    → _≡_ {A = Answer} (record { state = after; reply = reply }) (answered k s after reply)
+answered-made k s after reply e = rw (eq-eqb k 0 e) refl
+
+-- ---- status
+
+pub status-refused : (s : State) → wellFormed s ≡ false → _≡_ {A = Answer} (record { state = s; reply = Refused 10 }) (statusAnswer s)
+unfolding statusAnswer statusRefusal
+status-refused s e = rw e refl
+
+pub status-made : (s : State) → wellFormed s ≡ true
+    → _≡_ {A = Answer} (record { state = s; reply = Status (s .clock .stage) (countdown s) (s .clock .rounds) (s .clock .requests) }) (statusAnswer s)
+unfolding statusAnswer statusRefusal
+status-made s e = rw e refl

@@ -1,0 +1,138 @@
+-- Each call's refusals are bound to their causes, and only those: the reply is number k exactly when cause k holds and no earlier cause of that
+-- call does; a call is refused exactly when some cause holds; and a refused call hands back the state as given.
+use mathlib.Core.Path.{_≡_, refl, sym, _∙_}
+use mathlib.Core.Bool.{Bool, true, false, cond, not}
+use mathlib.Core.Logic.{_⊎_, inl, inr, _↔_}
+use mathlib.Core.List.{List, [], _∷_}
+use Prim.Native.Nat.{ℕ, _≤_, _<_}
+use native.Mathlib.Omega.{arith}
+use lib.Dec.{eqb, ltb}
+use borrow.Author.Tests.{eqb-true, eqb-false, eq-eqb, ltb-true, lt-ltb}
+use Rattle.lists.specs.Tests.{either, not-exact, cond-true, cond-false}
+use Rattle.table.specs.Refusals.{firstOf}
+use Rattle.table.specs.RefusalLaws.{Reason, FirstCause, SomeCause, Numbered, tests, first-cause, some-cause}
+use Rattle.table.specs.Table.{tableRefusal}
+use Rattle.table.specs.TableCauses.{tableReasons, table-first-cause, table-some-cause}
+use Rattle.files.specs.File.{linesOf, readRefusal, writeRefusal}
+use Rattle.files.specs.FileCauses.{readReasons, writeReasons, readRefusal-tests, writeRefusal-tests}
+use Rattle.rules.specs.BoundLaws.{eq-exact}
+use Rattle.machine.specs.State.{State}
+use Rattle.machine.specs.Calls.{Answer}
+use Rattle.state.specs.declared.reply.Reply.{Reply}
+use Rattle.machine.specs.State.{units, links, finished, FINISHED}
+use Rattle.machine.specs.Kept.{Kept, kept-exact}
+use Rattle.machine.specs.WellFormed.{wellFormed}
+use Rattle.machine.specs.Report.{reportLength}
+use Rattle.machine.specs.Calls
+
+-- ---- the reasons
+
+-- 10: the state is not kept
+abbrev pub notKept : State → Reason
+notKept s = record { number = 10; test = not (wellFormed s); cause = Kept s → ⊥; exact = not-exact (wellFormed s) (kept-exact s) }
+
+-- 11: a round or run is wanted of a finished survey
+abbrev pub atEnd : State → Reason
+atEnd s = record { number = 11; test = finished s; cause = s .clock .stage ≡ FINISHED; exact = eq-exact (s .clock .stage) FINISHED }
+
+-- 12: a question or report is wanted before the end
+abbrev pub beforeEnd : State → Reason
+beforeEnd s =
+    record {
+      number = 12;
+      test = not (finished s);
+      cause = s .clock .stage ≡ FINISHED → ⊥;
+      exact = not-exact (finished s) (eq-exact (s .clock .stage) FINISHED);
+    }
+
+-- 13: a unit or position doesn't exist
+abbrev pub missing : ℕ → ℕ → Reason
+missing i k =
+    record { number = 13; test = not (ltb i k); cause = i < k → ⊥; exact = not-exact (ltb i k) (ltb-true i k, lt-ltb i k) }
+
+-- 14: the output slice is too short
+abbrev pub tooShort : ℕ → ℕ → Reason
+tooShort places needed =
+    record { number = 14; test = ltb places needed; cause = places < needed; exact = (ltb-true places needed, lt-ltb places needed) }
+
+-- ---- an answer and its number
+
+-- the number that comes back is the refusal's
+number-answered : (k : ℕ) (s after : State) (reply : Reply) → Calls.numberOf reply ≡ 0 → Calls.numberOf (Calls.answered k s after reply .reply) ≡ k
+number-answered k s after reply z = go (either (eqb k 0))
+  where
+    go : (eqb k 0 ≡ true) ⊎ (eqb k 0 ≡ false) → Calls.numberOf (Calls.answered k s after reply .reply) ≡ k
+    go (inl e) = rw e (z ∙ sym (eqb-true k 0 e))
+    go (inr e) = rw e refl
+
+-- a refusal hands back the state as given
+pub refused-state : (k : ℕ) (s after : State) (reply : Reply) → (k ≡ 0 → ⊥) → Calls.answered k s after reply .state ≡ s
+refused-state k s after reply h = go (either (eqb k 0))
+  where
+    go : (eqb k 0 ≡ true) ⊎ (eqb k 0 ≡ false) → Calls.answered k s after reply .state ≡ s
+    go (inl e) = absurd (h (eqb-true k 0 e))
+    go (inr e) = rw e refl
+
+-- what is shown of each call: its number is bound to the causes in the list
+pub record Bound (reasons : List Reason) (s : State) (answer : Answer) : Type 0 where
+  pub number : (k : ℕ) → (k ≡ 0 → ⊥) → (Calls.numberOf (answer .reply) ≡ k) ↔ FirstCause reasons k
+  pub refused : (Calls.numberOf (answer .reply) ≡ 0 → ⊥) ↔ SomeCause reasons
+  pub unmoved : (Calls.numberOf (answer .reply) ≡ 0 → ⊥) → answer .state ≡ s
+
+bound : (reasons : List Reason) → Numbered reasons → (k : ℕ) → k ≡ firstOf (tests reasons) → (s after : State) (reply : Reply)
+    → Calls.numberOf reply ≡ 0 → Bound reasons s (Calls.answered k s after reply)
+bound reasons p k e s after reply z =
+    record {
+      number = λ i h. rw (number-answered k s after reply z, e) (first-cause reasons i h);
+      refused = rw (number-answered k s after reply z, e) (some-cause reasons p);
+      unmoved = λ h. refused-state k s after reply (rw (number-answered k s after reply z) at h);
+    }
+
+-- ---- the calls
+
+pub load-bound : (n : ℕ) (t : List ℕ) (s : State) → Bound (tableReasons n t) s (Calls.loadAnswer n t s)
+unfolding Calls.loadAnswer tableRefusal tableReasons
+load-bound n t s = bound (tableReasons n t) (omega arith) (tableRefusal n t) refl s _ _ refl
+
+abbrev pub roundReasons : State → List Reason
+roundReasons s = notKept s ∷ atEnd s ∷ []
+
+pub round-bound : (s : State) → Bound (roundReasons s) s (Calls.roundAnswer s)
+unfolding Calls.roundAnswer Calls.roundRefusal
+round-bound s = bound (roundReasons s) (omega arith) (Calls.roundRefusal s) refl s _ _ refl
+
+pub run-bound : (budget : ℕ) (s : State) → Bound (roundReasons s) s (Calls.runAnswer budget s)
+unfolding Calls.runAnswer Calls.roundRefusal
+run-bound budget s = bound (roundReasons s) (omega arith) (Calls.roundRefusal s) refl s _ _ refl
+
+pub status-bound : (s : State) → Bound (notKept s ∷ []) s (Calls.statusAnswer s)
+unfolding Calls.statusAnswer Calls.statusRefusal
+status-bound s = bound (notKept s ∷ []) (omega arith) (Calls.statusRefusal s) refl s _ _ refl
+
+-- a question about number i of k
+abbrev pub questionReasons : ℕ → ℕ → State → List Reason
+questionReasons i k s = notKept s ∷ beforeEnd s ∷ missing i k ∷ []
+
+pub unit-bound : (v : ℕ) (s : State) → Bound (questionReasons v (units s) s) s (Calls.unitAnswer v s)
+unfolding Calls.unitAnswer Calls.unitRefusal Calls.questionRefusal
+unit-bound v s = bound (questionReasons v (units s) s) (omega arith) (Calls.unitRefusal v s) refl s _ _ refl
+
+pub link-bound : (j : ℕ) (s : State) → Bound (questionReasons j (links s) s) s (Calls.linkAnswer j s)
+unfolding Calls.linkAnswer Calls.linkRefusal Calls.questionRefusal
+link-bound j s = bound (questionReasons j (links s) s) (omega arith) (Calls.linkRefusal j s) refl s _ _ refl
+
+abbrev pub reportReasons : ℕ → State → List Reason
+reportReasons places s = notKept s ∷ beforeEnd s ∷ tooShort places (reportLength (units s) (links s)) ∷ []
+
+pub report-bound : (places : ℕ) (s : State) → Bound (reportReasons places s) s (Calls.reportAnswer places s)
+unfolding Calls.reportAnswer Calls.reportRefusal
+report-bound places s = bound (reportReasons places s) (omega arith) (Calls.reportRefusal s places) refl s _ _ refl
+
+pub read-bound : (input : List ℕ) (places : ℕ) (s : State) → Bound (readReasons (linesOf input) places) s (Calls.readAnswer input places s)
+unfolding Calls.readAnswer readReasons
+read-bound input places s =
+    bound (readReasons (linesOf input) places) (omega arith) (readRefusal (linesOf input) places) (readRefusal-tests (linesOf input) places) s _ _ refl
+
+pub write-bound : (n : ℕ) (t : List ℕ) (places : ℕ) (s : State) → Bound (writeReasons n t places) s (Calls.writeAnswer n t places s)
+unfolding Calls.writeAnswer writeReasons tableReasons
+write-bound n t places s = bound (writeReasons n t places) (omega arith) (writeRefusal n t places) (writeRefusal-tests n t places) s _ _ refl

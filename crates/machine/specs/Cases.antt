@@ -1,0 +1,158 @@
+-- The proved cases A to K of document 01: rows of one table, held by one theorem. Every figure stands here once, and is compared with what the
+-- definitions compute.
+use mathlib.Core.Path.{_≡_, refl}
+use mathlib.Core.Bool.{Bool, true, false, cond, _&&_}
+use mathlib.Core.List.{List, [], _∷_, _++_}
+use Prim.Native.Nat.{ℕ, zero, suc, _+_}
+use lib.Dec.{eqb}
+use lib.ListN.{take, replicate}
+use Rattle.lists.specs.Text.{characters}
+use Rattle.table.specs.Table.{tableRefusal, endMissing, equalEnds, joinedIn, repeatedLink}
+use Rattle.numbers.specs.Lg.{lg, lgFrom}
+use Rattle.frames.specs.Frame.{lineOf, hexesOf, sumOf, checkByte}
+use Rattle.rules.specs.Basics.{ABSENT}
+use Rattle.rules.specs.Ceilings
+use Rattle.rules.specs.Components.{leastHeard, colorRound, colorEnds}
+use Rattle.rules.specs.Tree.{chosenParent, visits, parentRound, distRound, treeEnds}
+use Rattle.rules.specs.Tour.{leastNeighbor, greaterNeighbor, neighborAfter, follower, isStart, predecessor, nextRound, predRound, firstSums, firstJumps}
+use Rattle.rules.specs.Ranking.{sumRound, jumpRound, requestsOf, rankingEnds}
+use Rattle.rules.specs.Order.{forwardRound, descendants, ndRound, secondSums, secondJumps, placeOf, preRound}
+use Rattle.rules.specs.Range
+use Rattle.rules.specs.Range.{localOf, unitAt, localAt, globalFirst, rangeFirst, littleFirst, bigFirst, withLittle, withBig, rangeLater, littleLater, bigLater, globalLater, rangeEnds}
+use Rattle.rules.specs.Aux.{linkJoinsRound, joinsParent, parentJoinsRound, leastJoined, auxRound, auxEnds}
+use Rattle.rules.specs.Labels.{namingUnit, classRound, labelOf, labelRound, lone, single}
+use Rattle.machine.specs.State.{State}
+use Rattle.machine.specs.State.{units, links, finished}
+use Rattle.machine.specs.Load.{loaded, begun, absents, zeros}
+use Rattle.machine.specs.Step
+use Rattle.machine.specs.Run.{ran}
+use Rattle.machine.specs.Report.{unitSingle, linkLone, report, headLine, unitLine, linkLine, tailLine}
+
+-- ---- what a row says
+
+-- a figure of a site that was surveyed to the end
+pub data Figure : Type 0 where
+  -- the rounds to the end, and the countdown first shown
+  Rounds Countdown : ℕ → Figure
+  -- the label of each link, the place of each unit
+  Labels Places : List ℕ → Figure
+  -- the lone links, and the single points: these and no others
+  Lone Singles : List ℕ → Figure
+  -- the whole report
+  Report : List ℕ → Figure
+
+pub data Case : Type 0 where
+  -- a site of n units with a table of links, and its figures
+  site : ℕ → List ℕ → List Figure → Case
+  -- a table, and the number that its checks give (0: it passes)
+  checks : ℕ → List ℕ → ℕ → Case
+  -- a list of objects to rank, and its rounds and requests
+  ranks : ℕ → ℕ → ℕ → Case
+
+-- ---- what the definitions compute
+
+abbrev equal : List ℕ → List ℕ → Bool
+equal [] [] = true
+equal [] (y ∷ t) = false
+equal (x ∷ s) [] = false
+equal (x ∷ s) (y ∷ t) = eqb x y && equal s t
+
+-- the numbers below n that pass the test, ascending
+abbrev passing : ℕ → (ℕ → Bool) → List ℕ
+passing zero p = []
+passing (suc n) p = passing n p ++ cond (p n) (n ∷ []) []
+
+-- the loaded state s, and the state e at the end with the rounds counted
+abbrev shows : State → State → ℕ → Figure → Bool
+shows s e rounds (Rounds k) = eqb rounds k && eqb (e .clock .rounds) k
+shows s e rounds (Countdown k) = eqb (Step.countdown s) k
+shows s e rounds (Labels l) = equal (take (links e) (e .labels .label)) l
+shows s e rounds (Places l) = equal (take (units e) (e .order .pre)) l
+shows s e rounds (Lone l) = equal (passing (links e) (linkLone e)) l
+shows s e rounds (Singles l) = equal (passing (units e) (unitSingle e)) l
+shows s e rounds (Report l) = equal (report e) l
+
+abbrev showsAll : State → State → ℕ → List Figure → Bool
+showsAll s e rounds [] = true
+showsAll s e rounds (f ∷ fs) = shows s e rounds f && showsAll s e rounds fs
+
+-- the survey run to the end; its rounds are the steps made
+abbrev surveyed : State → State × ℕ
+surveyed s = ran (Step.countdown s) 0 s
+
+-- the ranking of a list by stage 4's rule: k objects, the working predecessors and sums so far; the rounds and requests
+abbrev ranked : ℕ → ℕ → List ℕ → List ℕ → ℕ × ℕ
+ranked zero k jump sum = (0, 0)
+ranked (suc fuel) k jump sum =
+    let later = ranked fuel k (jumpRound k jump) (sumRound k jump sum) in
+    let more : ℕ × ℕ = (later .0 + 1, later .1 + requestsOf k jump) in
+    cond (rankingEnds k jump) (1, 0) more
+
+-- object i follows object i − 1
+abbrev chain : ℕ → List ℕ
+chain zero = []
+chain (suc zero) = ABSENT ∷ []
+chain (suc (suc k)) = chain (suc k) ++ k ∷ []
+
+abbrev holds : Case → Bool
+holds (site n t figures) =
+    let s = loaded n t in
+    let r = surveyed s in
+    eqb (tableRefusal n t) 0 && finished (r .0) && showsAll s (r .0) (r .1) figures
+holds (checks n t k) = eqb (tableRefusal n t) k
+holds (ranks k rounds requests) =
+    let r = ranked k k (chain k) (replicate k 1) in
+    eqb (r .0) rounds && eqb (r .1) requests
+
+abbrev holdAll : List Case → Bool
+holdAll [] = true
+holdAll (c ∷ cs) = holds c && holdAll cs
+
+-- ---- the table
+
+abbrev pub cases : List Case
+cases =
+    -- A
+    site 1 [] (Rounds 16 ∷ Countdown 16 ∷ [])
+    -- B
+    ∷ site 4 (0 ∷ 1 ∷ 1 ∷ 2 ∷ 0 ∷ 2 ∷ 2 ∷ 3 ∷ [])
+    (Rounds 27
+    ∷ Countdown 30
+    ∷ Report
+    (characters "11001B0016BE\n"
+    ++ characters "1200000000FFFF000000F0\n"
+    ++ characters "12000100000000000100EC\n"
+    ++ characters "12000200000000000201E9\n"
+    ++ characters "12000300000002000300E6\n"
+    ++ characters "130000000000ED\n"
+    ++ characters "130001000000EC\n"
+    ++ characters "130002000000EB\n"
+    ++ characters "130003000301E6\n"
+    ++ characters "1F00010001DF\n")
+    ∷ [])
+    -- C
+    ∷ site 2 (0 ∷ 1 ∷ []) (Rounds 20 ∷ Lone (0 ∷ []) ∷ Singles [] ∷ [])
+    -- D
+    ∷ site 4 (0 ∷ 1 ∷ 1 ∷ 2 ∷ 2 ∷ 3 ∷ 3 ∷ 0 ∷ []) (Labels (0 ∷ 0 ∷ 0 ∷ 0 ∷ []) ∷ Singles [] ∷ [])
+    -- E
+    ∷ site 5 (0 ∷ 1 ∷ 1 ∷ 2 ∷ 0 ∷ 2 ∷ 2 ∷ 3 ∷ 3 ∷ 4 ∷ 2 ∷ 4 ∷ [])
+    (Labels (0 ∷ 0 ∷ 0 ∷ 3 ∷ 3 ∷ 3 ∷ []) ∷ Singles (2 ∷ []) ∷ [])
+    -- F
+    ∷ site 6 (0 ∷ 1 ∷ 1 ∷ 2 ∷ 0 ∷ 2 ∷ 3 ∷ 4 ∷ 4 ∷ 5 ∷ 3 ∷ 5 ∷ [])
+    (Labels (0 ∷ 0 ∷ 0 ∷ 3 ∷ 3 ∷ 3 ∷ []) ∷ Singles [] ∷ [])
+    -- G
+    ∷ site 5 (0 ∷ 3 ∷ 3 ∷ 1 ∷ 1 ∷ 2 ∷ 1 ∷ 4 ∷ []) (Places (0 ∷ 2 ∷ 4 ∷ 1 ∷ 3 ∷ []) ∷ [])
+    -- H
+    ∷ ranks 5 4 8
+    -- I
+    ∷ checks 257 [] 4
+    ∷ checks 256 [] 0
+    -- J
+    ∷ checks 2 (0 ∷ 1 ∷ 1 ∷ 0 ∷ []) 9
+    -- K
+    ∷ checks 3 (3 ∷ 3 ∷ []) 7
+    ∷ []
+
+pub cases-hold : holdAll cases ≡ true
+unfolding tableRefusal endMissing equalEnds joinedIn repeatedLink lg lgFrom lineOf hexesOf sumOf checkByte Ceilings.countdown leastHeard colorRound colorEnds chosenParent visits parentRound distRound treeEnds leastNeighbor greaterNeighbor neighborAfter follower isStart predecessor nextRound predRound firstSums firstJumps sumRound jumpRound requestsOf rankingEnds forwardRound descendants ndRound secondSums secondJumps placeOf preRound localOf unitAt localAt globalFirst rangeFirst littleFirst bigFirst withLittle withBig rangeLater littleLater bigLater globalLater rangeEnds linkJoinsRound joinsParent parentJoinsRound leastJoined auxRound auxEnds namingUnit classRound labelOf labelRound lone single loaded begun absents zeros Step.components Step.tree Step.tourNext Step.tourPred Step.tour Step.ranking Step.marksForward Step.marksDescendants Step.marks Step.places Step.rangeBegun Step.rangeDoubled Step.range Step.auxEdges Step.auxComponents Step.labelClasses Step.labelPositions Step.labels Step.ruleEnds Step.lastRound Step.roundTables Step.roundRequests Step.nextClock Step.step ran report headLine unitLine linkLine tailLine
+cases-hold = refl

@@ -1,0 +1,69 @@
+-- Laws by which the code that judges a state goes.
+use mathlib.Core.Path.{_≡_, refl, sym, ap, _∙_}
+use mathlib.Core.Bool.{Bool, true, _&&_, and-true, and-assoc}
+use mathlib.Core.List.{List, [], _∷_, _++_}
+use Prim.Native.Nat.{ℕ, _*_, _≤_}
+use lib.Dec.{eqb, leb}
+use lib.ListN.{take}
+use borrow.Author.Tests.{eqb-true}
+use Rattle.lists.specs.Folds.{every}
+use Rattle.lists.specs.Tests.{and-right}
+use Rattle.table.specs.Table.{maxLinks, tableRefusal}
+use Rattle.table.specs.Passes.{passes}
+use Rattle.rules.specs.Bounds.{nameOk, numberOk, distOk}
+use Rattle.machine.specs.State.{State}
+use Rattle.state.specs.declared.groups.Table.{Table}
+use Rattle.machine.specs.State.{units, links, words}
+use Rattle.machine.specs.WellFormed.{arcTables, numberTables, tableOk, entriesOk, wellFormed}
+use Rattle.machine.specs.Kept.{Kept, kept-exact}
+
+-- a table that passes has at most 256 units
+pub table-units : (t : Table) → tableOk t ≡ true → t .units ≤ 256
+unfolding tableOk
+table-units t e =
+    passes (t .units) (take (2 * t .links) (t .ends))
+    (eqb-true _ 0 (and-right (leb (t .links) maxLinks) (eqb (tableRefusal (t .units) (take (2 * t .links) (t .ends))) 0) e))
+    .fewUnits
+
+-- what the countdown of a well-formed state asks
+pub kept-clock : (s : State) → wellFormed s ≡ true → (units s ≤ 256) × ((1 ≤ s .clock .stage) × (s .clock .stage ≤ 11))
+kept-clock s w =
+    let k : Kept s = kept-exact s .0 w in
+    (passes (units s) (words s) (k .passes) .fewUnits, (k .from, k .to))
+
+-- a test of every entry of two lists in a row
+every-append : {A : Type 0} (p : A → Bool) (s t : List A) → every p (s ++ t) ≡ (every p s && every p t)
+every-append p [] t = refl
+every-append p (x ∷ s) t = rw (every-append p s t) (sym (and-assoc (p x) (every p s) (every p t)))
+
+-- the tables of units after the ends, and the tables of numbers in three groups: what the code judges together
+abbrev pub otherUnitTables : State → List (List ℕ)
+otherUnitTables s = s .components .color ∷ s .tree .parent ∷ s .aux .color ∷ s .labels .class ∷ []
+
+abbrev pub sumTables : State → List (List ℕ)
+sumTables s = s .ranking .sum ∷ s .order .forward ∷ s .order .nd ∷ s .order .pre ∷ []
+
+abbrev pub rangeTables : State → List (List ℕ)
+rangeTables s = s .range .low ∷ s .range .high ∷ s .range .little ∷ s .range .big ∷ []
+
+abbrev pub joinTables : State → List (List ℕ)
+joinTables s = s .global .low ∷ s .global .high ∷ s .aux .parents ∷ s .aux .links ∷ []
+
+numbers-parts : (s : State)
+    → every (every numberOk) (numberTables s)
+    ≡ (every (every numberOk) (sumTables s) && (every (every numberOk) (rangeTables s) && every (every numberOk) (joinTables s)))
+numbers-parts s =
+    every-append (every numberOk) (sumTables s) (rangeTables s ++ joinTables s)
+    ∙ ap (λ (b : Bool). every (every numberOk) (sumTables s) && b) (every-append (every numberOk) (rangeTables s) (joinTables s))
+
+pub entries-parts : (s : State)
+    → (every (nameOk (units s)) (s .table .ends)
+    && every (every (nameOk (units s))) (otherUnitTables s)
+    && every (every (nameOk (2 * units s))) (arcTables s)
+    && every (nameOk (links s)) (s .labels .label)
+    && every distOk (s .tree .dist)
+    && (every (every numberOk) (sumTables s) && (every (every numberOk) (rangeTables s) && every (every numberOk) (joinTables s))))
+    ≡ entriesOk s
+unfolding entriesOk
+entries-parts s =
+    rw (numbers-parts s, and-true (every (nameOk (links s)) (s .labels .label)), and-true (every distOk (s .tree .dist))) refl

@@ -1,0 +1,5 @@
+pub mod Words
+pub mod WordLaws
+pub mod WordSteps
+pub mod KindLaws
+pub mod StoreLaws
