@@ -9,6 +9,7 @@ use Rattle.table.specs.Table.{linkCount}
 use Rattle.state.specs.declared.reply.Reply.{Reply}
 use Rattle.state.specs.declared.reply.Reply.the-variants.{Refused, Done, Made, Status, Unit, Link, Read, Written}
 use Rattle.machine.specs.State.{State, FINISHED}
+use Rattle.machine.specs.Load.{Input}
 use Rattle.machine.specs.Step.{steps, countdown}
 use Rattle.machine.specs.RunLaws.{Total, total}
 use Rattle.machine.specs.Report.{unitColor, unitParent, unitPlace, unitSingle, linkLabel, linkLone, flag, reportLength}
@@ -16,10 +17,10 @@ use Rattle.machine.specs.Calls.{loadAnswer, statusAnswer, unitAnswer, linkAnswe
 use Rattle.reach.specs.Reach.{SurveyRight}
 use Rattle.claim.specs.Play.{Call, play, used, asked}
 
--- load, called on any state whatever with n units and the table t, was not refused and handed back s
-pub record Loaded (n : ℕ) (t : List ℕ) (s : State) : Type 0 where
+-- load, called on any state whatever with (input .units) units and the table (input .words), was not refused and handed back s
+pub record Loaded (input : Input) (s : State) : Type 0 where
   pub given : State
-  pub answer : loadAnswer n t given ≡ record { state = s; reply = Done }
+  pub answer : loadAnswer input given ≡ record { state = s; reply = Done }
 
 -- the line of a report that carries an answer
 abbrev pub lineFor : Reply → List ℕ
@@ -34,24 +35,24 @@ lineFor (Read n m) = []
 lineFor (Written k) = []
 
 -- at the end: the questions and the report are answered, they say the same, and what they say is right
-pub record EndRight (n : ℕ) (t : List ℕ) (e : State) (u : ℕ) : Type 0 where
-  pub unitAnswered : (v : ℕ) → v < n
+pub record EndRight (input : Input) (e : State) (u : ℕ) : Type 0 where
+  pub unitAnswered : (v : ℕ) → v < (input .units)
       → unitAnswer v e ≡ record { state = e; reply = Unit v (unitColor e v) (unitParent e v) (unitPlace e v) (unitSingle e v) }
-  pub linkAnswered : (j : ℕ) → j < linkCount t → linkAnswer j e ≡ record { state = e; reply = Link j (linkLabel e j) (linkLone e j) }
-  pub reportAnswered : (out : List ℕ) → reportLength n (linkCount t) ≤ length out
-      → reportAnswer (length out) e ≡ record { state = e; reply = Written (reportLength n (linkCount t)) }
+  pub linkAnswered : (j : ℕ) → j < linkCount (input .words) → linkAnswer j e ≡ record { state = e; reply = Link j (linkLabel e j) (linkLone e j) }
+  pub reportAnswered : (out : List ℕ) → reportLength (input .units) (linkCount (input .words)) ≤ length out
+      → reportAnswer (length out) e ≡ record { state = e; reply = Written (reportLength (input .units) (linkCount (input .words))) }
   -- line 11 carries the rounds used; line 12 of v and line 13 of j are the frames of these very answers
-  pub headWritten : (out : List ℕ) → reportLength n (linkCount t) ≤ length out
+  pub headWritten : (out : List ℕ) → reportLength (input .units) (linkCount (input .words)) ≤ length out
       → take 13 (reported e out) ≡ lineOf (0x11 ∷ wordBytes u ++ wordBytes (e .clock .requests))
-  pub unitWritten : (out : List ℕ) → reportLength n (linkCount t) ≤ length out → (v : ℕ) → v < n
+  pub unitWritten : (out : List ℕ) → reportLength (input .units) (linkCount (input .words)) ≤ length out → (v : ℕ) → v < (input .units)
       → take 23 (drop (13 + 23 * v) (reported e out)) ≡ lineFor (unitAnswer v e .reply)
-  pub linkWritten : (out : List ℕ) → reportLength n (linkCount t) ≤ length out → (j : ℕ) → j < linkCount t
-      → take 15 (drop (13 + 23 * n + 15 * j) (reported e out)) ≡ lineFor (linkAnswer j e .reply)
+  pub linkWritten : (out : List ℕ) → reportLength (input .units) (linkCount (input .words)) ≤ length out → (j : ℕ) → j < linkCount (input .words)
+      → take 15 (drop (13 + 23 * (input .units) + 15 * j) (reported e out)) ≡ lineFor (linkAnswer j e .reply)
   -- equal labels are a common ring, lone links are on none, single points are articulation points
-  pub right : SurveyRight n t e
+  pub right : SurveyRight input e
 
--- what holds of a list of calls from a load of n units and the table t that handed back s
-pub record Claim (n : ℕ) (t : List ℕ) (s : State) (calls : List Call) (e : State) (u : ℕ) : Type 0 where
+-- what holds of a list of calls from a load of (input .units) units and the table (input .words) that handed back s
+pub record Claim (input : Input) (s : State) (calls : List Call) (e : State) (u : ℕ) : Type 0 where
   -- the state is the one that the definitions leave after the rounds used
   pub state : e ≡ steps u s
   -- never more rounds than first shown
@@ -65,10 +66,10 @@ pub record Claim (n : ℕ) (t : List ℕ) (s : State) (calls : List Call) (e : S
   -- the end is where status gives stage 11
   pub end : (u ≡ total s) ↔ (e .clock .stage ≡ FINISHED)
   -- and there the survey is right
-  pub right : u ≡ total s → EndRight n t e u
+  pub right : u ≡ total s → EndRight input e u
 
 -- DEMAND 3. For every table that load accepts, on any state whatever, and every list of calls from the state that it handed back.
 abbrev pub Demand3 : Type 0
 Demand3 =
-    (n : ℕ) (t : List ℕ) (s : State) → Loaded n t s → (calls : List Call)
-    → Claim n t s calls (play calls s .last) (used calls (play calls s .replies))
+    (input : Input) (s : State) → Loaded input s → (calls : List Call)
+    → Claim input s calls (play calls s .last) (used calls (play calls s .replies))

@@ -23,6 +23,7 @@ use Rattle.machine.specs.State.{units, links, finished, FINISHED}
 use Rattle.machine.specs.Kept.{Kept, kept-exact}
 use Rattle.machine.specs.WellFormed.{wellFormed}
 use Rattle.machine.specs.Report.{reportLength}
+use Rattle.machine.specs.Load.{Input, loadRefusal}
 use Rattle.machine.specs.Calls
 
 -- ---- the reasons
@@ -90,9 +91,9 @@ bound reasons p k e s after reply z =
 
 -- ---- the calls
 
-pub load-bound : (n : ℕ) (t : List ℕ) (s : State) → Bound (tableReasons n t) s (Calls.loadAnswer n t s)
+pub load-bound : (input : Input) (s : State) → Bound (tableReasons (input .units) (input .words)) s (Calls.loadAnswer input s)
 unfolding Calls.loadAnswer tableRefusal tableReasons
-load-bound n t s = bound (tableReasons n t) (omega arith) (tableRefusal n t) refl s _ _ refl
+load-bound input s = bound (tableReasons (input .units) (input .words)) (omega arith) (loadRefusal input) refl s _ _ refl
 
 abbrev pub roundReasons : State → List Reason
 roundReasons s = notKept s ∷ atEnd s ∷ []

@@ -5,13 +5,13 @@ use Prim.Native.Nat.{ℕ}
 use lib.Dec.{eqb, ltb}
 use lib.ListN.{length}
 use Rattle.table.specs.Refusals.{firstOf, written}
-use Rattle.table.specs.Table.{linkCount, tableRefusal}
+use Rattle.table.specs.Table.{linkCount}
 use Rattle.files.specs.File.{fileLength, linesOf, readRefusal, writeRefusal, unitsIn, linkFrames}
 use Rattle.machine.specs.State.{State}
 use Rattle.state.specs.declared.reply.Reply.{Reply}
 use Rattle.state.specs.declared.reply.Reply.the-variants.{Refused, Done, Made, Status, Unit, Link, Read, Written}
 use Rattle.machine.specs.State.{units, links, finished}
-use Rattle.machine.specs.Load.{loaded}
+use Rattle.machine.specs.Load.{Input, loadRefusal, loaded}
 use Rattle.machine.specs.WellFormed.{wellFormed}
 use Rattle.machine.specs.Step.{step, countdown}
 use Rattle.machine.specs.Run.{ran}
@@ -50,8 +50,8 @@ valuesOf (Written k) = k ∷ []
 
 -- ---- load: 4 to 9
 
-unfoldable pub loadAnswer : ℕ → List ℕ → State → Answer
-loadAnswer n t s = answered (tableRefusal n t) s (loaded n t) Done
+unfoldable pub loadAnswer : Input → State → Answer
+loadAnswer input s = answered (loadRefusal input) s (loaded input) Done
 
 -- ---- round and run: 10, 11
 

@@ -96,7 +96,7 @@ chain (suc (suc k)) = chain (suc k) ++ k ∷ []
 
 abbrev holds : Case → Bool
 holds (site n t figures) =
-    let s = loaded n t in
+    let s = loaded (record { units = n; words = t }) in
     let r = surveyed s in
     eqb (tableRefusal n t) 0 && finished (r .0) && showsAll s (r .0) (r .1) figures
 holds (checks n t k) = eqb (tableRefusal n t) k

@@ -2,7 +2,7 @@
 use mathlib.Core.List.{List, _++_}
 use Prim.Native.Nat.{ℕ}
 use lib.ListN.{length, drop, replicate}
-use Rattle.table.specs.Table.{linkCount}
+use Rattle.table.specs.Table.{linkCount, tableRefusal}
 use Rattle.rules.specs.Basics.{ABSENT}
 use Rattle.machine.specs.State.{State}
 use Rattle.state.specs.declared.groups.Table.{Table}
@@ -35,9 +35,18 @@ begun table =
       labels = record { class = absents 1024; label = absents 1024 };
     }
 
--- the state that a load of n units and the table t makes
-unfoldable pub loaded : ℕ → List ℕ → State
-loaded n t = begun (record { units = n; links = linkCount t; ends = endsOf t })
+-- what a load takes: the unit count and the table's words
+pub record Input : Type 0 where
+  pub units : ℕ
+  pub words : List ℕ
+
+-- load's checks, 4 to 9: the number of the first that fails, else 0
+abbrev pub loadRefusal : Input → ℕ
+loadRefusal input = tableRefusal (input .units) (input .words)
+
+-- the state that a load makes
+unfoldable pub loaded : Input → State
+loaded input = begun (record { units = input .units; links = linkCount (input .words); ends = endsOf (input .words) })
 
 -- the state that was never loaded: no unit and no link
 unfoldable pub unloaded : State

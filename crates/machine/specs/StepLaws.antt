@@ -20,7 +20,7 @@ use Rattle.rules.specs.Ceilings.{ceilings, ceiling, total}
 use Rattle.rules.specs.CeilingLaws.{ceiling-positive, countdown-round, countdown-stage, countdown-positive, countdown-finished, total-small}
 use Rattle.machine.specs.State.{State}
 use Rattle.machine.specs.State.{units, links, words, finished, FINISHED}
-use Rattle.machine.specs.Load.{absents, zeros, endsOf, begun, loaded}
+use Rattle.machine.specs.Load.{Input, loadRefusal, absents, zeros, endsOf, begun, loaded}
 use Rattle.machine.specs.WellFormed.{wellFormed}
 use Rattle.machine.specs.Kept.{Kept, MadeOk, kept-exact}
 use Rattle.machine.specs.Step
@@ -41,33 +41,33 @@ unfolding zeros
 zero-numbers n = all-replicate Number n 0 (omega arith)
 
 -- the words of a loaded state are the table
-pub loaded-words : (n : ℕ) (t : List ℕ) → tableRefusal n t ≡ 0 → words (loaded n t) ≡ t
+pub loaded-words : (input : Input) → loadRefusal input ≡ 0 → words (loaded input) ≡ (input .words)
 unfolding loaded begun
-loaded-words n t e = take-at t (drop (length t) (absents 2048)) (2 * linkCount t) (passes n t e .pairs)
+loaded-words input e = take-at (input .words) (drop (length (input .words)) (absents 2048)) (2 * linkCount (input .words)) (passes (input .units) (input .words) e .pairs)
 
-pub loaded-kept : (n : ℕ) (t : List ℕ) → tableRefusal n t ≡ 0 → Kept (loaded n t)
+pub loaded-kept : (input : Input) → loadRefusal input ≡ 0 → Kept (loaded input)
 unfolding loaded begun
-loaded-kept n t e =
+loaded-kept input e =
     record {
       few = site .fewLinks;
-      passes = rw (loaded-words n t e) e;
+      passes = rw (loaded-words input e) e;
       from = omega arith;
       to = omega arith;
-      made = inr (omega arith, ceiling-positive n 1 (omega arith) (omega arith));
+      made = inr (omega arith, ceiling-positive (input .units) 1 (omega arith) (omega arith));
       rounds = omega arith;
       requests = omega arith;
-      unitNames = (all-append (Names n) t _ (all-of (Names n) t 0 (λ i l. inl (site .endsExist i l))) (all-drop (Names n) (length t) (absents 2048) (absent-names n 2048)), (absent-names n 256, (absent-names n 256, (absent-names n 256, (absent-names n 1024, tt)))));
-      arcNames = (absent-names (2 * n) 512, (absent-names (2 * n) 512, (absent-names (2 * n) 512, tt)));
-      linkNames = (absent-names (linkCount t) 1024, tt);
+      unitNames = (all-append (Names (input .units)) (input .words) _ (all-of (Names (input .units)) (input .words) 0 (λ i l. inl (site .endsExist i l))) (all-drop (Names (input .units)) (length (input .words)) (absents 2048) (absent-names (input .units) 2048)), (absent-names (input .units) 256, (absent-names (input .units) 256, (absent-names (input .units) 256, (absent-names (input .units) 1024, tt)))));
+      arcNames = (absent-names (2 * (input .units)) 512, (absent-names (2 * (input .units)) 512, (absent-names (2 * (input .units)) 512, tt)));
+      linkNames = (absent-names (linkCount (input .words)) 1024, tt);
       distances = (absent-distances 256, tt);
       numbers = (zero-numbers 512, (zero-numbers 512, (zero-numbers 256, (zero-numbers 256, (zero-numbers 256, (zero-numbers 256, (zero-numbers 256, (zero-numbers 256, (zero-numbers 256, (zero-numbers 256, (zero-numbers 256, (zero-numbers 1024, tt))))))))))));
     }
   where
-    site : Passes n t
-    site = passes n t e
+    site : Passes (input .units) (input .words)
+    site = passes (input .units) (input .words) e
 
-pub loaded-wellFormed : (n : ℕ) (t : List ℕ) → tableRefusal n t ≡ 0 → wellFormed (loaded n t) ≡ true
-loaded-wellFormed n t e = kept-exact (loaded n t) .1 (loaded-kept n t e)
+pub loaded-wellFormed : (input : Input) → loadRefusal input ≡ 0 → wellFormed (loaded input) ≡ true
+loaded-wellFormed input e = kept-exact (loaded input) .1 (loaded-kept input e)
 
 -- ---- a step of a well-formed unfinished state is well formed
 
@@ -102,6 +102,6 @@ countdown-zero s w = (λ (z : Step.countdown s ≡ 0). ended z (either (finished
         absurd (omega (arith, countdown-positive (units s) (s .clock .stage) (s .clock .made) (k .from) (stage-small s k open′) (made-below s k open′)))
 
 -- the first countdown of an accepted table is at most 804
-pub first-countdown : (n : ℕ) (t : List ℕ) → tableRefusal n t ≡ 0 → Step.countdown (loaded n t) ≤ 804
+pub first-countdown : (input : Input) → loadRefusal input ≡ 0 → Step.countdown (loaded input) ≤ 804
 unfolding loaded begun Ceilings.countdown
-first-countdown n t e = omega (arith, total-small n (passes n t e .fewUnits))
+first-countdown input e = omega (arith, total-small (input .units) (passes (input .units) (input .words) e .fewUnits))

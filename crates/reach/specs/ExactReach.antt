@@ -11,7 +11,7 @@ use Rattle.table.specs.Table.{tableRefusal}
 use Rattle.machine.specs.State.{State}
 use Rattle.state.specs.declared.groups.Clock.{Clock}
 use Rattle.machine.specs.State.{finished, FINISHED, MAX-ROUNDS, MAX-REQUESTS}
-use Rattle.machine.specs.Load.{loaded}
+use Rattle.machine.specs.Load.{Input, loadRefusal, loaded}
 use Rattle.machine.specs.Step
 use Rattle.machine.specs.StageLaws.{ticked, step-1, step-2, step-3, step-4, step-5, step-6, step-7, step-8, step-9, step-10, ends-6}
 use Rattle.machine.specs.StepLaws.{loaded-wellFormed, first-countdown}
@@ -142,34 +142,34 @@ round-exact s h x g l =
 
 -- ---- every round from a load
 
-module _ (n : ℕ) (t : List ℕ) (accepted : tableRefusal n t ≡ 0) where
+module _ (input : Input) (accepted : loadRefusal input ≡ 0) where
   -- the exact round of every state before the end is defined, and is the round
-  pub step-exact : (k : ℕ) → k < total (loaded n t) → stepExact (Step.steps k (loaded n t)) ≡ some (Step.step (Step.steps k (loaded n t)))
+  pub step-exact : (k : ℕ) → k < total (loaded input) → stepExact (Step.steps k (loaded input)) ≡ some (Step.step (Step.steps k (loaded input)))
   step-exact k l =
-      let goes : Goes (Step.steps k (loaded n t)) = goes-on n t accepted k l in
-      let going : Step.steps k (loaded n t) .clock .stage ≡ FINISHED → ⊥ = total-least (loaded n t) (loaded-wellFormed n t accepted) .least k l in
-      round-exact (Step.steps k (loaded n t)) going
-      (exact (Step.steps k (loaded n t)) (base-steps n t accepted k) (reached-steps n t accepted k) (goes .uncut) going) goes
-      (omega (arith, rounds-steps n t accepted k (omega arith), total-countdown (loaded n t), first-countdown n t accepted))
+      let goes : Goes (Step.steps k (loaded input)) = goes-on input accepted k l in
+      let going : Step.steps k (loaded input) .clock .stage ≡ FINISHED → ⊥ = total-least (loaded input) (loaded-wellFormed input accepted) .least k l in
+      round-exact (Step.steps k (loaded input)) going
+      (exact (Step.steps k (loaded input)) (base-steps input accepted k) (reached-steps input accepted k) (goes .uncut) going) goes
+      (omega (arith, rounds-steps input accepted k (omega arith), total-countdown (loaded input), first-countdown input accepted))
 
   -- a finished survey stays as it is either way
-  step-exact-after : (k : ℕ) → total (loaded n t) ≤ k → stepExact (Step.steps k (loaded n t)) ≡ some (Step.step (Step.steps k (loaded n t)))
+  step-exact-after : (k : ℕ) → total (loaded input) ≤ k → stepExact (Step.steps k (loaded input)) ≡ some (Step.step (Step.steps k (loaded input)))
   unfolding stepExact
   step-exact-after k l =
-      let over : finished (Step.steps k (loaded n t)) ≡ true =
-      eq-eqb (Step.steps k (loaded n t) .clock .stage) FINISHED (ended-exact (loaded n t) (loaded-wellFormed n t accepted) k .1 l) in
-      rw (step-finished (Step.steps k (loaded n t)) over, over) refl
+      let over : finished (Step.steps k (loaded input)) ≡ true =
+      eq-eqb (Step.steps k (loaded input) .clock .stage) FINISHED (ended-exact (loaded input) (loaded-wellFormed input accepted) k .1 l) in
+      rw (step-finished (Step.steps k (loaded input)) over, over) refl
 
   -- so the exact round of every state that a load reaches is the round,
-  pub every-step-exact : (k : ℕ) → stepExact (Step.steps k (loaded n t)) ≡ some (Step.step (Step.steps k (loaded n t)))
-  every-step-exact k = go (decLt k (total (loaded n t)))
+  pub every-step-exact : (k : ℕ) → stepExact (Step.steps k (loaded input)) ≡ some (Step.step (Step.steps k (loaded input)))
+  every-step-exact k = go (decLt k (total (loaded input)))
     where
-      go : Dec (k < total (loaded n t)) → stepExact (Step.steps k (loaded n t)) ≡ some (Step.step (Step.steps k (loaded n t)))
+      go : Dec (k < total (loaded input)) → stepExact (Step.steps k (loaded input)) ≡ some (Step.step (Step.steps k (loaded input)))
       go (yes l) = step-exact k l
       go (no l) = step-exact-after k (omega arith)
 
   -- and any number of exact rounds lead where the rounds do
-  pub steps-exact : (k : ℕ) → stepsExact k (loaded n t) ≡ some (Step.steps k (loaded n t))
+  pub steps-exact : (k : ℕ) → stepsExact k (loaded input) ≡ some (Step.steps k (loaded input))
   unfolding stepsExact Step.steps
   steps-exact zero = refl
-  steps-exact (suc k) = rw (steps-exact k, steps-suc k (loaded n t)) (every-step-exact k)
+  steps-exact (suc k) = rw (steps-exact k, steps-suc k (loaded input)) (every-step-exact k)

@@ -11,27 +11,27 @@ use Rattle.rules.specs.Basics.{ABSENT, at}
 use Rattle.graph.specs.Rings.{SameLink}
 use Rattle.machine.specs.State.{State}
 use Rattle.machine.specs.State.{units, links}
-use Rattle.machine.specs.Load.{absents, zeros, endsOf, begun, loaded}
+use Rattle.machine.specs.Load.{Input, loadRefusal, absents, zeros, endsOf, begun, loaded}
 use Rattle.reach.specs.Site.{Site, Link}
 use Rattle.reach.specs.Sized.{loaded-sized}
 use Rattle.reach.specs.Invariant.{Base, Fresh, In1, Reached, in1}
 
-module _ (n : ℕ) (t : List ℕ) (e : tableRefusal n t ≡ 0) where
-  p : Passes n t
-  p = passes n t e
+module _ (input : Input) (e : loadRefusal input ≡ 0) where
+  p : Passes (input .units) (input .words)
+  p = passes (input .units) (input .words) e
 
   -- the ends in the state's array are the table's
-  pub end-a : (j : ℕ) → j < linkCount t → endA (endsOf t) j ≡ endA t j
-  end-a j l = List·getD-append t (drop (length t) (absents 2048)) 0 (2 * j) (omega (arith, p .pairs))
+  pub end-a : (j : ℕ) → j < linkCount (input .words) → endA (endsOf (input .words)) j ≡ endA (input .words) j
+  end-a j l = List·getD-append (input .words) (drop (length (input .words)) (absents 2048)) 0 (2 * j) (omega (arith, p .pairs))
 
-  pub end-b : (j : ℕ) → j < linkCount t → endB (endsOf t) j ≡ endB t j
-  end-b j l = List·getD-append t (drop (length t) (absents 2048)) 0 (2 * j + 1) (omega (arith, p .pairs))
+  pub end-b : (j : ℕ) → j < linkCount (input .words) → endB (endsOf (input .words)) j ≡ endB (input .words) j
+  end-b j l = List·getD-append (input .words) (drop (length (input .words)) (absents 2048)) 0 (2 * j + 1) (omega (arith, p .pairs))
 
   -- so a link of the state is a link of the table
-  pub same-links : (u v : ℕ) → Link (linkCount t) (endsOf t) u v ↔ Link (linkCount t) t u v
+  pub same-links : (u v : ℕ) → Link (linkCount (input .words)) (endsOf (input .words)) u v ↔ Link (linkCount (input .words)) (input .words) u v
   same-links u v = (λ (j, l, s). (j, l, rw (end-a j l, end-b j l) at s), λ (j, l, s). (j, l, rw (end-a j l, end-b j l) s))
 
-  site-loaded : Site n (linkCount t) (endsOf t)
+  site-loaded : Site (input .units) (linkCount (input .words)) (endsOf (input .words))
   site-loaded =
       record {
         someUnit = p .someUnit;
@@ -43,15 +43,15 @@ module _ (n : ℕ) (t : List ℕ) (e : tableRefusal n t ≡ 0) where
         once = λ j k d lj lk s. p .once j k d lj lk (rw (end-a j lj, end-b j lj, end-a k lk, end-b k lk) at s);
       }
 
-  pub base-loaded : Base (loaded n t)
+  pub base-loaded : Base (loaded input)
   unfolding loaded begun
-  base-loaded = record { site = site-loaded; sized = loaded-sized n t }
+  base-loaded = record { site = site-loaded; sized = loaded-sized input }
 
-  absent-at : (v : ℕ) → v < n → at (absents 256) v ≡ ABSENT
+  absent-at : (v : ℕ) → v < (input .units) → at (absents 256) v ≡ ABSENT
   unfolding absents
   absent-at v l = getD-replicate 256 v ABSENT 0 (omega (arith, p .fewUnits))
 
-  pub reached-loaded : Reached (loaded n t)
+  pub reached-loaded : Reached (loaded input)
   unfolding loaded begun
   reached-loaded =
       in1 (record { stage = refl; quiet = refl; fresh = record { parents = absent-at; distances = absent-at }; colors = inl refl })

@@ -16,7 +16,7 @@ use Rattle.graph.specs.Same.{onRing-same, no-ring-same, articulation-same}
 use Rattle.machine.specs.State.{State}
 use Rattle.machine.specs.State.{units, links, finished, FINISHED, MAX-ROUNDS, MAX-REQUESTS}
 use Rattle.machine.specs.WellFormed.{wellFormed}
-use Rattle.machine.specs.Load.{endsOf, begun, loaded}
+use Rattle.machine.specs.Load.{Input, loadRefusal, endsOf, begun, loaded}
 use Rattle.machine.specs.Step
 use Rattle.machine.specs.StageLaws.{step-table, step-going}
 use Rattle.machine.specs.StepLaws.{loaded-wellFormed, first-countdown}
@@ -59,65 +59,65 @@ reached-step s b r (no h) = goes s b r h .after
 
 -- ---- every state from a load
 
-module _ (n : ℕ) (t : List ℕ) (accepted : tableRefusal n t ≡ 0) where
-  pub base-steps : (k : ℕ) → Base (Step.steps k (loaded n t))
+module _ (input : Input) (accepted : loadRefusal input ≡ 0) where
+  pub base-steps : (k : ℕ) → Base (Step.steps k (loaded input))
   unfolding Step.steps
-  base-steps zero = base-loaded n t accepted
-  base-steps (suc k) = rw (steps-suc k (loaded n t)) (base-step (Step.steps k (loaded n t)) (base-steps k))
+  base-steps zero = base-loaded input accepted
+  base-steps (suc k) = rw (steps-suc k (loaded input)) (base-step (Step.steps k (loaded input)) (base-steps k))
 
-  pub reached-steps : (k : ℕ) → Reached (Step.steps k (loaded n t))
+  pub reached-steps : (k : ℕ) → Reached (Step.steps k (loaded input))
   unfolding Step.steps
-  reached-steps zero = reached-loaded n t accepted
+  reached-steps zero = reached-loaded input accepted
   reached-steps (suc k) =
-      rw (steps-suc k (loaded n t))
-      (reached-step (Step.steps k (loaded n t)) (base-steps k) (reached-steps k) (ℕ-discrete (Step.steps k (loaded n t) .clock .stage) FINISHED))
+      rw (steps-suc k (loaded input))
+      (reached-step (Step.steps k (loaded input)) (base-steps k) (reached-steps k) (ℕ-discrete (Step.steps k (loaded input) .clock .stage) FINISHED))
 
-  pub table-steps : (k : ℕ) → Step.steps k (loaded n t) .table ≡ loaded n t .table
+  pub table-steps : (k : ℕ) → Step.steps k (loaded input) .table ≡ loaded input .table
   unfolding Step.steps
   table-steps zero = refl
-  table-steps (suc k) = rw (steps-suc k (loaded n t)) (step-table (Step.steps k (loaded n t)) ∙ table-steps k)
+  table-steps (suc k) = rw (steps-suc k (loaded input)) (step-table (Step.steps k (loaded input)) ∙ table-steps k)
 
-  well-formed : wellFormed (loaded n t) ≡ true
-  well-formed = loaded-wellFormed n t accepted
+  well-formed : wellFormed (loaded input) ≡ true
+  well-formed = loaded-wellFormed input accepted
 
   -- before the end each round is not cut short, and no number leaves its bound
-  pub goes-on : (k : ℕ) → k < total (loaded n t) → Goes (Step.steps k (loaded n t))
+  pub goes-on : (k : ℕ) → k < total (loaded input) → Goes (Step.steps k (loaded input))
   goes-on k l =
-      goes (Step.steps k (loaded n t)) (base-steps k) (reached-steps k) (total-least (loaded n t) well-formed .least k l)
+      goes (Step.steps k (loaded input)) (base-steps k) (reached-steps k) (total-least (loaded input) well-formed .least k l)
 
   -- all rounds are the steps made, and within their limit
-  pub rounds-steps : (k : ℕ) → k ≤ total (loaded n t) → Step.steps k (loaded n t) .clock .rounds ≡ k
+  pub rounds-steps : (k : ℕ) → k ≤ total (loaded input) → Step.steps k (loaded input) .clock .rounds ≡ k
   unfolding Step.steps Step.nextClock loaded begun
   rounds-steps zero l = refl
   rounds-steps (suc k) l =
-      rw (steps-suc k (loaded n t), step-going (Step.steps k (loaded n t)) (total-least (loaded n t) well-formed .least k l))
-      (omega (arith, rounds-steps k (omega arith), total-countdown (loaded n t), first-countdown n t accepted))
+      rw (steps-suc k (loaded input), step-going (Step.steps k (loaded input)) (total-least (loaded input) well-formed .least k l))
+      (omega (arith, rounds-steps k (omega arith), total-countdown (loaded input), first-countdown input accepted))
 
   -- requests are added up and never clamped
-  pub requests-steps : (k : ℕ) → k < total (loaded n t)
-      → Step.steps (suc k) (loaded n t) .clock .requests ≡ Step.steps k (loaded n t) .clock .requests + Step.roundRequests (Step.steps k (loaded n t))
+  pub requests-steps : (k : ℕ) → k < total (loaded input)
+      → Step.steps (suc k) (loaded input) .clock .requests ≡ Step.steps k (loaded input) .clock .requests + Step.roundRequests (Step.steps k (loaded input))
   unfolding Step.nextClock
   requests-steps k l =
-      rw (steps-suc k (loaded n t), step-going (Step.steps k (loaded n t)) (total-least (loaded n t) well-formed .least k l))
+      rw (steps-suc k (loaded input), step-going (Step.steps k (loaded input)) (total-least (loaded input) well-formed .least k l))
       (omega (arith, goes-on k l .unclamped))
 
 -- ---- what the finished survey says
 
--- labels, lone links and single points of e are those of the graph that the table t of n units draws
-pub record SurveyRight (n : ℕ) (t : List ℕ) (e : State) : Type 0 where
+-- labels, lone links and single points of e are those of the graph that the table (input .words) of (input .units) units draws
+pub record SurveyRight (input : Input) (e : State) : Type 0 where
   -- two different links have one label exactly when a ring holds both
-  pub labels : (j k : ℕ) → j < linkCount t → k < linkCount t → (j ≡ k → ⊥)
-      → (linkLabel e j ≡ linkLabel e k) ↔ OnRing (Link (linkCount t) t) (endA t j) (endB t j) (endA t k) (endB t k)
+  pub labels : (j k : ℕ) → j < linkCount (input .words) → k < linkCount (input .words) → (j ≡ k → ⊥)
+      → (linkLabel e j ≡ linkLabel e k) ↔ OnRing (Link (linkCount (input .words)) (input .words)) (endA (input .words) j) (endB (input .words) j) (endA (input .words) k) (endB (input .words) k)
   -- a link is lone exactly when no ring holds it
-  pub lones : (j : ℕ) → j < linkCount t
-      → (linkLone e j ≡ true) ↔ ((r : List ℕ) → Ring (Link (linkCount t) t) r → Holds r (endA t j) (endB t j) → ⊥)
+  pub lones : (j : ℕ) → j < linkCount (input .words)
+      → (linkLone e j ≡ true) ↔ ((r : List ℕ) → Ring (Link (linkCount (input .words)) (input .words)) r → Holds r (endA (input .words) j) (endB (input .words) j) → ⊥)
   -- a unit is a single point exactly when two other units that are linked up with each other have no route that avoids it
-  pub singles : (u : ℕ) → u < n → (unitSingle e u ≡ true) ↔ Articulation (Link (linkCount t) t) u
+  pub singles : (u : ℕ) → u < (input .units) → (unitSingle e u ≡ true) ↔ Articulation (Link (linkCount (input .words)) (input .words)) u
 
-module _ (n : ℕ) (t : List ℕ) (accepted : tableRefusal n t ≡ 0) where
+module _ (input : Input) (accepted : loadRefusal input ≡ 0) where
   -- over the state's own array
-  finished-right : (s : State) → s .table ≡ loaded n t .table → Reached s → s .clock .stage ≡ FINISHED
-      → LabelsRight.Right n (linkCount t) (endsOf t) (s .labels .label)
+  finished-right : (s : State) → s .table ≡ loaded input .table → Reached s → s .clock .stage ≡ FINISHED
+      → LabelsRight.Right (input .units) (linkCount (input .words)) (endsOf (input .words)) (s .labels .label)
   unfolding loaded begun
   finished-right s e (in1 i) f = absurd (omega (arith, i .stage))
   finished-right s e (in2 i) f = absurd (omega (arith, i .stage))
@@ -132,40 +132,40 @@ module _ (n : ℕ) (t : List ℕ) (accepted : tableRefusal n t ≡ 0) where
   finished-right s e (in11 i) f = rw e at (i .right)
 
   -- in the words of the table
-  right-words : (s : State) → s .table ≡ loaded n t .table → LabelsRight.Right n (linkCount t) (endsOf t) (s .labels .label) → SurveyRight n t s
+  right-words : (s : State) → s .table ≡ loaded input .table → LabelsRight.Right (input .units) (linkCount (input .words)) (endsOf (input .words)) (s .labels .label) → SurveyRight input s
   unfolding loaded begun
   right-words s e r =
       record {
         labels =
             λ j k lj lk d.
             let w = r .together j k lj lk d in
-            let o = onRing-same (Link (linkCount t) (endsOf t)) (Link (linkCount t) t) (same-links n t accepted) (endA t j) (endB t j) (endA t k) (endB t k) in
-            let q : (at (s .labels .label) j ≡ at (s .labels .label) k) ↔ OnRing (Link (linkCount t) (endsOf t)) (endA t j) (endB t j) (endA t k) (endB t k) =
-            rw (end-a n t accepted j lj, end-b n t accepted j lj, end-a n t accepted k lk, end-b n t accepted k lk) at w in
+            let o = onRing-same (Link (linkCount (input .words)) (endsOf (input .words))) (Link (linkCount (input .words)) (input .words)) (same-links input accepted) (endA (input .words) j) (endB (input .words) j) (endA (input .words) k) (endB (input .words) k) in
+            let q : (at (s .labels .label) j ≡ at (s .labels .label) k) ↔ OnRing (Link (linkCount (input .words)) (endsOf (input .words))) (endA (input .words) j) (endB (input .words) j) (endA (input .words) k) (endB (input .words) k) =
+            rw (end-a input accepted j lj, end-b input accepted j lj, end-a input accepted k lk, end-b input accepted k lk) at w in
             (λ x. o .0 (q .0 x), λ x. q .1 (o .1 x));
         lones =
             λ j l.
-            let o = no-ring-same (Link (linkCount t) (endsOf t)) (Link (linkCount t) t) (same-links n t accepted) (endA t j) (endB t j) in
-            let q : (lone (linkCount t) (s .labels .label) j ≡ true) ↔ ((c : List ℕ) → Ring (Link (linkCount t) (endsOf t)) c → Holds c (endA t j) (endB t j) → ⊥) =
-            rw (end-a n t accepted j l, end-b n t accepted j l) at (r .bridges j l) in
+            let o = no-ring-same (Link (linkCount (input .words)) (endsOf (input .words))) (Link (linkCount (input .words)) (input .words)) (same-links input accepted) (endA (input .words) j) (endB (input .words) j) in
+            let q : (lone (linkCount (input .words)) (s .labels .label) j ≡ true) ↔ ((c : List ℕ) → Ring (Link (linkCount (input .words)) (endsOf (input .words))) c → Holds c (endA (input .words) j) (endB (input .words) j) → ⊥) =
+            rw (end-a input accepted j l, end-b input accepted j l) at (r .bridges j l) in
             rw e (λ x. o .0 (q .0 x), λ x. q .1 (o .1 x));
         singles =
             λ u l.
-            let o = articulation-same (Link (linkCount t) (endsOf t)) (Link (linkCount t) t) (same-links n t accepted) u in
+            let o = articulation-same (Link (linkCount (input .words)) (endsOf (input .words))) (Link (linkCount (input .words)) (input .words)) (same-links input accepted) u in
             rw e (λ x. o .0 (r .cuts u l .0 x), λ x. r .cuts u l .1 (o .1 x));
       }
 
   -- For every accepted table: the survey comes to the end after `total` rounds and no fewer, at most the first countdown; all rounds and requests stay
   -- within their limits; and the finished survey is right.
-  pub survey-right : Total (loaded n t) (total (loaded n t))
-      × (total (loaded n t) ≤ Step.countdown (loaded n t))
-      × (Step.countdown (loaded n t) ≤ MAX-ROUNDS)
-      × SurveyRight n t (Step.steps (total (loaded n t)) (loaded n t))
+  pub survey-right : Total (loaded input) (total (loaded input))
+      × (total (loaded input) ≤ Step.countdown (loaded input))
+      × (Step.countdown (loaded input) ≤ MAX-ROUNDS)
+      × SurveyRight input (Step.steps (total (loaded input)) (loaded input))
   survey-right = (
-    total-least (loaded n t) (loaded-wellFormed n t accepted),
-    total-countdown (loaded n t),
-    first-countdown n t accepted,
-    right-words (Step.steps (total (loaded n t)) (loaded n t)) (table-steps n t accepted (total (loaded n t)))
-        (finished-right (Step.steps (total (loaded n t)) (loaded n t)) (table-steps n t accepted (total (loaded n t))) (reached-steps n t accepted (total (loaded n t)))
-        (total-least (loaded n t) (loaded-wellFormed n t accepted) .ends)),
+    total-least (loaded input) (loaded-wellFormed input accepted),
+    total-countdown (loaded input),
+    first-countdown input accepted,
+    right-words (Step.steps (total (loaded input)) (loaded input)) (table-steps input accepted (total (loaded input)))
+        (finished-right (Step.steps (total (loaded input)) (loaded input)) (table-steps input accepted (total (loaded input))) (reached-steps input accepted (total (loaded input)))
+        (total-least (loaded input) (loaded-wellFormed input accepted) .ends)),
   )

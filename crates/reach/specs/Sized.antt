@@ -17,7 +17,7 @@ use Rattle.rules.specs.Aux.{linkJoinsRound, parentJoinsRound, auxRound}
 use Rattle.rules.specs.Labels.{classRound, labelRound}
 use Rattle.machine.specs.State.{State}
 use Rattle.machine.specs.State.{finished}
-use Rattle.machine.specs.Load.{absents, zeros, begun, loaded}
+use Rattle.machine.specs.Load.{Input, loadRefusal, absents, zeros, begun, loaded}
 use Rattle.machine.specs.Step
 
 -- the tables by what indexes them
@@ -60,9 +60,9 @@ zeros-long : (k : ℕ) → length (zeros k) ≡ k
 unfolding zeros
 zeros-long k = length-replicate k 0
 
-pub loaded-sized : (n : ℕ) (t : List ℕ) → Sized (loaded n t)
+pub loaded-sized : (input : Input) → Sized (loaded input)
 unfolding loaded begun
-loaded-sized n t =
+loaded-sized input =
     record {
       byUnit = (absents-long 256, (absents-long 256, (absents-long 256, (zeros-long 256, (zeros-long 256, (zeros-long 256, (zeros-long 256, (zeros-long 256, (zeros-long 256, (zeros-long 256, (zeros-long 256, (zeros-long 256, (absents-long 256, tt)))))))))))));
       byArc = (absents-long 512, (absents-long 512, (absents-long 512, (zeros-long 512, (zeros-long 512, tt)))));
