@@ -5,11 +5,10 @@ use mathlib.Core.List.{List, [], _∷_, _++_}
 use Prim.Native.Nat.{ℕ, _+_, _*_, _≤_, _<_}
 use lib.ListN.{length, take, drop}
 use Rattle.frames.specs.Frame.{wordBytes, lineOf}
-use Rattle.table.specs.Table.{linkCount}
 use Rattle.state.specs.declared.reply.Reply.{Reply}
 use Rattle.state.specs.declared.reply.Reply.the-variants.{Refused, Done, Made, Status, Unit, Link, Read, Written}
 use Rattle.machine.specs.State.{State, FINISHED}
-use Rattle.machine.specs.Load.{Input}
+use Rattle.machine.specs.Load.{Input, linksIn}
 use Rattle.machine.specs.Step.{steps, countdown}
 use Rattle.machine.specs.RunLaws.{Total, total}
 use Rattle.machine.specs.Report.{unitColor, unitParent, unitPlace, unitSingle, linkLabel, linkLone, flag, reportLength}
@@ -17,7 +16,7 @@ use Rattle.machine.specs.Calls.{loadAnswer, statusAnswer, unitAnswer, linkAnswe
 use Rattle.reach.specs.Reach.{SurveyRight}
 use Rattle.claim.specs.Play.{Call, play, used, asked}
 
--- load, called on any state whatever with (input .units) units and the table (input .words), was not refused and handed back s
+-- load, called on any state whatever, was not refused and handed back s
 pub record Loaded (input : Input) (s : State) : Type 0 where
   pub given : State
   pub answer : loadAnswer input given ≡ record { state = s; reply = Done }
@@ -36,22 +35,22 @@ lineFor (Written k) = []
 
 -- at the end: the questions and the report are answered, they say the same, and what they say is right
 pub record EndRight (input : Input) (e : State) (u : ℕ) : Type 0 where
-  pub unitAnswered : (v : ℕ) → v < (input .units)
+  pub unitAnswered : (v : ℕ) → v < input .units
       → unitAnswer v e ≡ record { state = e; reply = Unit v (unitColor e v) (unitParent e v) (unitPlace e v) (unitSingle e v) }
-  pub linkAnswered : (j : ℕ) → j < linkCount (input .words) → linkAnswer j e ≡ record { state = e; reply = Link j (linkLabel e j) (linkLone e j) }
-  pub reportAnswered : (out : List ℕ) → reportLength (input .units) (linkCount (input .words)) ≤ length out
-      → reportAnswer (length out) e ≡ record { state = e; reply = Written (reportLength (input .units) (linkCount (input .words))) }
+  pub linkAnswered : (j : ℕ) → j < linksIn input → linkAnswer j e ≡ record { state = e; reply = Link j (linkLabel e j) (linkLone e j) }
+  pub reportAnswered : (out : List ℕ) → reportLength (input .units) (linksIn input) ≤ length out
+      → reportAnswer (length out) e ≡ record { state = e; reply = Written (reportLength (input .units) (linksIn input)) }
   -- line 11 carries the rounds used; line 12 of v and line 13 of j are the frames of these very answers
-  pub headWritten : (out : List ℕ) → reportLength (input .units) (linkCount (input .words)) ≤ length out
+  pub headWritten : (out : List ℕ) → reportLength (input .units) (linksIn input) ≤ length out
       → take 13 (reported e out) ≡ lineOf (0x11 ∷ wordBytes u ++ wordBytes (e .clock .requests))
-  pub unitWritten : (out : List ℕ) → reportLength (input .units) (linkCount (input .words)) ≤ length out → (v : ℕ) → v < (input .units)
+  pub unitWritten : (out : List ℕ) → reportLength (input .units) (linksIn input) ≤ length out → (v : ℕ) → v < input .units
       → take 23 (drop (13 + 23 * v) (reported e out)) ≡ lineFor (unitAnswer v e .reply)
-  pub linkWritten : (out : List ℕ) → reportLength (input .units) (linkCount (input .words)) ≤ length out → (j : ℕ) → j < linkCount (input .words)
+  pub linkWritten : (out : List ℕ) → reportLength (input .units) (linksIn input) ≤ length out → (j : ℕ) → j < linksIn input
       → take 15 (drop (13 + 23 * (input .units) + 15 * j) (reported e out)) ≡ lineFor (linkAnswer j e .reply)
   -- equal labels are a common ring, lone links are on none, single points are articulation points
   pub right : SurveyRight input e
 
--- what holds of a list of calls from a load of (input .units) units and the table (input .words) that handed back s
+-- what holds of a list of calls from a load that handed back s
 pub record Claim (input : Input) (s : State) (calls : List Call) (e : State) (u : ℕ) : Type 0 where
   -- the state is the one that the definitions leave after the rounds used
   pub state : e ≡ steps u s

@@ -11,11 +11,11 @@ use lib.ListN.{length, take, drop}
 use borrow.Author.Tests.{eqb-true, eqb-false, eq-eqb, ne-eqb, lt-ltb, le-ltb}
 use Rattle.lists.specs.Tests.{either, not-both}
 use Rattle.frames.specs.Frame.{wordBytes, lineOf}
-use Rattle.table.specs.Table.{linkCount, tableRefusal}
+use Rattle.table.specs.Table.{tableRefusal}
 use Rattle.state.specs.declared.reply.Reply.the-variants.{Status, Unit, Link, Written}
 use Rattle.machine.specs.State.{State, units, links, finished, FINISHED}
 use Rattle.machine.specs.WellFormed.{wellFormed}
-use Rattle.machine.specs.Load.{Input, loadRefusal, begun, loaded}
+use Rattle.machine.specs.Load.{Input, linksIn, loadRefusal, begun, loaded}
 use Rattle.machine.specs.Step.{step, steps, countdown}
 use Rattle.machine.specs.StepLaws.{loaded-wellFormed}
 use Rattle.machine.specs.RunLaws.{total, total-least, total-countdown, ended-exact, steps-wellFormed}
@@ -97,7 +97,7 @@ module _ (input : Input) (accepted : loadRefusal input ≡ 0) (calls : List Call
   unfolding loaded begun
   site-units = rw table-kept refl
 
-  site-links : links e ≡ linkCount (input .words)
+  site-links : links e ≡ linksIn input
   unfolding loaded begun
   site-links = rw table-kept refl
 
@@ -105,43 +105,43 @@ module _ (input : Input) (accepted : loadRefusal input ≡ 0) (calls : List Call
     at-end : finished e ≡ true
     at-end = eq-eqb (e .clock .stage) FINISHED (ended .0 over)
 
-    unit-said : (v : ℕ) → v < (input .units) → unitAnswer v e ≡ record { state = e; reply = Unit v (unitColor e v) (unitParent e v) (unitPlace e v) (unitSingle e v) }
+    unit-said : (v : ℕ) → v < input .units → unitAnswer v e ≡ record { state = e; reply = Unit v (unitColor e v) (unitParent e v) (unitPlace e v) (unitSingle e v) }
     unfolding unitAnswer unitRefusal questionRefusal
     unit-said v l = let q : v < units e = rw site-units l in rw (well, at-end, lt-ltb v (units e) q) refl
 
-    link-said : (j : ℕ) → j < linkCount (input .words) → linkAnswer j e ≡ record { state = e; reply = Link j (linkLabel e j) (linkLone e j) }
+    link-said : (j : ℕ) → j < linksIn input → linkAnswer j e ≡ record { state = e; reply = Link j (linkLabel e j) (linkLone e j) }
     unfolding linkAnswer linkRefusal questionRefusal
     link-said j l = let q : j < links e = rw site-links l in rw (well, at-end, lt-ltb j (links e) q) refl
 
     -- a slice that is long enough takes the report
-    refusal-none : (out : List ℕ) → reportLength (input .units) (linkCount (input .words)) ≤ length out → reportRefusal e (length out) ≡ 0
+    refusal-none : (out : List ℕ) → reportLength (input .units) (linksIn input) ≤ length out → reportRefusal e (length out) ≡ 0
     unfolding reportRefusal
     refusal-none out l =
         let q : reportLength (units e) (links e) ≤ length out = rw (site-units, site-links) l in
         rw (well, at-end, le-ltb (length out) (reportLength (units e) (links e)) q) refl
 
-    report-said : (out : List ℕ) → reportLength (input .units) (linkCount (input .words)) ≤ length out
-        → reportAnswer (length out) e ≡ record { state = e; reply = Written (reportLength (input .units) (linkCount (input .words))) }
+    report-said : (out : List ℕ) → reportLength (input .units) (linksIn input) ≤ length out
+        → reportAnswer (length out) e ≡ record { state = e; reply = Written (reportLength (input .units) (linksIn input)) }
     unfolding reportAnswer
     report-said out l = rw (refusal-none out l, site-units, site-links) refl
 
-    report-written : (out : List ℕ) → reportLength (input .units) (linkCount (input .words)) ≤ length out → reported e out ≡ report e ++ drop (length (report e)) out
+    report-written : (out : List ℕ) → reportLength (input .units) (linksIn input) ≤ length out → reported e out ≡ report e ++ drop (length (report e)) out
     unfolding reported
     report-written out l = rw (refusal-none out l) refl
 
-    head-written : (out : List ℕ) → reportLength (input .units) (linkCount (input .words)) ≤ length out
+    head-written : (out : List ℕ) → reportLength (input .units) (linksIn input) ≤ length out
         → take 13 (reported e out) ≡ lineOf (0x11 ∷ wordBytes u ++ wordBytes (e .clock .requests))
     unfolding headLine
     head-written out l = rw (report-written out l, head-at e (drop (length (report e)) out), rounds-used) refl
 
-    unit-written : (out : List ℕ) → reportLength (input .units) (linkCount (input .words)) ≤ length out → (v : ℕ) → v < (input .units)
+    unit-written : (out : List ℕ) → reportLength (input .units) (linksIn input) ≤ length out → (v : ℕ) → v < input .units
         → take 23 (drop (13 + 23 * v) (reported e out)) ≡ lineFor (unitAnswer v e .reply)
     unfolding unitLine
     unit-written out l v h =
         let q : v < units e = rw site-units h in
         rw (report-written out l, unit-at e (drop (length (report e)) out) v q, unit-said v h) refl
 
-    link-written : (out : List ℕ) → reportLength (input .units) (linkCount (input .words)) ≤ length out → (j : ℕ) → j < linkCount (input .words)
+    link-written : (out : List ℕ) → reportLength (input .units) (linksIn input) ≤ length out → (j : ℕ) → j < linksIn input
         → take 15 (drop (13 + 23 * (input .units) + 15 * j) (reported e out)) ≡ lineFor (linkAnswer j e .reply)
     unfolding linkLine
     link-written out l j h =

@@ -40,13 +40,17 @@ pub record Input : Type 0 where
   pub units : ℕ
   pub words : List ℕ
 
+-- its number of links
+abbrev pub linksIn : Input → ℕ
+linksIn input = linkCount (input .words)
+
 -- load's checks, 4 to 9: the number of the first that fails, else 0
 abbrev pub loadRefusal : Input → ℕ
 loadRefusal input = tableRefusal (input .units) (input .words)
 
 -- the state that a load makes
 unfoldable pub loaded : Input → State
-loaded input = begun (record { units = input .units; links = linkCount (input .words); ends = endsOf (input .words) })
+loaded input = begun (record { units = input .units; links = linksIn input; ends = endsOf (input .words) })
 
 -- the state that was never loaded: no unit and no link
 unfoldable pub unloaded : State

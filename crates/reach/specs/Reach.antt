@@ -8,7 +8,7 @@ use native.Mathlib.Decide.{decLt, ℕ-discrete}
 use native.Mathlib.Numerals.{add-one}
 use native.Mathlib.Omega.{arith}
 use borrow.Author.Tests.{eq-eqb, ne-eqb}
-use Rattle.table.specs.Table.{linkCount, endA, endB, tableRefusal}
+use Rattle.table.specs.Table.{endA, endB, tableRefusal}
 use Rattle.rules.specs.Basics.{at}
 use Rattle.rules.specs.Labels.{lone, single}
 use Rattle.graph.specs.Rings.{Ring, Holds, OnRing, Articulation}
@@ -16,7 +16,7 @@ use Rattle.graph.specs.Same.{onRing-same, no-ring-same, articulation-same}
 use Rattle.machine.specs.State.{State}
 use Rattle.machine.specs.State.{units, links, finished, FINISHED, MAX-ROUNDS, MAX-REQUESTS}
 use Rattle.machine.specs.WellFormed.{wellFormed}
-use Rattle.machine.specs.Load.{Input, loadRefusal, endsOf, begun, loaded}
+use Rattle.machine.specs.Load.{Input, linksIn, loadRefusal, endsOf, begun, loaded}
 use Rattle.machine.specs.Step
 use Rattle.machine.specs.StageLaws.{step-table, step-going}
 use Rattle.machine.specs.StepLaws.{loaded-wellFormed, first-countdown}
@@ -103,21 +103,21 @@ module _ (input : Input) (accepted : loadRefusal input ≡ 0) where
 
 -- ---- what the finished survey says
 
--- labels, lone links and single points of e are those of the graph that the table (input .words) of (input .units) units draws
+-- labels, lone links and single points of e are those of the graph that the table draws
 pub record SurveyRight (input : Input) (e : State) : Type 0 where
   -- two different links have one label exactly when a ring holds both
-  pub labels : (j k : ℕ) → j < linkCount (input .words) → k < linkCount (input .words) → (j ≡ k → ⊥)
-      → (linkLabel e j ≡ linkLabel e k) ↔ OnRing (Link (linkCount (input .words)) (input .words)) (endA (input .words) j) (endB (input .words) j) (endA (input .words) k) (endB (input .words) k)
+  pub labels : (j k : ℕ) → j < linksIn input → k < linksIn input → (j ≡ k → ⊥)
+      → (linkLabel e j ≡ linkLabel e k) ↔ OnRing (Link (linksIn input) (input .words)) (endA (input .words) j) (endB (input .words) j) (endA (input .words) k) (endB (input .words) k)
   -- a link is lone exactly when no ring holds it
-  pub lones : (j : ℕ) → j < linkCount (input .words)
-      → (linkLone e j ≡ true) ↔ ((r : List ℕ) → Ring (Link (linkCount (input .words)) (input .words)) r → Holds r (endA (input .words) j) (endB (input .words) j) → ⊥)
+  pub lones : (j : ℕ) → j < linksIn input
+      → (linkLone e j ≡ true) ↔ ((r : List ℕ) → Ring (Link (linksIn input) (input .words)) r → Holds r (endA (input .words) j) (endB (input .words) j) → ⊥)
   -- a unit is a single point exactly when two other units that are linked up with each other have no route that avoids it
-  pub singles : (u : ℕ) → u < (input .units) → (unitSingle e u ≡ true) ↔ Articulation (Link (linkCount (input .words)) (input .words)) u
+  pub singles : (u : ℕ) → u < input .units → (unitSingle e u ≡ true) ↔ Articulation (Link (linksIn input) (input .words)) u
 
 module _ (input : Input) (accepted : loadRefusal input ≡ 0) where
   -- over the state's own array
   finished-right : (s : State) → s .table ≡ loaded input .table → Reached s → s .clock .stage ≡ FINISHED
-      → LabelsRight.Right (input .units) (linkCount (input .words)) (endsOf (input .words)) (s .labels .label)
+      → LabelsRight.Right (input .units) (linksIn input) (endsOf (input .words)) (s .labels .label)
   unfolding loaded begun
   finished-right s e (in1 i) f = absurd (omega (arith, i .stage))
   finished-right s e (in2 i) f = absurd (omega (arith, i .stage))
@@ -132,26 +132,26 @@ module _ (input : Input) (accepted : loadRefusal input ≡ 0) where
   finished-right s e (in11 i) f = rw e at (i .right)
 
   -- in the words of the table
-  right-words : (s : State) → s .table ≡ loaded input .table → LabelsRight.Right (input .units) (linkCount (input .words)) (endsOf (input .words)) (s .labels .label) → SurveyRight input s
+  right-words : (s : State) → s .table ≡ loaded input .table → LabelsRight.Right (input .units) (linksIn input) (endsOf (input .words)) (s .labels .label) → SurveyRight input s
   unfolding loaded begun
   right-words s e r =
       record {
         labels =
             λ j k lj lk d.
             let w = r .together j k lj lk d in
-            let o = onRing-same (Link (linkCount (input .words)) (endsOf (input .words))) (Link (linkCount (input .words)) (input .words)) (same-links input accepted) (endA (input .words) j) (endB (input .words) j) (endA (input .words) k) (endB (input .words) k) in
-            let q : (at (s .labels .label) j ≡ at (s .labels .label) k) ↔ OnRing (Link (linkCount (input .words)) (endsOf (input .words))) (endA (input .words) j) (endB (input .words) j) (endA (input .words) k) (endB (input .words) k) =
+            let o = onRing-same (Link (linksIn input) (endsOf (input .words))) (Link (linksIn input) (input .words)) (same-links input accepted) (endA (input .words) j) (endB (input .words) j) (endA (input .words) k) (endB (input .words) k) in
+            let q : (at (s .labels .label) j ≡ at (s .labels .label) k) ↔ OnRing (Link (linksIn input) (endsOf (input .words))) (endA (input .words) j) (endB (input .words) j) (endA (input .words) k) (endB (input .words) k) =
             rw (end-a input accepted j lj, end-b input accepted j lj, end-a input accepted k lk, end-b input accepted k lk) at w in
             (λ x. o .0 (q .0 x), λ x. q .1 (o .1 x));
         lones =
             λ j l.
-            let o = no-ring-same (Link (linkCount (input .words)) (endsOf (input .words))) (Link (linkCount (input .words)) (input .words)) (same-links input accepted) (endA (input .words) j) (endB (input .words) j) in
-            let q : (lone (linkCount (input .words)) (s .labels .label) j ≡ true) ↔ ((c : List ℕ) → Ring (Link (linkCount (input .words)) (endsOf (input .words))) c → Holds c (endA (input .words) j) (endB (input .words) j) → ⊥) =
+            let o = no-ring-same (Link (linksIn input) (endsOf (input .words))) (Link (linksIn input) (input .words)) (same-links input accepted) (endA (input .words) j) (endB (input .words) j) in
+            let q : (lone (linksIn input) (s .labels .label) j ≡ true) ↔ ((c : List ℕ) → Ring (Link (linksIn input) (endsOf (input .words))) c → Holds c (endA (input .words) j) (endB (input .words) j) → ⊥) =
             rw (end-a input accepted j l, end-b input accepted j l) at (r .bridges j l) in
             rw e (λ x. o .0 (q .0 x), λ x. q .1 (o .1 x));
         singles =
             λ u l.
-            let o = articulation-same (Link (linkCount (input .words)) (endsOf (input .words))) (Link (linkCount (input .words)) (input .words)) (same-links input accepted) u in
+            let o = articulation-same (Link (linksIn input) (endsOf (input .words))) (Link (linksIn input) (input .words)) (same-links input accepted) u in
             rw e (λ x. o .0 (r .cuts u l .0 x), λ x. r .cuts u l .1 (o .1 x));
       }
 
