@@ -5,13 +5,14 @@ pub mod Kept
 pub mod KeptLaws
 pub mod Step
 pub mod StageLaws
-pub mod ClockLaws
 pub mod StepKept
 pub mod StepLaws
-pub mod Ready
+pub mod InStage
 pub mod LoadLaws
 pub mod Run
 pub mod Going
+pub mod StageRun
+pub mod StageSteps
 pub mod RunLaws
 pub mod Report
 pub mod ReportLaws
