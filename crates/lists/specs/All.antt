@@ -4,7 +4,7 @@ use mathlib.Core.Bool.{Bool, true, false, cond, _&&_}
 use mathlib.Core.Logic.{_↔_}
 use mathlib.Core.List.{List, [], _∷_, _++_}
 use Prim.Native.Nat.{ℕ, zero, suc, _<_, zero-le, suc-le-suc}
-use native.Mathlib.Nat.{le-refl, le-step}
+use native.Mathlib.Nat.{le-refl, le-step, le-of-suc-le-suc, not-suc-le-zero}
 use lib.ListN.{length, getD, drop, replicate}
 use Rattle.lists.specs.Folds.{fold, every}
 use Rattle.lists.specs.Tables.{over}
@@ -39,6 +39,12 @@ module _ {A : Type 0} where
   pub all-replicate : (P : A → Type 0) (n : ℕ) (x : A) → P x → All P (replicate n x)
   all-replicate P zero x h = tt
   all-replicate P (suc n) x h = (h, all-replicate P n x h)
+
+  -- an entry that exists
+  pub all-in : (P : A → Type 0) (t : List A) (i : ℕ) (d : A) → i < length t → All P t → P (getD t i d)
+  all-in P [] i d h a = absurd (not-suc-le-zero h)
+  all-in P (x ∷ t) zero d h a = a .0
+  all-in P (x ∷ t) (suc i) d h a = all-in P t i d (le-of-suc-le-suc h) (a .1)
 
   -- by index
   pub all-of : (P : A → Type 0) (t : List A) (d : A) → ((i : ℕ) → i < length t → P (getD t i d)) → All P t

@@ -1,10 +1,10 @@
 -- A clock that stands in a stage with room for one more round, and the stage's last round.
 use mathlib.Core.Path.{_≡_}
 use mathlib.Core.Bool.{Bool, true, _&&_, _||_}
-use Prim.Native.Nat.{ℕ, _+_, _≤_}
+use Prim.Native.Nat.{ℕ, _+_, _≤_, _<_}
 use native.Mathlib.Omega.{arith}
-use lib.Dec.{eqb, leb}
-use borrow.Author.Tests.{eqb-true, leb-true, eq-eqb, le-leb}
+use lib.Dec.{eqb, leb, ltb}
+use borrow.Author.Tests.{eqb-true, leb-true, ltb-true, eq-eqb, le-leb}
 use Rattle.lists.specs.Tests.{and-left, and-right, and-true}
 use Rattle.table.specs.Passes.{passes}
 use Rattle.rules.specs.Ceilings.{ceiling}
@@ -89,3 +89,22 @@ may-tick n k c h =
       leb-true n 256 (and-left (leb n 256) _ front),
       (omega (arith, to, stands n k c h), (leb-true (c .made) 256 (and-left (leb (c .made) 256) _ room), leb-true (c .rounds) MAX-ROUNDS (and-left (leb (c .rounds) MAX-ROUNDS) _ (and-right (leb (c .made) 256) _ room)))),
     )
+
+-- what the test of a stage's loop says where it makes a round
+pub record Goes (n k made budget : ℕ) (fits : Bool) (c : Clock) : Type 0 where
+  pub test : (ltb made budget && (fits && inStage n k c)) ≡ true
+  pub below : made < budget
+  pub fit : fits ≡ true
+  pub inside : inStage n k c ≡ true
+  pub few : n ≤ 256
+
+pub goes : (n k made budget : ℕ) (fits : Bool) (c : Clock) → (ltb made budget && (fits && inStage n k c)) ≡ true → Goes n k made budget fits c
+goes n k made budget fits c g =
+    let on = and-right (ltb made budget) (fits && inStage n k c) g in
+    record {
+      test = g;
+      below = ltb-true made budget (and-left (ltb made budget) _ g);
+      fit = and-left fits (inStage n k c) on;
+      inside = and-right fits (inStage n k c) on;
+      few = may-tick n k c (and-right fits (inStage n k c) on) .0;
+    }

@@ -6,11 +6,14 @@ use Prim.Native.Nat.{ℕ, _*_, _≤_}
 use lib.Dec.{eqb, leb}
 use lib.ListN.{take}
 use borrow.Author.Tests.{eqb-true}
+use Rattle.lists.specs.All.{every-exact}
 use Rattle.lists.specs.Folds.{every}
 use Rattle.lists.specs.Tests.{and-right}
 use Rattle.table.specs.Table.{maxLinks, tableRefusal}
 use Rattle.table.specs.Passes.{passes}
+use Rattle.rules.specs.Fits.{linksFit, within-fit}
 use Rattle.rules.specs.Bounds.{nameOk, numberOk, distOk}
+use Rattle.rules.specs.BoundLaws.{Names, name-exact}
 use Rattle.machine.specs.State.{State}
 use Rattle.state.specs.declared.groups.Table.{Table}
 use Rattle.machine.specs.State.{units, links, words}
@@ -67,3 +70,15 @@ pub entries-parts : (s : State)
 unfolding entriesOk
 entries-parts s =
     rw (numbers-parts s, and-true (every (nameOk (links s)) (s .labels .label)), and-true (every distOk (s .tree .dist))) refl
+
+-- the links of a well-formed state fit
+pub links-fit : (s : State) → wellFormed s ≡ true → linksFit (units s) (links s) (s .table .ends) ≡ true
+links-fit s w =
+    let k : Kept s = kept-exact s .0 w in
+    within-fit (units s) (links s) (s .table .ends) (k .few) (passes (units s) (words s) (k .passes) .endsExist)
+
+-- its parents are units or absent
+pub parents-fit : (s : State) → wellFormed s ≡ true → every (nameOk (units s)) (s .tree .parent) ≡ true
+parents-fit s w =
+    let k : Kept s = kept-exact s .0 w in
+    every-exact (nameOk (units s)) (Names (units s)) (name-exact (units s)) (s .tree .parent) .1 (k .unitNames .1 .1 .0)

@@ -30,3 +30,4 @@ pub mod TourLaws
 pub mod NextLaws
 pub mod RangeLaws
 pub mod MoveLaws
+pub mod Fits

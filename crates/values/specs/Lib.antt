@@ -1,2 +1,3 @@
 pub mod Tops
 pub mod TopLaws
+pub mod Agreed

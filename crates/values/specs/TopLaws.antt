@@ -1,11 +1,11 @@
 -- The greatest entry is within a limit exactly when every entry is. Raised by 1, an absent entry is 0, which is within every limit.
-use mathlib.Core.Path.{_≡_}
+use mathlib.Core.Path.{_≡_, refl}
 use mathlib.Core.Bool.{Bool, _&&_}
 use mathlib.Core.List.{List, [], _∷_}
-use Prim.Native.Nat.{ℕ, zero, suc, _+_, _≤_, _<_, max}
+use Prim.Native.Nat.{ℕ, zero, suc, _+_, _-_, _≤_, _<_, max}
 use native.Mathlib.Decide.{decLe, decLt}
 use native.Mathlib.Omega.{arith}
-use lib.Dec.{leb}
+use lib.Dec.{leb, ltb, eqb}
 use lib.ListN.{length, getD, drop, drop-of-length-le}
 use borrow.Author.Tests.{le-leb, lt-leb, lt-ltb, le-ltb, eq-eqb, ne-eqb}
 use Rattle.lists.specs.Folds.{every}
@@ -68,6 +68,13 @@ dist-within x w = go (decLe x MAX-NUMBER) (decLt x ABSENT)
     go (no h) (no l) =
         rw (lt-leb x MAX-NUMBER (omega arith), eq-eqb x ABSENT (omega arith)) (le-leb (raised 1 x) 2049 (omega arith))
 
+below-one : (count : ℕ) → (count ≡ 0 → ⊥) → (x : ℕ) → x < 65536 → leb (raised 0 x) (count - 1) ≡ ltb x count
+below-one count some x w = go (decLt x count)
+  where
+    go : Dec (x < count) → leb (raised 0 x) (count - 1) ≡ ltb x count
+    go (yes h) = rw (lt-ltb x count h) (le-leb (raised 0 x) (count - 1) (omega arith))
+    go (no h) = rw (le-ltb x count (omega arith)) (lt-leb (raised 0 x) (count - 1) (omega arith))
+
 module _ (t : List ℕ) (words : (i : ℕ) → getD t i 0 < 65536) where
   pub names-within : (count : ℕ) → leb (topOf 1 t) count ≡ every (nameOk count) t
   names-within count = top-every 1 count (nameOk count) (name-within count) t words
@@ -77,3 +84,11 @@ module _ (t : List ℕ) (words : (i : ℕ) → getD t i 0 < 65536) where
 
   pub dists-within : leb (topOf 1 t) 2049 ≡ every distOk t
   dists-within = top-every 1 2049 distOk dist-within t words
+
+  pub below-within : (count : ℕ) → (count ≡ 0 → ⊥) → leb (topOf 0 t) (count - 1) ≡ every (λ (x : ℕ). ltb x count) t
+  below-within count some = top-every 0 (count - 1) (λ (x : ℕ). ltb x count) (below-one count some) t words
+
+-- of none there is no entry
+pub below-none : (t : List ℕ) → eqb (length t) 0 ≡ every (λ (x : ℕ). ltb x 0) t
+below-none [] = refl
+below-none (x ∷ t) = rw (le-ltb x 0 (omega arith), ne-eqb (suc (length t)) 0 (λ e. omega arith)) refl

@@ -1,7 +1,10 @@
 // What the stored values may be: the tests of well-formedness on one table, every entry judged.
 ghost use mathlib.Core.Path.{_≡_};
+ghost use Prim.Native.Nat.{ℕ};
+ghost use lib.Dec.{ltb};
 ghost use Rattle.lists.specs.Folds.{every};
 ghost use Rattle.rules.specs.Bounds.{nameOk, numberOk, distOk};
+ghost use Rattle.rules.specs.Fits.{linksFit};
 ghost use Rattle.values.specs.Tops.{topOf};
 
 // The greatest entry, each raised by `more`: by 1 an absent one becomes 0. A loop without a way out is taken several words at a time.
@@ -37,4 +40,28 @@ pub fn dists_ok(t: &[u16]) -> bool
     ensures { λ r. ⌜ r ≡ every distOk (now (t .entry)) ⌝ }
 {
     top(1, t) <= 2049
+}
+
+// Every entry is below `count`.
+fn all_below(count: u16, t: &[u16]) -> bool
+    ensures { λ r. ⌜ r ≡ every (λ (x : ℕ). ltb x count) (now (t .entry)) ⌝ }
+{
+    if count == 0 {
+        return t.len() == 0;
+    }
+    top(0, t) <= count - 1
+}
+
+// There are at most 1,024 links, and each end is one of so many units.
+pub fn links_fit(units: u16, links: u16, ends: &[u16]) -> bool
+    ensures { λ r. ⌜ r ≡ linksFit units links (now (ends .entry)) ⌝ }
+{
+    if 1024 < links {
+        return false;
+    }
+    let count = 2 * (links as usize);
+    if ends.len() < count {
+        return all_below(units, ends);
+    }
+    all_below(units, &ends[..count])
 }

@@ -8,6 +8,7 @@ pub mod arcs;
 pub mod bounds;
 pub mod counts;
 pub mod firsts;
+pub mod propagation;
 pub mod tables;
 
 // `x` where the test holds, else `y`.
