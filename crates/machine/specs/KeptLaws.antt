@@ -1,38 +1,28 @@
 -- Laws by which the code that judges a state goes.
 use mathlib.Core.Path.{_≡_, refl, sym, ap, _∙_}
-use mathlib.Core.Bool.{Bool, true, _&&_, and-true, and-assoc}
+use mathlib.Core.Bool.{Bool, true, false, _&&_, and-true, and-assoc}
 use mathlib.Core.List.{List, [], _∷_, _++_}
-use Prim.Native.Nat.{ℕ, _*_, _≤_}
-use lib.Dec.{eqb, leb}
-use lib.ListN.{take}
-use borrow.Author.Tests.{eqb-true}
+use Prim.Native.Nat.{ℕ, _*_, _≤_, min}
+use native.Mathlib.Omega.{arith}
 use Rattle.lists.specs.All.{every-exact}
 use Rattle.lists.specs.Folds.{every}
-use Rattle.lists.specs.Tests.{and-right}
-use Rattle.table.specs.Table.{maxLinks, tableRefusal}
 use Rattle.table.specs.Passes.{passes}
 use Rattle.rules.specs.Fits.{linksFit, within-fit}
 use Rattle.rules.specs.Bounds.{nameOk, numberOk, distOk}
 use Rattle.rules.specs.BoundLaws.{Names, name-exact}
 use Rattle.machine.specs.State.{State}
-use Rattle.state.specs.declared.groups.Table.{Table}
 use Rattle.machine.specs.State.{units, links, words}
-use Rattle.machine.specs.WellFormed.{arcTables, numberTables, tableOk, entriesOk, wellFormed}
+use Rattle.rules.specs.Ceilings as Ceilings
+use Rattle.machine.specs.Step.{countdown}
+use Rattle.machine.specs.WellFormed.{arcTables, numberTables, tableOk, clockOk, entriesOk, wellFormed}
 use Rattle.machine.specs.Kept.{Kept, kept-exact}
 
--- a table that passes has at most 256 units
-pub table-units : (t : Table) → tableOk t ≡ true → t .units ≤ 256
-unfolding tableOk
-table-units t e =
-    passes (t .units) (take (2 * t .links) (t .ends))
-    (eqb-true _ 0 (and-right (leb (t .links) maxLinks) (eqb (tableRefusal (t .units) (take (2 * t .links) (t .ends))) 0) e))
-    .fewUnits
-
--- what the countdown of a well-formed state asks
-pub kept-clock : (s : State) → wellFormed s ≡ true → (units s ≤ 256) × ((1 ≤ s .clock .stage) × (s .clock .stage ≤ 11))
-kept-clock s w =
-    let k : Kept s = kept-exact s .0 w in
-    (passes (units s) (words s) (k .passes) .fewUnits, (k .from, k .to))
+-- a well-formed state has at most 256 units, so that its countdown is what the code counts
+pub kept-countdown : (s : State) → wellFormed s ≡ true → Ceilings.countdown (min (units s) 256) (s .clock .stage) (s .clock .made) ≡ countdown s
+kept-countdown s w =
+    let few : units s ≤ 256 = passes (units s) (words s) (kept-exact s .0 w .passes) .fewUnits in
+    let all : min (units s) 256 ≡ units s = omega (arith, few) in
+    rw all refl
 
 -- a test of every entry of two lists in a row
 every-append : {A : Type 0} (p : A → Bool) (s t : List A) → every p (s ++ t) ≡ (every p s && every p t)
@@ -40,16 +30,16 @@ every-append p [] t = refl
 every-append p (x ∷ s) t = rw (every-append p s t) (sym (and-assoc (p x) (every p s) (every p t)))
 
 -- the tables of units after the ends, and the tables of numbers in three groups: what the code judges together
-abbrev pub otherUnitTables : State → List (List ℕ)
+abbrev otherUnitTables : State → List (List ℕ)
 otherUnitTables s = s .components .color ∷ s .tree .parent ∷ s .aux .color ∷ s .labels .class ∷ []
 
-abbrev pub sumTables : State → List (List ℕ)
+abbrev sumTables : State → List (List ℕ)
 sumTables s = s .ranking .sum ∷ s .order .forward ∷ s .order .nd ∷ s .order .pre ∷ []
 
-abbrev pub rangeTables : State → List (List ℕ)
+abbrev rangeTables : State → List (List ℕ)
 rangeTables s = s .range .low ∷ s .range .high ∷ s .range .little ∷ s .range .big ∷ []
 
-abbrev pub joinTables : State → List (List ℕ)
+abbrev joinTables : State → List (List ℕ)
 joinTables s = s .global .low ∷ s .global .high ∷ s .aux .parents ∷ s .aux .links ∷ []
 
 numbers-parts : (s : State)
@@ -59,7 +49,7 @@ numbers-parts s =
     every-append (every numberOk) (sumTables s) (rangeTables s ++ joinTables s)
     ∙ ap (λ (b : Bool). every (every numberOk) (sumTables s) && b) (every-append (every numberOk) (rangeTables s) (joinTables s))
 
-pub entries-parts : (s : State)
+entries-parts : (s : State)
     → (every (nameOk (units s)) (s .table .ends)
     && every (every (nameOk (units s))) (otherUnitTables s)
     && every (every (nameOk (2 * units s))) (arcTables s)
@@ -82,3 +72,24 @@ pub parents-fit : (s : State) → wellFormed s ≡ true → every (nameOk (units
 parents-fit s w =
     let k : Kept s = kept-exact s .0 w in
     every-exact (nameOk (units s)) (Names (units s)) (name-exact (units s)) (s .tree .parent) .1 (k .unitNames .1 .1 .0)
+
+-- the whole test, part by part: a front that fails,
+pub kept-front : (s : State) → (tableOk (s .table) && clockOk (units s) (s .clock)) ≡ false → wellFormed s ≡ false
+unfolding wellFormed
+kept-front s e = rw e refl
+
+-- and one that passes, with the entries by what they are
+pub kept-parts : (s : State) (e f a l d n1 n2 n3 x1 x2 x3 x4 x5 x6 r : Bool) → (tableOk (s .table) && clockOk (units s) (s .clock)) ≡ true
+    → e ≡ every (nameOk (units s)) (s .table .ends)
+    → f ≡ every (every (nameOk (units s))) (otherUnitTables s)
+    → a ≡ every (every (nameOk (2 * units s))) (arcTables s)
+    → l ≡ every (nameOk (links s)) (s .labels .label)
+    → d ≡ every distOk (s .tree .dist)
+    → n1 ≡ every (every numberOk) (sumTables s)
+    → n2 ≡ every (every numberOk) (rangeTables s)
+    → n3 ≡ every (every numberOk) (joinTables s)
+    → x1 ≡ (e && f) → x2 ≡ (x1 && a) → x3 ≡ (x2 && l) → x4 ≡ (x3 && d) → x5 ≡ (n2 && n3) → x6 ≡ (n1 && x5) → r ≡ (x4 && x6)
+    → r ≡ wellFormed s
+unfolding wellFormed
+kept-parts s e f a l d n1 n2 n3 x1 x2 x3 x4 x5 x6 r front he hf ha hl hd h1 h2 h3 y1 y2 y3 y4 y5 y6 y7 =
+    rw (y7, y6, y5, y4, y3, y2, y1) (rw (he, hf, ha, hl, hd, h1, h2, h3) (rw front (entries-parts s)))

@@ -1,120 +1,96 @@
-// Whether a state is well formed (document 01: kept), told of every state. Each function is a definition of specs/WellFormed.antt.
-use super::clock;
-use super::state::Clock;
-use super::state::Survey;
+// Whether a state is well formed (document 01: kept), told of every state where its tables stand.
+use super::whole::Survey;
+use state::Clock;
 use values::bounds;
 ghost use mathlib.Core.Path.{_≡_};
 ghost use mathlib.Core.List.{[], _∷_};
-ghost use Prim.Native.Nat.{_≤_};
-ghost use lib.ListN.{length, take};
 ghost use Rattle.lists.specs.Folds.{every};
-ghost use Rattle.table.specs.Table.{tableRefusal};
 ghost use Rattle.rules.specs.Bounds.{nameOk, numberOk};
-ghost use Rattle.survey.specs.WellFormed.{tableOk, madeOk, clockOk, wellFormed};
-
-const FINISHED: u16 = 11;
+ghost use Rattle.machine.specs.WellFormed.{wellFormed};
+ghost use Rattle.survey.specs.View.{of};
 
 impl Survey {
-    // The tables are judged where they stand, without a copy of the state.
     pub fn well_formed(self) -> bool
-        ensures { λ r. ⌜ r ≡ wellFormed self ⌝ }
+        ensures { λ r. ⌜ r ≡ wellFormed (of self) ⌝ }
     {
-        let units = self.table.units;
-        let links = self.table.links;
-        if !table_ok(units, links, &self.table.ends) {
-            return false;
-        }
-        // Only a table that passes has units few enough for ceilings.
-        if !clock_ok(units, self.clock) {
-            return false;
-        }
-        let count = units as u32;
-        let positions = links as u32;
-        let ends = bounds::names_ok(count, &self.table.ends);
-        let named = four_ok(
-            count,
+        kept(
+            self.table.units,
+            self.table.links,
+            self.clock,
+            &self.table.ends,
             &self.components.color,
             &self.tree.parent,
-            &self.aux.color,
-            &self.labels.class,
-        );
-        let arcs = three_ok(
-            2 * count,
+            &self.tree.dist,
             &self.tour.next,
             &self.tour.pred,
             &self.ranking.jump,
-        );
-        let labels = bounds::names_ok(positions, &self.labels.label);
-        let dists = bounds::dists_ok(&self.tree.dist);
-        let sums = numbers_ok(
             &self.ranking.sum,
             &self.order.forward,
             &self.order.nd,
             &self.order.pre,
-        );
-        let ranges = numbers_ok(
             &self.range.low,
             &self.range.high,
             &self.range.little,
             &self.range.big,
-        );
-        let joins = numbers_ok(
             &self.global.low,
             &self.global.high,
             &self.aux.parents,
             &self.aux.links,
-        );
-        let names = values::both(values::both(values::both(ends, named), arcs), labels);
-        values::both(
-            values::both(names, dists),
-            values::both(sums, values::both(ranges, joins)),
+            &self.aux.color,
+            &self.labels.class,
+            &self.labels.label,
         )
     }
 }
 
-fn table_ok(units: u16, links: u16, ends: &[u16]) -> bool
-    requires { ⌜ length (now ends) ≡ 2048 ⌝ }
-    ensures { λ r. ⌜ r ≡ tableOk (record { units = units; links = links; ends = now (ends .entry) }) ⌝ }
+// The same of a state's numbers and tables, lent one by one: no copy is made.
+fn kept<'a>(
+    units: u16,
+    links: u16,
+    clock: Clock,
+    ends: &'a [u16; 2048],
+    color: &'a [u16; 256],
+    parent: &'a [u16; 256],
+    dist: &'a [u16; 256],
+    next: &'a [u16; 512],
+    pred: &'a [u16; 512],
+    jump: &'a [u16; 512],
+    sum: &'a [u16; 512],
+    forward: &'a [u16; 512],
+    nd: &'a [u16; 256],
+    pre: &'a [u16; 256],
+    low: &'a [u16; 256],
+    high: &'a [u16; 256],
+    little: &'a [u16; 256],
+    big: &'a [u16; 256],
+    least: &'a [u16; 256],
+    greatest: &'a [u16; 256],
+    parents: &'a [u16; 256],
+    linked: &'a [u16; 1024],
+    classes: &'a [u16; 256],
+    class: &'a [u16; 1024],
+    label: &'a [u16; 1024],
+) -> bool
+    ensures { λ r. ⌜ r
+        ≡ wellFormed (record { table = record { units = units; links = links; ends = now (ends .entry) }; clock = clock; components = record { color = now (color .entry) }; tree = record { parent = now (parent .entry); dist = now (dist .entry) }; tour = record { next = now (next .entry); pred = now (pred .entry) }; ranking = record { jump = now (jump .entry); sum = now (sum .entry) }; order = record { forward = now (forward .entry); nd = now (nd .entry); pre = now (pre .entry) }; range = record { low = now (low .entry); high = now (high .entry); little = now (little .entry); big = now (big .entry) }; global = record { low = now (least .entry); high = now (greatest .entry) }; aux = record { parents = now (parents .entry); links = now (linked .entry); color = now (classes .entry) }; labels = record { class = now (class .entry); label = now (label .entry) } }) ⌝ }
 {
-    if 1024 < links {
+    if !clock::front_ok(units, links, ends, clock) {
         return false;
     }
-    refusal_of(units, 2 * (links as usize), ends) == 0
-}
-
-// The number of the first check that the first words fail.
-fn refusal_of(units: u16, words: usize, ends: &[u16]) -> u8
-    requires { ⌜ words ≤ length (now ends) ⌝ }
-    ensures { λ r. ⌜ r ≡ tableRefusal units (take words (now (ends .entry))) ⌝ }
-{
-    table::refusal(units, &ends[..words])
-}
-
-fn clock_ok(units: u16, c: Clock) -> bool
-    requires { ⌜ units ≤ 256 ⌝ }
-    ensures { λ r. ⌜ r ≡ clockOk units c ⌝ }
-{
-    if c.stage < 1 {
-        return false;
-    }
-    if FINISHED < c.stage {
-        return false;
-    }
+    let count = units as u32;
+    let ended = bounds::names_ok(count, ends);
+    let named = four_ok(count, color, parent, classes, class);
+    let arcs = three_ok(2 * count, next, pred, jump);
+    let labels = bounds::names_ok(links as u32, label);
+    let dists = bounds::dists_ok(dist);
+    let sums = numbers_ok(sum, forward, nd, pre);
+    let ranges = numbers_ok(low, high, little, big);
+    let joins = numbers_ok(least, greatest, parents, linked);
+    let names = values::both(values::both(values::both(ended, named), arcs), labels);
     values::both(
-        values::both(made_ok(units, c), c.rounds <= Survey::MAX_ROUNDS),
-        c.requests <= Survey::MAX_REQUESTS,
+        values::both(names, dists),
+        values::both(sums, values::both(ranges, joins)),
     )
-}
-
-fn made_ok(units: u16, c: Clock) -> bool
-    requires { ⌜ (units ≤ 256) × ((1 ≤ c .stage) × (c .stage ≤ 11)) ⌝ }
-    ensures { λ r. ⌜ r ≡ madeOk units c ⌝ }
-{
-    if c.stage == FINISHED {
-        c.made == 0
-    } else {
-        c.made < clock::ceiling(units, c.stage)
-    }
 }
 
 // Every entry of three tables names one of `count` things or is absent.

@@ -1,20 +1,21 @@
 // A state that was never loaded, and loading: 4 to 9.
-use super::reply::Answer;
-use super::reply::Reply;
-use super::state::Survey;
-use super::state::Table;
+use super::answer::Answer;
+use super::whole::Survey;
+use state::Reply;
+use state::Table;
 ghost use mathlib.Core.Path.{_≡_};
 ghost use mathlib.Core.List.{_++_};
 ghost use Prim.Native.Nat.{_≤_};
 ghost use lib.ListN.{length, drop};
 ghost use Rattle.table.specs.Table.{tableRefusal};
-ghost use Rattle.survey.specs.Load.{absents, loaded, unloaded};
-ghost use Rattle.survey.specs.Calls.{loadAnswer};
+ghost use Rattle.machine.specs.Load.{absents, loaded, unloaded};
+ghost use Rattle.machine.specs.Calls.{loadAnswer};
+ghost use Rattle.survey.specs.View.{of, answerOf};
 
 impl Survey {
     // Of no unit: not well formed, so that every call but load is refused with 10.
     pub fn new() -> Survey
-        ensures { λ r. ⌜ r ≡ unloaded ⌝ }
+        ensures { λ r. ⌜ of r ≡ unloaded ⌝ }
     {
         Survey::begun(Table {
             units: 0,
@@ -25,7 +26,7 @@ impl Survey {
 
     // On a refusal the state comes back as given.
     pub fn load(self, units: u16, table: &[u16]) -> Answer
-        ensures { λ r. ⌜ r ≡ loadAnswer units (now (table .entry)) self ⌝ }
+        ensures { λ r. ⌜ answerOf r ≡ loadAnswer (record { units = units; words = now (table .entry) }) (of self) ⌝ }
     {
         let refused = table::refusal(units, table);
         if refused != 0 {
@@ -44,7 +45,7 @@ impl Survey {
 // The state of a table that passes.
 fn loaded(units: u16, table: &[u16]) -> Survey
     requires { ⌜ tableRefusal units (now table) ≡ 0 ⌝ }
-    ensures { λ r. ⌜ r ≡ loaded units (now (table .entry)) ⌝ }
+    ensures { λ r. ⌜ of r ≡ loaded (record { units = units; words = now (table .entry) }) ⌝ }
 {
     let mut ends = blank();
     copy_in(table, &mut ends);

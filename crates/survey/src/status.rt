@@ -1,14 +1,14 @@
 // Status: 10.
-use super::clock;
-use super::reply::Answer;
-use super::reply::Reply;
-use super::state::Survey;
+use super::answer::Answer;
+use super::whole::Survey;
+use state::Reply;
 ghost use mathlib.Core.Path.{_≡_};
-ghost use Rattle.survey.specs.Calls.{statusAnswer};
+ghost use Rattle.machine.specs.Calls.{statusAnswer};
+ghost use Rattle.survey.specs.View.{of, answerOf};
 
 impl Survey {
     pub fn status(self) -> Answer
-        ensures { λ r. ⌜ r ≡ statusAnswer self ⌝ }
+        ensures { λ r. ⌜ answerOf r ≡ statusAnswer (of self) ⌝ }
     {
         if !self.well_formed() {
             return Answer {

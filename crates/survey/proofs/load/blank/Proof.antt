@@ -1,6 +1,6 @@
 -- The list that the definition gives.
 use mathlib.Core.Path.{refl}
-use Rattle.survey.specs.Load.{absents}
+use Rattle.machine.specs.Load.{absents}
 use Rattle.survey.proofs.load.blank.Statement.{statement}
 use Rattle.survey.proofs.load.blank.Tie as tie
 

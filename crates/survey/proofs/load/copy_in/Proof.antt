@@ -6,7 +6,7 @@ use native.Mathlib.Omega.{arith}
 use lib.ListN.{length, take, drop}
 use lib.Seq.{take-length}
 use borrow.Author.Needs.{needs}
-use Rattle.survey.specs.LoadLaws.{copy-one}
+use Rattle.machine.specs.LoadLaws.{copy-one}
 use Rattle.survey.proofs.load.copy_in.Statement.{statement}
 use Rattle.survey.proofs.load.copy_in.Tie as tie
 

@@ -2,8 +2,8 @@
 use mathlib.Core.Path.{refl}
 use native.Mathlib.Omega.{arith}
 use borrow.Author.Needs.{needs}
-use Rattle.survey.specs.Load.{loaded}
-use Rattle.survey.specs.LoadLaws.{passed-fits, length-absents}
+use Rattle.machine.specs.Load.{loaded}
+use Rattle.machine.specs.LoadLaws.{passed-fits, length-absents}
 use Rattle.survey.proofs.load.loaded.Statement.{statement}
 use Rattle.survey.proofs.load.loaded.Tie as tie
 

@@ -1,0 +1,28 @@
+-- By whether the state is well formed.
+use mathlib.Core.Path.{sym, ap, _∙_}
+use borrow.Author.Tests.{not-true, not-false}
+use borrow.Author.Needs.{needs}
+use Rattle.machine.specs.KeptLaws.{kept-countdown}
+use Rattle.machine.specs.AnswerLaws.{status-refused, status-made}
+use Rattle.survey.specs.View.{of}
+use Rattle.survey.proofs.whole.Survey.status.Statement.{statement}
+use Rattle.survey.proofs.whole.Survey.status.Tie as tie
+
+well-formed-requires : tie.Need-well-formed-requires
+well-formed-requires c κs = search needs
+
+returns : tie.Need-returns
+returns c = status-refused (of (c .before .before .args .self)) (sym (c .before .well-formed .ensures) ∙ not-true _ (c .if1 .taken))
+
+countdown-requires : tie.Need-countdown-requires
+countdown-requires c κs = search needs
+
+returns-2 : tie.Need-returns-2
+returns-2 c =
+    let w = c .before .before .before in
+    let s = of (w .before .args .self) in
+    let well = sym (w .well-formed .ensures) ∙ not-false _ (c .before .before .if1 .left) in
+    rw (c .countdown .ensures ∙ kept-countdown s well) (status-made s well)
+
+pub status-spec : {M : Type 1} → statement M
+status-spec = tie.close (tie.spec well-formed-requires returns countdown-requires returns-2)
