@@ -55,6 +55,9 @@ abbrev pub MAX-REQUESTS : ℕ
 MAX-REQUESTS = 8158
 
 -- the state with one group replaced
+abbrev pub withTable : Table → State → State
+withTable new s = record { table = new; clock = s .clock; components = s .components; tree = s .tree; tour = s .tour; ranking = s .ranking; order = s .order; range = s .range; global = s .global; aux = s .aux; labels = s .labels }
+
 abbrev pub withClock : Clock → State → State
 withClock new s = record { table = s .table; clock = new; components = s .components; tree = s .tree; tour = s .tour; ranking = s .ranking; order = s .order; range = s .range; global = s .global; aux = s .aux; labels = s .labels }
 

@@ -5,10 +5,10 @@ use Prim.Native.Nat.{_≤_, _-_}
 use native.Mathlib.Omega.{arith}
 use lib.ListN.{length, drop}
 use borrow.Author.Needs.{needs}
-use Rattle.lent.specs.Layout.{part}
-use Rattle.lent.specs.CopyLaws.{copy-begin, copy-next, copy-end}
-use Rattle.lent.proofs.unpack.copy.Statement.{statement}
-use Rattle.lent.proofs.unpack.copy.Tie as tie
+use Rattle.words.specs.Layout.{part}
+use Rattle.words.specs.CopyLaws.{copy-begin, copy-next, copy-end}
+use Rattle.words.proofs.copies.copy.Statement.{statement}
+use Rattle.words.proofs.copies.copy.Tie as tie
 
 abbrev Inv-loop : tie.InvT-loop
 Inv-loop words at to₀ i₀ to i =

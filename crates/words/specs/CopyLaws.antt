@@ -7,8 +7,7 @@ use native.Mathlib.Omega.{arith}
 use lib.ListN.{length, getD, set, take, drop, length-drop}
 use lib.Seq.{length-take-le, take-suc, getD-drop, paste, paste-zero, paste-suc, take-length, drop-length}
 use Rattle.lists.specs.Puts.{put-one}
-use Rattle.lent.specs.Layout.{part}
-use Rattle.lent.specs.Laid.{laid}
+use Rattle.words.specs.Layout.{part, laid}
 
 -- ---- a part out of words
 

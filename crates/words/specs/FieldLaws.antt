@@ -6,18 +6,16 @@ use Prim.Native.Nat.{ℕ, zero, suc, _+_, _-_, _≤_, _<_}
 use native.Mathlib.Omega.{arith}
 use lib.Dec.{T, eqb, ltb, ltb→lt, lit<}
 use lib.ListN.{length, getD, take, drop, length-append, length-drop, take-append-drop}
-use lib.Seq.{take-at, drop-at, take-append-le, drop-append-le, length-take-le, drop-drop}
+use lib.Seq.{take-at, drop-at, take-append-le, drop-append-le, length-take-le, drop-drop, getD-take, getD-drop}
 use borrow.Author.Tests.{eqb-true, eqb-false, ltb-true, ltb-false}
-use Rattle.lent.specs.Layout
-use Rattle.lent.specs.Layout.{STATE-WORDS, part, surveyOf}
-use Rattle.lent.specs.Laid.{laid}
-use Rattle.lent.specs.Parts.{word-of}
-use Rattle.lent.specs.Fields.{sizes, total, size, place, field, stateBy, laidAll, chosen, Fits, AllFit}
+use Rattle.lists.specs.All.{All}
+use Rattle.machine.specs.State.{State}
+use Rattle.words.specs.Layout.{sizes, extent, size, place, part, field, STATE-WORDS, stateBy, stateOf, laid}
 
 -- ---- where fields lie
 
 -- a part ends where or before any later one begins
-ends-before : (ns : List ℕ) (i j : ℕ) → i < j → total (take i ns) + getD ns i 0 ≤ total (take j ns)
+ends-before : (ns : List ℕ) (i j : ℕ) → i < j → extent (take i ns) + getD ns i 0 ≤ extent (take j ns)
 ends-before [] zero zero h = omega arith
 ends-before [] zero (suc j) h = omega arith
 ends-before [] (suc i) zero h = omega arith
@@ -26,7 +24,7 @@ ends-before (n ∷ ns) zero zero h = omega arith
 ends-before (n ∷ ns) zero (suc j) h = omega arith
 ends-before (n ∷ ns) (suc i) zero h = omega arith
 ends-before (n ∷ ns) (suc i) (suc j) h =
-    let r : total (take i ns) + getD ns i 0 ≤ total (take j ns) = ends-before ns i j (omega arith) in
+    let r : extent (take i ns) + getD ns i 0 ≤ extent (take j ns) = ends-before ns i j (omega arith) in
     omega arith
 
 within : (i : ℕ) → i < 24 → place i + size i ≤ STATE-WORDS
@@ -44,7 +42,7 @@ module _ (at : ℕ) (xs ws : List ℕ) (fits : at + length xs ≤ length ws) whe
   front : length (take at ws ++ xs) ≡ at + length xs
   front = length-append (take at ws) xs ∙ ap (λ (k : ℕ). k + length xs) (length-take-le at ws (omega (arith, fits)))
 
-  pub laid-length : length (laid at xs ws) ≡ length ws
+  laid-length : length (laid at xs ws) ≡ length ws
   unfolding laid
   laid-length =
       length-append (take at ws ++ xs) (drop (at + length xs) ws) ∙ omega (arith, front, length-drop (at + length xs) ws, fits)
@@ -79,6 +77,10 @@ module _ (at : ℕ) (xs ws : List ℕ) (fits : at + length xs ≤ length ws) whe
       ∙ (ap (λ (l : List ℕ). drop d l) (drop-at (take at ws ++ xs) (drop (at + length xs) ws) (at + length xs) front)
       ∙ (drop-drop d (at + length xs) ws ∙ ap (λ (k : ℕ). drop k ws) e))) in
       ap (λ (l : List ℕ). take n l) rest
+
+-- there is such a field, and the table is as long
+abbrev pub Fits : ℕ × List ℕ → Type 0
+Fits p = T (ltb (p .0) 24) × (length (p .1) ≡ size (p .0))
 
 one-laid : (p : ℕ × List ℕ) (ws : List ℕ) → length ws ≡ STATE-WORDS → Fits p → length (laid (place (p .0)) (p .1) ws) ≡ STATE-WORDS
 one-laid p ws state fit = laid-length (place (p .0)) (p .1) ws (rw (fit .1, state) (within (p .0) (ltb→lt (p .0) 24 (fit .0)))) ∙ state
@@ -115,17 +117,26 @@ same-fields f g same =
     at j h = same j (ltb→lt j 24 h)
 
 -- a number among the counts or in the clock
-number-in : (at n i : ℕ) (ws : List ℕ) → i < n → getD ws (at + i) 0 ≡ getD (part at n ws) i 0
-number-in at n i ws h = word-of (record { same = refl }) i h
-
-pub survey-by : (ws : List ℕ) → surveyOf ws ≡ stateBy (λ (i : ℕ). field i ws)
-unfolding surveyOf Layout.tableAt Layout.componentsAt Layout.treeAt Layout.tourAt Layout.rankingAt Layout.orderAt Layout.rangeAt Layout.globalAt Layout.auxAt Layout.labelsAt
-survey-by ws =
-    rw (number-in 0 2 0 ws (lit< tt), number-in 0 2 1 ws (lit< tt), number-in 2050 4 0 ws (lit< tt), number-in 2050 4 1 ws (lit< tt), number-in 2050 4 2 ws (lit< tt), number-in 2050 4 3 ws (lit< tt)) refl
+pub number-in : (at n i : ℕ) (ws : List ℕ) → i < n → getD ws (at + i) 0 ≡ getD (part at n ws) i 0
+unfolding part
+number-in at n i ws h = sym (getD-take n (drop at ws) i 0 h ∙ getD-drop at ws i 0)
 
 -- ---- fields laid over words
 
-pub all-laid : (ps : List (ℕ × List ℕ)) (ws : List ℕ) → length ws ≡ STATE-WORDS → AllFit ps → length (laidAll ps ws) ≡ STATE-WORDS
+-- the words after each pair (i, t) in turn: t is field i
+abbrev pub laidAll : List (ℕ × List ℕ) → List ℕ → List ℕ
+laidAll [] ws = ws
+laidAll (p ∷ ps) ws = laidAll ps (laid (place (p .0)) (p .1) ws)
+
+-- what field j is after that: the last table laid there, or the old one
+abbrev pub chosen : List (ℕ × List ℕ) → ℕ → List ℕ → List ℕ
+chosen [] j old = old
+chosen (p ∷ ps) j old = chosen ps j (cond (eqb (p .0) j) (p .1) old)
+
+abbrev pub AllFit : List (ℕ × List ℕ) → Type 0
+AllFit ps = All Fits ps
+
+all-laid : (ps : List (ℕ × List ℕ)) (ws : List ℕ) → length ws ≡ STATE-WORDS → AllFit ps → length (laidAll ps ws) ≡ STATE-WORDS
 all-laid [] ws state fit = state
 all-laid (p ∷ ps) ws state fit = all-laid ps (laid (place (p .0)) (p .1) ws) (one-laid p ws state (fit .0)) (fit .1)
 
@@ -138,7 +149,7 @@ fields-after (p ∷ ps) ws state fit j h =
 
 -- the state after fields were laid: each is the last table laid there, or the old one
 pub laid-fields : (ps : List (ℕ × List ℕ)) (ws : List ℕ) → length ws ≡ STATE-WORDS → AllFit ps
-    → surveyOf (laidAll ps ws) ≡ stateBy (λ (j : ℕ). chosen ps j (field j ws))
+    → stateOf (laidAll ps ws) ≡ stateBy (λ (j : ℕ). chosen ps j (field j ws))
+unfolding stateOf
 laid-fields ps ws state fit =
-    survey-by (laidAll ps ws)
-    ∙ same-fields (λ (j : ℕ). field j (laidAll ps ws)) (λ (j : ℕ). chosen ps j (field j ws)) (fields-after ps ws state fit)
+    same-fields (λ (j : ℕ). field j (laidAll ps ws)) (λ (j : ℕ). chosen ps j (field j ws)) (fields-after ps ws state fit)

@@ -5,9 +5,9 @@ use native.Mathlib.Omega.{arith}
 use lib.ListN.{length}
 use lib.Seq.{paste}
 use borrow.Author.Needs.{needs}
-use Rattle.lent.specs.CopyLaws.{lay-begin, lay-next, lay-end}
-use Rattle.lent.proofs.pack.lay.Statement.{statement}
-use Rattle.lent.proofs.pack.lay.Tie as tie
+use Rattle.words.specs.CopyLaws.{lay-begin, lay-next, lay-end}
+use Rattle.words.proofs.copies.lay.Statement.{statement}
+use Rattle.words.proofs.copies.lay.Tie as tie
 
 abbrev Inv-loop : tie.InvT-loop
 Inv-loop table at words₀ i₀ words i =

@@ -1,0 +1,24 @@
+-- One field.
+use mathlib.Core.Path.{refl}
+use mathlib.Core.List.{[], _∷_}
+use Rattle.words.specs.Layout.{stateOf}
+use Rattle.words.specs.FieldLaws.{laid-fields}
+use borrow.Author.Needs.{needs}
+use Rattle.words.proofs.lay.lay_clock.Statement.{statement}
+use Rattle.words.proofs.lay.lay_clock.Tie as tie
+
+slice-aggregate-lay : tie.Need-slice-aggregate-lay
+slice-aggregate-lay c = search needs
+
+lay-requires : tie.Need-lay-requires
+lay-requires c κs = search needs
+
+returns : tie.Need-returns
+unfolding stateOf
+returns c = 
+    let a = c .before .before .before .args in
+    let k = a .c in
+    rw (c .lay .ensures) (laid-fields ((2, k .stage ∷ k .made ∷ k .rounds ∷ k .requests ∷ []) ∷ []) (a .words .now) (search needs) ((tt, refl), tt))
+
+pub lay-clock-spec : {M : Type 1} → statement M
+lay-clock-spec = tie.close (tie.spec slice-aggregate-lay lay-requires returns)

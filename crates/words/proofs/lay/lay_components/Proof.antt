@@ -1,0 +1,20 @@
+-- The fields of the group, laid one after the other.
+use mathlib.Core.List.{[], _∷_}
+use Rattle.words.specs.Layout.{stateOf}
+use Rattle.words.specs.FieldLaws.{laid-fields}
+use borrow.Author.Needs.{needs}
+use Rattle.words.proofs.lay.lay_components.Statement.{statement}
+use Rattle.words.proofs.lay.lay_components.Tie as tie
+
+lay-requires : tie.Need-lay-requires
+lay-requires c κs = search needs
+
+returns : tie.Need-returns
+unfolding stateOf
+returns c =
+    let start = c .before .before .before .before .before in
+    let a = start .args in
+    rw (c .lay .ensures) (laid-fields ((3, a .t1 .color) ∷ []) (a .words .now) (search needs) ((tt, search needs), tt))
+
+pub lay-components-spec : {M : Type 1} → statement M
+lay-components-spec = tie.close (tie.spec lay-requires returns)

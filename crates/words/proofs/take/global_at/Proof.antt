@@ -1,0 +1,19 @@
+-- Table by table.
+use mathlib.Core.Path.{refl}
+use Rattle.words.specs.Layout.{stateOf}
+use borrow.Author.Needs.{needs}
+use Rattle.words.proofs.take.global_at.Statement.{statement}
+use Rattle.words.proofs.take.global_at.Tie as tie
+
+units-at-requires : tie.Need-units-at-requires
+units-at-requires c κs = search needs
+
+units-at-requires-2 : tie.Need-units-at-requires-2
+units-at-requires-2 c κs = search needs
+
+returns : tie.Need-returns
+unfolding stateOf
+returns c = rw (c .before .before .units-at .ensures, c .units-at2 .ensures) refl
+
+pub global-at-spec : {M : Type 1} → statement M
+global-at-spec = tie.close (tie.spec units-at-requires units-at-requires-2 returns)

@@ -1,0 +1,69 @@
+// Tables copied out of words and laid over them.
+ghost use mathlib.Core.Path.{_≡_};
+ghost use Prim.Native.Nat.{_+_, _≤_};
+ghost use lib.ListN.{length};
+ghost use Rattle.words.specs.Layout.{part, laid};
+
+// A table over the words from `at` on.
+pub(crate) fn lay(table: &[u16], at: usize, words: &mut [u16])
+    requires { ⌜ at + length (now table) ≤ length (now words) ⌝ }
+    ensures { λ _. ⌜ now (words .exit) ≡ laid at (now (table .entry)) (now (words .entry)) ⌝ }
+{
+    let mut i = 0;
+    while i < table.len() {
+        words[at + i] = table[i];
+        i += 1;
+    }
+}
+
+// The words from `at` on, as many as `to` takes.
+fn copy(words: &[u16], at: usize, to: &mut [u16])
+    requires { ⌜ at + length (now to) ≤ length (now words) ⌝ }
+    ensures { λ _. ⌜ now (to .exit) ≡ part at (length (now (to .entry))) (now (words .entry)) ⌝ }
+{
+    let mut i = 0;
+    while i < to.len() {
+        to[i] = words[at + i];
+        i += 1;
+    }
+}
+
+// Both ends of each link.
+pub(crate) fn ends_at(words: &[u16], at: usize) -> [u16; 2048]
+    requires { ⌜ at + 2048 ≤ length (now words) ⌝ }
+    ensures { λ r. ⌜ r ≡ part at 2048 (now (words .entry)) ⌝ }
+{
+    let mut table = [0; 2048];
+    copy(words, at, &mut table);
+    table
+}
+
+// A word a link.
+pub(crate) fn links_at(words: &[u16], at: usize) -> [u16; 1024]
+    requires { ⌜ at + 1024 ≤ length (now words) ⌝ }
+    ensures { λ r. ⌜ r ≡ part at 1024 (now (words .entry)) ⌝ }
+{
+    let mut table = [0; 1024];
+    copy(words, at, &mut table);
+    table
+}
+
+// A word an arc.
+pub(crate) fn arcs_at(words: &[u16], at: usize) -> [u16; 512]
+    requires { ⌜ at + 512 ≤ length (now words) ⌝ }
+    ensures { λ r. ⌜ r ≡ part at 512 (now (words .entry)) ⌝ }
+{
+    let mut table = [0; 512];
+    copy(words, at, &mut table);
+    table
+}
+
+// A word a unit.
+pub(crate) fn units_at(words: &[u16], at: usize) -> [u16; 256]
+    requires { ⌜ at + 256 ≤ length (now words) ⌝ }
+    ensures { λ r. ⌜ r ≡ part at 256 (now (words .entry)) ⌝ }
+{
+    let mut table = [0; 256];
+    copy(words, at, &mut table);
+    table
+}

@@ -1,0 +1,125 @@
+// The groups of a state, taken out of its words.
+use super::copies;
+use super::layout;
+use super::layout::STATE_WORDS;
+use state::Aux;
+use state::Clock;
+use state::Components;
+use state::Global;
+use state::Labels;
+use state::Order;
+use state::Range;
+use state::Ranking;
+use state::Table;
+use state::Tour;
+use state::Tree;
+ghost use mathlib.Core.Path.{_≡_};
+ghost use Rattle.words.specs.Layout.{stateOf};
+
+// The counts and the ends.
+pub fn table_at(words: &[u16; STATE_WORDS]) -> Table
+    ensures { λ r. ⌜ r ≡ stateOf (now (words .entry)) .table ⌝ }
+{
+    let ends = copies::ends_at(words, layout::ENDS);
+    Table {
+        units: words[layout::UNITS],
+        links: words[layout::LINKS],
+        ends,
+    }
+}
+
+// The clock.
+pub fn clock_at(words: &[u16; STATE_WORDS]) -> Clock
+    ensures { λ r. ⌜ r ≡ stateOf (now (words .entry)) .clock ⌝ }
+{
+    Clock {
+        stage: words[layout::CLOCK],
+        made: words[layout::CLOCK + 1],
+        rounds: words[layout::CLOCK + 2],
+        requests: words[layout::CLOCK + 3],
+    }
+}
+
+// Stage 1.
+pub fn components_at(words: &[u16; STATE_WORDS]) -> Components
+    ensures { λ r. ⌜ r ≡ stateOf (now (words .entry)) .components ⌝ }
+{
+    let color = copies::units_at(words, layout::COLOR);
+    Components { color }
+}
+
+// Stage 2.
+pub fn tree_at(words: &[u16; STATE_WORDS]) -> Tree
+    ensures { λ r. ⌜ r ≡ stateOf (now (words .entry)) .tree ⌝ }
+{
+    let parent = copies::units_at(words, layout::PARENT);
+    let dist = copies::units_at(words, layout::DIST);
+    Tree { parent, dist }
+}
+
+// Stage 3.
+pub fn tour_at(words: &[u16; STATE_WORDS]) -> Tour
+    ensures { λ r. ⌜ r ≡ stateOf (now (words .entry)) .tour ⌝ }
+{
+    let next = copies::arcs_at(words, layout::NEXT);
+    let pred = copies::arcs_at(words, layout::PRED);
+    Tour { next, pred }
+}
+
+// Stages 4 and 6.
+pub fn ranking_at(words: &[u16; STATE_WORDS]) -> Ranking
+    ensures { λ r. ⌜ r ≡ stateOf (now (words .entry)) .ranking ⌝ }
+{
+    let jump = copies::arcs_at(words, layout::JUMP);
+    let sum = copies::arcs_at(words, layout::SUM);
+    Ranking { jump, sum }
+}
+
+// Stages 5 and 6.
+pub fn order_at(words: &[u16; STATE_WORDS]) -> Order
+    ensures { λ r. ⌜ r ≡ stateOf (now (words .entry)) .order ⌝ }
+{
+    let forward = copies::arcs_at(words, layout::FORWARD);
+    let nd = copies::units_at(words, layout::ND);
+    let pre = copies::units_at(words, layout::PRE);
+    Order { forward, nd, pre }
+}
+
+// Stage 7.
+pub fn range_at(words: &[u16; STATE_WORDS]) -> Range
+    ensures { λ r. ⌜ r ≡ stateOf (now (words .entry)) .range ⌝ }
+{
+    let low = copies::units_at(words, layout::LOW);
+    let high = copies::units_at(words, layout::HIGH);
+    let little = copies::units_at(words, layout::LITTLE);
+    let big = copies::units_at(words, layout::BIG);
+    Range { low, high, little, big }
+}
+
+// Stage 7, the segments.
+pub fn global_at(words: &[u16; STATE_WORDS]) -> Global
+    ensures { λ r. ⌜ r ≡ stateOf (now (words .entry)) .global ⌝ }
+{
+    let low = copies::units_at(words, layout::LEAST);
+    let high = copies::units_at(words, layout::GREATEST);
+    Global { low, high }
+}
+
+// Stages 8 and 9.
+pub fn aux_at(words: &[u16; STATE_WORDS]) -> Aux
+    ensures { λ r. ⌜ r ≡ stateOf (now (words .entry)) .aux ⌝ }
+{
+    let parents = copies::units_at(words, layout::PARENTS);
+    let links = copies::links_at(words, layout::JOINED);
+    let color = copies::units_at(words, layout::CLASSES);
+    Aux { parents, links, color }
+}
+
+// Stage 10.
+pub fn labels_at(words: &[u16; STATE_WORDS]) -> Labels
+    ensures { λ r. ⌜ r ≡ stateOf (now (words .entry)) .labels ⌝ }
+{
+    let class = copies::links_at(words, layout::CLASS);
+    let label = copies::links_at(words, layout::LABEL);
+    Labels { class, label }
+}
