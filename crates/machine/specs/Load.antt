@@ -6,6 +6,16 @@ use Rattle.table.specs.Table.{linkCount, tableRefusal}
 use Rattle.rules.specs.Basics.{ABSENT}
 use Rattle.machine.specs.State.{State}
 use Rattle.state.specs.declared.groups.Table.{Table}
+use Rattle.state.specs.declared.groups.Clock.{Clock}
+use Rattle.state.specs.declared.groups.Components.{Components}
+use Rattle.state.specs.declared.groups.Tree.{Tree}
+use Rattle.state.specs.declared.groups.Tour.{Tour}
+use Rattle.state.specs.declared.groups.Ranking.{Ranking}
+use Rattle.state.specs.declared.groups.Order.{Order}
+use Rattle.state.specs.declared.groups.Range.{Range}
+use Rattle.state.specs.declared.groups.Global.{Global}
+use Rattle.state.specs.declared.groups.Aux.{Aux}
+use Rattle.state.specs.declared.groups.Labels.{Labels}
 
 -- k entries absent; k entries 0. Shut, so that goals do not spell them out
 unfoldable pub absents : ℕ → List ℕ
@@ -18,21 +28,53 @@ zeros k = replicate k 0
 abbrev pub endsOf : List ℕ → List ℕ
 endsOf t = t ++ drop (length t) (absents 2048)
 
+-- ---- each group before any round
+
+abbrev pub firstClock : Clock
+firstClock = record { stage = 1; made = 0; rounds = 0; requests = 0 }
+
+abbrev pub blankComponents : Components
+blankComponents = record { color = absents 256 }
+
+abbrev pub blankTree : Tree
+blankTree = record { parent = absents 256; dist = absents 256 }
+
+abbrev pub blankTour : Tour
+blankTour = record { next = absents 512; pred = absents 512 }
+
+abbrev pub blankRanking : Ranking
+blankRanking = record { jump = absents 512; sum = zeros 512 }
+
+abbrev pub blankOrder : Order
+blankOrder = record { forward = zeros 512; nd = zeros 256; pre = zeros 256 }
+
+abbrev pub blankRange : Range
+blankRange = record { low = zeros 256; high = zeros 256; little = zeros 256; big = zeros 256 }
+
+abbrev pub blankGlobal : Global
+blankGlobal = record { low = zeros 256; high = zeros 256 }
+
+abbrev pub blankAux : Aux
+blankAux = record { parents = zeros 256; links = zeros 1024; color = absents 256 }
+
+abbrev pub blankLabels : Labels
+blankLabels = record { class = absents 1024; label = absents 1024 }
+
 -- the state before any round over a table of links
 unfoldable pub begun : Table → State
 begun table =
     record {
       table = table;
-      clock = record { stage = 1; made = 0; rounds = 0; requests = 0 };
-      components = record { color = absents 256 };
-      tree = record { parent = absents 256; dist = absents 256 };
-      tour = record { next = absents 512; pred = absents 512 };
-      ranking = record { jump = absents 512; sum = zeros 512 };
-      order = record { forward = zeros 512; nd = zeros 256; pre = zeros 256 };
-      range = record { low = zeros 256; high = zeros 256; little = zeros 256; big = zeros 256 };
-      global = record { low = zeros 256; high = zeros 256 };
-      aux = record { parents = zeros 256; links = zeros 1024; color = absents 256 };
-      labels = record { class = absents 1024; label = absents 1024 };
+      clock = firstClock;
+      components = blankComponents;
+      tree = blankTree;
+      tour = blankTour;
+      ranking = blankRanking;
+      order = blankOrder;
+      range = blankRange;
+      global = blankGlobal;
+      aux = blankAux;
+      labels = blankLabels;
     }
 
 -- what a load takes: the unit count and the table's words
@@ -48,9 +90,13 @@ linksIn input = linkCount (input .words)
 abbrev pub loadRefusal : Input → ℕ
 loadRefusal input = tableRefusal (input .units) (input .words)
 
+-- the table of links that a load makes
+abbrev pub tableOf : Input → Table
+tableOf input = record { units = input .units; links = linksIn input; ends = endsOf (input .words) }
+
 -- the state that a load makes
 unfoldable pub loaded : Input → State
-loaded input = begun (record { units = input .units; links = linksIn input; ends = endsOf (input .words) })
+loaded input = begun (tableOf input)
 
 -- the state that was never loaded: no unit and no link
 unfoldable pub unloaded : State

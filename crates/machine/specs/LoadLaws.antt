@@ -1,12 +1,13 @@
 -- Laws of loading, and of the state that was never loaded.
-use mathlib.Core.Path.{_≡_, refl, _∙_}
+use mathlib.Core.Path.{_≡_, refl, sym, _∙_}
 use mathlib.Core.Bool.{true, false}
 use mathlib.Core.List.{List, _++_}
-use Prim.Native.Nat.{ℕ, _+_, _≤_, _<_}
+use Prim.Native.Nat.{ℕ, _+_, _≤_, _<_, min}
+use native.Mathlib.Decide.{decLe}
 use native.Mathlib.Numerals.{add-one}
 use native.Mathlib.Omega.{arith}
 use lib.ListN.{length, getD, set, take, drop, length-replicate}
-use lib.Seq.{length-take-le, take-suc}
+use lib.Seq.{length-take-le, take-suc, take-all}
 use Rattle.lists.specs.Puts.{put-one}
 use Rattle.lists.specs.Tests.{refuted}
 use Rattle.table.specs.Table.{tableRefusal}
@@ -39,3 +40,11 @@ unloaded-unkept = refuted (wellFormed unloaded) none
   where
     none : wellFormed unloaded ≡ true → ⊥
     none e = omega (arith, passes (units unloaded) (words unloaded) (kept-exact unloaded .0 e .passes) .someUnit)
+
+-- as many words as the array holds
+pub held-words : (count : ℕ) (t : List ℕ) → count ≡ min 2048 (length t) → take count t ≡ take 2048 t
+held-words count t e = go (decLe (length t) 2048)
+  where
+    go : Dec (length t ≤ 2048) → take count t ≡ take 2048 t
+    go (yes l) = take-all count t (omega (arith, e)) ∙ sym (take-all 2048 t l)
+    go (no l) = let all : count ≡ 2048 = omega (arith, e) in rw all refl

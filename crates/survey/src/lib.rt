@@ -2,8 +2,8 @@
 mod answer;
 mod kept;
 mod load;
-mod whole;
 mod status;
+mod whole;
 
 pub use answer::Answer;
 pub use whole::Survey;

@@ -38,53 +38,28 @@ impl Survey {
     pub fn begun(table: Table) -> Survey
         ensures { λ r. ⌜ of r ≡ begun table ⌝ }
     {
+        let clock = begin::clock();
+        let components = begin::components();
+        let tree = begin::tree();
+        let tour = begin::tour();
+        let ranking = begin::ranking();
+        let order = begin::order();
+        let range = begin::range();
+        let global = begin::global();
+        let aux = begin::aux();
+        let labels = begin::labels();
         Survey {
             table,
-            clock: Clock {
-                stage: 1,
-                made: 0,
-                rounds: 0,
-                requests: 0,
-            },
-            components: Components {
-                color: [65535; 256],
-            },
-            tree: Tree {
-                parent: [65535; 256],
-                dist: [65535; 256],
-            },
-            tour: Tour {
-                next: [65535; 512],
-                pred: [65535; 512],
-            },
-            ranking: Ranking {
-                jump: [65535; 512],
-                sum: [0; 512],
-            },
-            order: Order {
-                forward: [0; 512],
-                nd: [0; 256],
-                pre: [0; 256],
-            },
-            range: Range {
-                low: [0; 256],
-                high: [0; 256],
-                little: [0; 256],
-                big: [0; 256],
-            },
-            global: Global {
-                low: [0; 256],
-                high: [0; 256],
-            },
-            aux: Aux {
-                parents: [0; 256],
-                links: [0; 1024],
-                color: [65535; 256],
-            },
-            labels: Labels {
-                class: [65535; 1024],
-                label: [65535; 1024],
-            },
+            clock,
+            components,
+            tree,
+            tour,
+            ranking,
+            order,
+            range,
+            global,
+            aux,
+            labels,
         }
     }
 }

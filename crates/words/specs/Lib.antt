@@ -1,3 +1,5 @@
 pub mod Layout
+pub mod Begun
 pub mod FieldLaws
 pub mod CopyLaws
+pub mod Rows

@@ -51,3 +51,12 @@ pub(crate) const LABEL: usize = CLASS + 1024;
 
 // The words of a state.
 pub const STATE_WORDS: usize = LABEL + 1024;
+
+// Tables of one kind that stand in a row: units, list places, classes, and numbers.
+pub(crate) const TREES: usize = DIST - COLOR;
+
+pub(crate) const ARCS: usize = SUM - NEXT;
+
+pub(crate) const NUMBERS: usize = CLASSES - SUM;
+
+pub(crate) const NAMED: usize = LABEL - CLASSES;

@@ -1,9 +1,12 @@
 // A state in the words that a caller lends: where each table lies, its groups taken out and laid down, the words of a load, and the kept test.
 mod copies;
+mod judged;
 mod lay;
 mod layout;
+mod loading;
 mod take;
 
+pub use judged::kept;
 pub use lay::lay_aux;
 pub use lay::lay_clock;
 pub use lay::lay_components;
@@ -16,6 +19,7 @@ pub use lay::lay_table;
 pub use lay::lay_tour;
 pub use lay::lay_tree;
 pub use layout::STATE_WORDS;
+pub use loading::load;
 pub use take::aux_at;
 pub use take::clock_at;
 pub use take::components_at;

@@ -93,7 +93,12 @@ pub fn range_at(words: &[u16; STATE_WORDS]) -> Range
     let high = copies::units_at(words, layout::HIGH);
     let little = copies::units_at(words, layout::LITTLE);
     let big = copies::units_at(words, layout::BIG);
-    Range { low, high, little, big }
+    Range {
+        low,
+        high,
+        little,
+        big,
+    }
 }
 
 // Stage 7, the segments.
@@ -112,7 +117,11 @@ pub fn aux_at(words: &[u16; STATE_WORDS]) -> Aux
     let parents = copies::units_at(words, layout::PARENTS);
     let links = copies::links_at(words, layout::JOINED);
     let color = copies::units_at(words, layout::CLASSES);
-    Aux { parents, links, color }
+    Aux {
+        parents,
+        links,
+        color,
+    }
 }
 
 // Stage 10.

@@ -15,7 +15,7 @@ lay-requires c κs = search needs
 
 returns : tie.Need-returns
 unfolding stateOf
-returns c = 
+returns c =
     let a = c .before .before .before .args in
     let k = a .c in
     rw (c .lay .ensures) (laid-fields ((2, k .stage ∷ k .made ∷ k .rounds ∷ k .requests ∷ []) ∷ []) (a .words .now) (search needs) ((tt, refl), tt))

@@ -18,7 +18,7 @@ lay-requires-2 c κs = search needs
 
 returns : tie.Need-returns
 unfolding stateOf
-returns c = 
+returns c =
     let a = c .before .before .before .before .before .before .before .before .args in
     let t = a .t1 in
     rw (c .lay2 .ensures, c .before .before .before .before .before .lay .ensures)

@@ -39,7 +39,7 @@ element-copy-out-t19 c = search needs
 
 returns : tie.Need-returns
 unfolding stateOf
-returns c = 
+returns c =
     let ws = c .before .before .before .before .args .words .now in
     rw (number-in 2050 4 0 ws (lit< tt), number-in 2050 4 1 ws (lit< tt), number-in 2050 4 2 ws (lit< tt), number-in 2050 4 3 ws (lit< tt)) refl
 

@@ -18,7 +18,7 @@ element-copy-out-t10 c = search needs
 
 returns : tie.Need-returns
 unfolding stateOf
-returns c = 
+returns c =
     let ws = c .before .before .before .before .args .words .now in
     rw (number-in 0 2 0 ws (lit< tt), number-in 0 2 1 ws (lit< tt), c .before .before .ends-at .ensures) refl
 

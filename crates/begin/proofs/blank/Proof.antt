@@ -1,8 +1,8 @@
 -- The list that the definition gives.
 use mathlib.Core.Path.{refl}
 use Rattle.machine.specs.Load.{absents}
-use Rattle.survey.proofs.load.blank.Statement.{statement}
-use Rattle.survey.proofs.load.blank.Tie as tie
+use Rattle.begin.proofs.blank.Statement.{statement}
+use Rattle.begin.proofs.blank.Tie as tie
 
 returns : tie.Need-returns
 unfolding absents

@@ -7,8 +7,8 @@ use lib.ListN.{length, take, drop}
 use lib.Seq.{take-length}
 use borrow.Author.Needs.{needs}
 use Rattle.machine.specs.LoadLaws.{copy-one}
-use Rattle.survey.proofs.load.copy_in.Statement.{statement}
-use Rattle.survey.proofs.load.copy_in.Tie as tie
+use Rattle.begin.proofs.copy_in.Statement.{statement}
+use Rattle.begin.proofs.copy_in.Tie as tie
 
 abbrev Inv-loop : tie.InvT-loop
 Inv-loop words ends₀ i₀ ends i =

@@ -1,0 +1,161 @@
+// What a load sets: each group of a state before any round. Names and distances are absent, all else is 0.
+use state::Aux;
+use state::Clock;
+use state::Components;
+use state::Global;
+use state::Labels;
+use state::Order;
+use state::Range;
+use state::Ranking;
+use state::Table;
+use state::Tour;
+use state::Tree;
+ghost use mathlib.Core.Path.{_≡_};
+ghost use mathlib.Core.List.{_++_};
+ghost use Prim.Native.Nat.{_≤_, min};
+ghost use lib.ListN.{length, drop, take};
+ghost use Rattle.machine.specs.Load.{absents, firstClock, blankComponents, blankTree, blankTour, blankRanking, blankOrder, blankRange, blankGlobal, blankAux, blankLabels, tableOf};
+
+// The table of links, from its first 2,048 words.
+pub fn table(units: u16, words: &[u16]) -> Table
+    ensures { λ r. ⌜ r ≡ tableOf (record { units = units; words = take 2048 (now (words .entry)) }) ⌝ }
+{
+    let mut ends = blank();
+    let count = held(words.len());
+    copy_in(&words[..count], &mut ends);
+    Table {
+        units,
+        links: (count / 2) as u16,
+        ends,
+    }
+}
+
+// How many of so many words the table holds.
+fn held(count: usize) -> usize
+    ensures { λ r. ⌜ r ≡ min 2048 count ⌝ }
+{
+    if 2048 < count { 2048 } else { count }
+}
+
+fn blank() -> [u16; 2048]
+    ensures { λ r. ⌜ r ≡ absents 2048 ⌝ }
+{
+    [65535; 2048]
+}
+
+// The words from the first place on; the rest stays.
+fn copy_in(words: &[u16], ends: &mut [u16])
+    requires { ⌜ length (now words) ≤ length (now ends) ⌝ }
+    ensures { λ _. ⌜ now (ends .exit) ≡ now (words .entry) ++ drop (length (now (words .entry))) (now (ends .entry)) ⌝ }
+{
+    let mut i = 0;
+    while i < words.len() {
+        ends[i] = words[i];
+        i += 1;
+    }
+}
+
+// Stage 1, no round made.
+pub fn clock() -> Clock
+    ensures { λ r. ⌜ r ≡ firstClock ⌝ }
+{
+    Clock {
+        stage: 1,
+        made: 0,
+        rounds: 0,
+        requests: 0,
+    }
+}
+
+// Stage 1.
+pub fn components() -> Components
+    ensures { λ r. ⌜ r ≡ blankComponents ⌝ }
+{
+    Components {
+        color: [65535; 256],
+    }
+}
+
+// Stage 2.
+pub fn tree() -> Tree
+    ensures { λ r. ⌜ r ≡ blankTree ⌝ }
+{
+    Tree {
+        parent: [65535; 256],
+        dist: [65535; 256],
+    }
+}
+
+// Stage 3.
+pub fn tour() -> Tour
+    ensures { λ r. ⌜ r ≡ blankTour ⌝ }
+{
+    Tour {
+        next: [65535; 512],
+        pred: [65535; 512],
+    }
+}
+
+// Stages 4 and 6.
+pub fn ranking() -> Ranking
+    ensures { λ r. ⌜ r ≡ blankRanking ⌝ }
+{
+    Ranking {
+        jump: [65535; 512],
+        sum: [0; 512],
+    }
+}
+
+// Stages 5 and 6.
+pub fn order() -> Order
+    ensures { λ r. ⌜ r ≡ blankOrder ⌝ }
+{
+    Order {
+        forward: [0; 512],
+        nd: [0; 256],
+        pre: [0; 256],
+    }
+}
+
+// Stage 7.
+pub fn range() -> Range
+    ensures { λ r. ⌜ r ≡ blankRange ⌝ }
+{
+    Range {
+        low: [0; 256],
+        high: [0; 256],
+        little: [0; 256],
+        big: [0; 256],
+    }
+}
+
+// Stage 7, the segments.
+pub fn global() -> Global
+    ensures { λ r. ⌜ r ≡ blankGlobal ⌝ }
+{
+    Global {
+        low: [0; 256],
+        high: [0; 256],
+    }
+}
+
+// Stages 8 and 9.
+pub fn aux() -> Aux
+    ensures { λ r. ⌜ r ≡ blankAux ⌝ }
+{
+    Aux {
+        parents: [0; 256],
+        links: [0; 1024],
+        color: [65535; 256],
+    }
+}
+
+// Stage 10.
+pub fn labels() -> Labels
+    ensures { λ r. ⌜ r ≡ blankLabels ⌝ }
+{
+    Labels {
+        class: [65535; 1024],
+        label: [65535; 1024],
+    }
+}

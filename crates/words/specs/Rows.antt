@@ -1,0 +1,51 @@
+-- Tables that stand in a row are judged together: the entries of a state, by its words.
+use mathlib.Core.Path.{_≡_, refl, sym, ap, _∙_}
+use mathlib.Core.Bool.{Bool, _&&_, and-true, and-assoc}
+use mathlib.Core.List.{List, [], _∷_, _++_}
+use Prim.Native.Nat.{ℕ, _+_, _*_}
+use lib.ListN.{getD, take, drop}
+use lib.Seq.{take-add, drop-drop}
+use Rattle.lists.specs.Folds.{every}
+use Rattle.rules.specs.Bounds.{nameOk, numberOk, distOk}
+use Rattle.machine.specs.WellFormed.{entriesOk}
+use Rattle.words.specs.Layout.{extent, place, part, field, stateOf}
+
+two-parts : (at n m : ℕ) (ws : List ℕ) → part at (n + m) ws ≡ part at n ws ++ part (at + n) m ws
+unfolding part
+two-parts at n m ws = take-add n m (drop at ws) ∙ ap (λ (l : List ℕ). take n (drop at ws) ++ take m l) (drop-drop n at ws)
+
+every-append : {A : Type 0} (p : A → Bool) (s t : List A) → every p (s ++ t) ≡ (every p s && every p t)
+every-append p [] t = refl
+every-append p (x ∷ s) t = rw (every-append p s t) (sym (and-assoc (p x) (every p s) (every p t)))
+
+-- tables in a row, from a place on
+abbrev row : ℕ → List ℕ → List ℕ → List (List ℕ)
+row at [] ws = []
+row at (n ∷ ns) ws = part at n ws ∷ row (at + n) ns ws
+
+-- a test of tables in a row is one of all their words
+row-ok : (p : ℕ → Bool) (at : ℕ) (ns ws : List ℕ) → every p (part at (extent ns) ws) ≡ every (every p) (row at ns ws)
+unfolding part
+row-ok p at [] ws = refl
+row-ok p at (n ∷ ns) ws =
+    ap (λ (l : List ℕ). every p l) (two-parts at n (extent ns) ws)
+    ∙ (every-append p (part at n ws) (part (at + n) (extent ns) ws) ∙ ap (λ (b : Bool). every p (part at n ws) && b) (row-ok p (at + n) ns ws))
+
+pub entries-judged : (ws : List ℕ) (units links : ℕ) → units ≡ stateOf ws .table .units → links ≡ stateOf ws .table .links
+    → (every (nameOk units) (field 1 ws)
+    && (every (nameOk units) (part (place 3) 512 ws) && every (nameOk units) (part (place 21) 1280 ws))
+    && every (nameOk (2 * units)) (part (place 6) 1536 ws)
+    && every (nameOk links) (field 23 ws)
+    && every distOk (field 5 ws)
+    && every numberOk (part (place 9) 4352 ws))
+    ≡ entriesOk (stateOf ws)
+unfolding entriesOk stateOf
+entries-judged ws units links e f =
+    let named = nameOk units in
+    let trees = row (place 3) (256 ∷ 256 ∷ []) ws in
+    let classes = row (place 21) (256 ∷ 1024 ∷ []) ws in
+    let names : (every named (field 1 ws) && (every named (part (place 3) 512 ws) && every named (part (place 21) 1280 ws))) ≡ every (every named) (field 1 ws ∷ (trees ++ classes)) =
+    rw (row-ok named (place 3) (256 ∷ 256 ∷ []) ws, row-ok named (place 21) (256 ∷ 1024 ∷ []) ws)
+    (ap (λ (b : Bool). every named (field 1 ws) && b) (sym (every-append (every named) trees classes))) in
+    rw (names, row-ok (nameOk (2 * units)) (place 6) (512 ∷ 512 ∷ 512 ∷ []) ws, row-ok numberOk (place 9) (512 ∷ 512 ∷ 256 ∷ 256 ∷ 256 ∷ 256 ∷ 256 ∷ 256 ∷ 256 ∷ 256 ∷ 256 ∷ 1024 ∷ []) ws)
+    (rw (e, f, and-true (every (nameOk (getD (field 0 ws) 1 0)) (field 23 ws)), and-true (every distOk (field 5 ws))) refl)

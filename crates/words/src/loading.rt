@@ -1,0 +1,56 @@
+// Load on words: 4 to 9.
+use super::lay;
+use super::layout::STATE_WORDS;
+ghost use mathlib.Core.Path.{_≡_};
+ghost use mathlib.Core.Bool.{cond};
+ghost use lib.Dec.{eqb};
+ghost use Rattle.table.specs.Table.{tableRefusal};
+ghost use Rattle.machine.specs.Load.{loadRefusal, loaded};
+ghost use Rattle.words.specs.Layout.{stateOf};
+ghost use Rattle.words.specs.Begun.{frontBegun, backBegun};
+
+// The number of the first check that fails, with the words as they were; else 0, and the words of the loaded state.
+pub fn load(units: u16, table: &[u16], words: &mut [u16; STATE_WORDS]) -> u8
+    ensures number { λ r. ⌜ r ≡ loadRefusal (record { units = units; words = now (table .entry) }) ⌝ }
+    ensures words { λ _. ⌜ stateOf (now (words .exit))
+        ≡ cond (eqb (loadRefusal (record { units = units; words = now (table .entry) })) 0) (loaded (record { units = units; words = now (table .entry) })) (stateOf (now (words .entry))) ⌝ }
+{
+    let refused = table::refusal(units, table);
+    if refused != 0 {
+        return refused;
+    }
+    lay_loaded(units, table, words);
+    0
+}
+
+// The state of a table that passes, over any words.
+fn lay_loaded(units: u16, table: &[u16], words: &mut [u16; STATE_WORDS])
+    requires { ⌜ tableRefusal units (now table) ≡ 0 ⌝ }
+    ensures { λ _. ⌜ stateOf (now (words .exit)) ≡ loaded (record { units = units; words = now (table .entry) }) ⌝ }
+{
+    lay::lay_table(begin::table(units, table), words);
+    lay::lay_clock(begin::clock(), words);
+    front(words);
+    back(words);
+}
+
+// The groups of the stages 1 to 6.
+fn front(words: &mut [u16; STATE_WORDS])
+    ensures { λ _. ⌜ stateOf (now (words .exit)) ≡ frontBegun (stateOf (now (words .entry))) ⌝ }
+{
+    lay::lay_components(begin::components(), words);
+    lay::lay_tree(begin::tree(), words);
+    lay::lay_tour(begin::tour(), words);
+    lay::lay_ranking(begin::ranking(), words);
+    lay::lay_order(begin::order(), words);
+}
+
+// Those of the stages 7 to 10.
+fn back(words: &mut [u16; STATE_WORDS])
+    ensures { λ _. ⌜ stateOf (now (words .exit)) ≡ backBegun (stateOf (now (words .entry))) ⌝ }
+{
+    lay::lay_range(begin::range(), words);
+    lay::lay_global(begin::global(), words);
+    lay::lay_aux(begin::aux(), words);
+    lay::lay_labels(begin::labels(), words);
+}
