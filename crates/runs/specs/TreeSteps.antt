@@ -12,7 +12,6 @@ use Rattle.table.specs.Passes.{passes}
 use Rattle.rules.specs.Bounds.{nameOk}
 use Rattle.rules.specs.BoundLaws.{Names, name-exact}
 use Rattle.rules.specs.Components.{colorRound, colorEnds}
-use Rattle.rules.specs.Tree.{parentRound, distRound, treeEnds}
 use Rattle.rules.specs.Tour.{nextRound, predRound, firstSums, firstJumps}
 use Rattle.rules.specs.TourLaws.{nextStored}
 use Rattle.rules.specs.NextLaws.{next-exact}
@@ -26,7 +25,6 @@ use Rattle.survey.specs.Step.{nextClock}
 use Rattle.survey.specs.StageLaws
 use Rattle.survey.specs.Ready.{lastAt}
 use Rattle.runs.specs.declared.tree_runs.ComponentsRun.{ComponentsRun}
-use Rattle.runs.specs.declared.tree_runs.TreeRun.{TreeRun}
 use Rattle.runs.specs.declared.tree_runs.TourRun.{TourRun}
 use Rattle.runs.specs.Within.{inStage}
 use Rattle.runs.specs.Reached.{Stage}
@@ -58,35 +56,6 @@ components-stage s =
       clocks = λ x. refl;
       counts = λ x. refl;
       steps = λ x w e. rw (StageLaws.step-1 (withComponentsRun s x) e, StageLaws.ends-1 (withComponentsRun s x) e, StageLaws.requests-1 (withComponentsRun s x) e);
-    }
-
--- ---- stage 2
-
-abbrev pub treeOn : ℕ → TreeRun → Bool
-treeOn n x = inStage n 2 (x .clock)
-
-unfoldable pub treeOne : ℕ → ℕ → List ℕ → List ℕ → TreeRun → TreeRun
-treeOne n m ends color x =
-    record {
-      parent = parentRound n m (x .clock .made) ends color (x .dist) (x .parent);
-      dist = distRound n m (x .clock .made) ends color (x .dist);
-      clock = nextClock (lastAt n (treeEnds n m (x .clock .made) ends color (x .dist)) (x .clock)) 0 (x .clock);
-      made = x .made + 1;
-    }
-
-abbrev pub withTreeRun : Survey → TreeRun → Survey
-withTreeRun s x = State.withClock (x .clock) (State.withTree (record { parent = x .parent; dist = x .dist }) s)
-
-pub tree-stage : (s : Survey)
-    → Stage 2 (units s) (λ (x : TreeRun). x .clock) (treeOne (units s) (links s) (s .table .ends) (s .components .color)) (λ (x : TreeRun). x .made) (withTreeRun s)
-unfolding treeOne lastAt Step.lastRound Step.tree
-tree-stage s =
-    record {
-      small = omega arith;
-      site = λ x. refl;
-      clocks = λ x. refl;
-      counts = λ x. refl;
-      steps = λ x w e. rw (StageLaws.step-2 (withTreeRun s x) e, StageLaws.ends-2 (withTreeRun s x) e, StageLaws.requests-2 (withTreeRun s x) e);
     }
 
 -- ---- stage 3

@@ -1,24 +1,15 @@
 // Rounds of the stages 1 to 3.
 use super::tick;
 use stages::components;
-use stages::tree;
 use survey::Clock;
 use tours::tour;
 ghost use mathlib.Core.Path.{_≡_};
 ghost use Rattle.runs.specs.Turns.{stageRun};
-ghost use Rattle.runs.specs.TreeSteps.{componentsOn, componentsOne, treeOn, treeOne, tourOn, tourOne};
+ghost use Rattle.runs.specs.TreeSteps.{componentsOn, componentsOne, tourOn, tourOne};
 
 // The tables of stage 1, the clock, and the rounds made.
 pub struct ComponentsRun {
     pub color: [u16; 256],
-    pub clock: Clock,
-    pub made: u16,
-}
-
-// Of stage 2.
-pub struct TreeRun {
-    pub parent: [u16; 256],
-    pub dist: [u16; 256],
     pub clock: Clock,
     pub made: u16,
 }
@@ -66,51 +57,6 @@ pub fn components_run(
     }
     ComponentsRun {
         color: value,
-        clock: c,
-        made,
-    }
-}
-
-// Stage 2.
-pub fn tree_run<'a>(
-    units: u16,
-    links: u16,
-    budget: u16,
-    ends: &'a [u16],
-    color: &'a [u16],
-    clock: Clock,
-    parent: [u16; 256],
-    dist: [u16; 256],
-) -> TreeRun
-    ensures { λ r. ⌜ r ≡ stageRun (treeOn units) (treeOne units links (now (ends .entry)) (now (color .entry))) budget
-        (record { parent = parent; dist = dist; clock = clock; made = 0 }) ⌝ }
-{
-    let mut above = parent;
-    let mut far = dist;
-    let mut c = clock;
-    let mut made: u16 = 0;
-    while made < budget {
-        if !tick::within(units, 2, c) {
-            return TreeRun {
-                parent: above,
-                dist: far,
-                clock: c,
-                made,
-            };
-        }
-        let new = tree::tree_round(units, links, c.made, ends, color, above, far);
-        let last = tick::is_last(units, new.ends, c);
-        let after = tick::ticked(units, last, 0, c);
-        let new_parent = new.parent;
-        let new_dist = new.dist;
-        above = new_parent;
-        far = new_dist;
-        c = after;
-        made += 1;
-    }
-    TreeRun {
-        parent: above,
-        dist: far,
         clock: c,
         made,
     }
