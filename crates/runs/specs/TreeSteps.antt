@@ -1,4 +1,4 @@
--- One round of the stages 1 to 3 on the tables that it changes, and that it is a step of the state.
+-- One round of stage 1 on the tables that it changes, and that it is a step of the state.
 use mathlib.Core.Path.{_≡_, refl}
 use mathlib.Core.Bool.{Bool, true, false, cond}
 use mathlib.Core.Logic.{_⊎_, inl, inr}
@@ -12,10 +12,6 @@ use Rattle.table.specs.Passes.{passes}
 use Rattle.rules.specs.Bounds.{nameOk}
 use Rattle.rules.specs.BoundLaws.{Names, name-exact}
 use Rattle.rules.specs.Components.{colorRound, colorEnds}
-use Rattle.rules.specs.Tree.{parentRound, distRound, treeEnds}
-use Rattle.rules.specs.Tour.{nextRound, predRound, firstSums, firstJumps}
-use Rattle.rules.specs.TourLaws.{nextStored}
-use Rattle.rules.specs.NextLaws.{next-exact}
 use Rattle.survey.specs.declared.state.Survey.{Survey}
 use Rattle.survey.specs.State
 use Rattle.survey.specs.State.{units, links}
@@ -26,8 +22,6 @@ use Rattle.survey.specs.Step.{nextClock}
 use Rattle.survey.specs.StageLaws
 use Rattle.survey.specs.Ready.{lastAt}
 use Rattle.runs.specs.declared.tree_runs.ComponentsRun.{ComponentsRun}
-use Rattle.runs.specs.declared.tree_runs.TreeRun.{TreeRun}
-use Rattle.runs.specs.declared.tree_runs.TourRun.{TourRun}
 use Rattle.runs.specs.Within.{inStage}
 use Rattle.runs.specs.Reached.{Stage}
 
@@ -59,84 +53,3 @@ components-stage s =
       counts = λ x. refl;
       steps = λ x w e. rw (StageLaws.step-1 (withComponentsRun s x) e, StageLaws.ends-1 (withComponentsRun s x) e, StageLaws.requests-1 (withComponentsRun s x) e);
     }
-
--- ---- stage 2
-
-abbrev pub treeOn : ℕ → TreeRun → Bool
-treeOn n x = inStage n 2 (x .clock)
-
-unfoldable pub treeOne : ℕ → ℕ → List ℕ → List ℕ → TreeRun → TreeRun
-treeOne n m ends color x =
-    record {
-      parent = parentRound n m (x .clock .made) ends color (x .dist) (x .parent);
-      dist = distRound n m (x .clock .made) ends color (x .dist);
-      clock = nextClock (lastAt n (treeEnds n m (x .clock .made) ends color (x .dist)) (x .clock)) 0 (x .clock);
-      made = x .made + 1;
-    }
-
-abbrev pub withTreeRun : Survey → TreeRun → Survey
-withTreeRun s x = State.withClock (x .clock) (State.withTree (record { parent = x .parent; dist = x .dist }) s)
-
-pub tree-stage : (s : Survey)
-    → Stage 2 (units s) (λ (x : TreeRun). x .clock) (treeOne (units s) (links s) (s .table .ends) (s .components .color)) (λ (x : TreeRun). x .made) (withTreeRun s)
-unfolding treeOne lastAt Step.lastRound Step.tree
-tree-stage s =
-    record {
-      small = omega arith;
-      site = λ x. refl;
-      clocks = λ x. refl;
-      counts = λ x. refl;
-      steps = λ x w e. rw (StageLaws.step-2 (withTreeRun s x) e, StageLaws.ends-2 (withTreeRun s x) e, StageLaws.requests-2 (withTreeRun s x) e);
-    }
-
--- ---- stage 3
-
-abbrev pub tourOn : ℕ → TourRun → Bool
-tourOn n x = inStage n 3 (x .clock)
-
-unfoldable pub tourOne : ℕ → List ℕ → TourRun → TourRun
-tourOne n parent x =
-    let after = nextClock (lastAt n (eqb (x .clock .made) 1) (x .clock)) 0 (x .clock) in
-    cond (eqb (x .clock .made) 0)
-    (record { next = nextStored n parent (x .next); pred = x .pred; jump = x .jump; sum = x .sum; clock = after; made = x .made + 1 })
-    (record {
-      next = x .next;
-      pred = predRound n parent (x .next) (x .pred);
-      jump = firstJumps n parent (x .next) (x .jump);
-      sum = firstSums n parent (x .sum);
-      clock = after;
-      made = x .made + 1;
-    })
-
-abbrev pub withTourRun : Survey → TourRun → Survey
-withTourRun s x =
-    State.withClock (x .clock)
-    (State.withTour (record { next = x .next; pred = x .pred }) (State.withRanking (record { jump = x .jump; sum = x .sum }) s))
-
-pub tour-stage : (s : Survey)
-    → Stage 3 (units s) (λ (x : TourRun). x .clock) (tourOne (units s) (s .tree .parent)) (λ (x : TourRun). x .made) (withTourRun s)
-unfolding tourOne lastAt Step.lastRound Step.tour Step.tourNext Step.tourPred
-tour-stage s =
-    record {
-      small = omega arith;
-      site = λ x. refl;
-      clocks = λ x. refl;
-      counts = λ x. counts x (either (eqb (x .clock .made) 0));
-      steps = λ x w e. steps x w e (either (eqb (x .clock .made) 0));
-    }
-  where
-    counts : (x : TourRun) → (eqb (x .clock .made) 0 ≡ true) ⊎ (eqb (x .clock .made) 0 ≡ false) → tourOne (units s) (s .tree .parent) x .made ≡ x .made + 1
-    counts x (inl h) = rw h refl
-    counts x (inr h) = rw h refl
-
-    stored : (x : TourRun) → wellFormed (withTourRun s x) ≡ true
-        → nextStored (units s) (s .tree .parent) (x .next) ≡ nextRound (units s) (s .tree .parent) (x .next)
-    stored x w =
-        let k : Kept (withTourRun s x) = kept-exact (withTourRun s x) .0 w in
-        next-exact (units s) (s .tree .parent) (passes (units s) (State.words s) (k .passes) .fewUnits)
-        (every-exact (nameOk (units s)) (Names (units s)) (name-exact (units s)) (s .tree .parent) .1 (k .unitNames .1 .1 .0)) (x .next)
-
-    steps : (x : TourRun) → wellFormed (withTourRun s x) ≡ true → x .clock .stage ≡ 3 → (eqb (x .clock .made) 0 ≡ true) ⊎ (eqb (x .clock .made) 0 ≡ false)
-        → withTourRun s (tourOne (units s) (s .tree .parent) x) ≡ Step.step (withTourRun s x)
-    steps x w e (inl h) = rw (StageLaws.step-3 (withTourRun s x) e, StageLaws.ends-3 (withTourRun s x) e, StageLaws.requests-3 (withTourRun s x) e, h, stored x w)
-    steps x w e (inr h) = rw (StageLaws.step-3 (withTourRun s x) e, StageLaws.ends-3 (withTourRun s x) e, StageLaws.requests-3 (withTourRun s x) e, h)

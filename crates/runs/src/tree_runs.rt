@@ -1,34 +1,14 @@
-// Rounds of the stages 1 to 3.
+// Rounds of stage 1.
 use super::tick;
 use stages::components;
-use stages::tree;
 use survey::Clock;
-use tours::tour;
 ghost use mathlib.Core.Path.{_≡_};
 ghost use Rattle.runs.specs.Turns.{stageRun};
-ghost use Rattle.runs.specs.TreeSteps.{componentsOn, componentsOne, treeOn, treeOne, tourOn, tourOne};
+ghost use Rattle.runs.specs.TreeSteps.{componentsOn, componentsOne};
 
 // The tables of stage 1, the clock, and the rounds made.
 pub struct ComponentsRun {
     pub color: [u16; 256],
-    pub clock: Clock,
-    pub made: u16,
-}
-
-// Of stage 2.
-pub struct TreeRun {
-    pub parent: [u16; 256],
-    pub dist: [u16; 256],
-    pub clock: Clock,
-    pub made: u16,
-}
-
-// Of stage 3.
-pub struct TourRun {
-    pub next: [u16; 512],
-    pub pred: [u16; 512],
-    pub jump: [u16; 512],
-    pub sum: [u16; 512],
     pub clock: Clock,
     pub made: u16,
 }
@@ -66,111 +46,6 @@ pub fn components_run(
     }
     ComponentsRun {
         color: value,
-        clock: c,
-        made,
-    }
-}
-
-// Stage 2.
-pub fn tree_run<'a>(
-    units: u16,
-    links: u16,
-    budget: u16,
-    ends: &'a [u16],
-    color: &'a [u16],
-    clock: Clock,
-    parent: [u16; 256],
-    dist: [u16; 256],
-) -> TreeRun
-    ensures { λ r. ⌜ r ≡ stageRun (treeOn units) (treeOne units links (now (ends .entry)) (now (color .entry))) budget
-        (record { parent = parent; dist = dist; clock = clock; made = 0 }) ⌝ }
-{
-    let mut above = parent;
-    let mut far = dist;
-    let mut c = clock;
-    let mut made: u16 = 0;
-    while made < budget {
-        if !tick::within(units, 2, c) {
-            return TreeRun {
-                parent: above,
-                dist: far,
-                clock: c,
-                made,
-            };
-        }
-        let new = tree::tree_round(units, links, c.made, ends, color, above, far);
-        let last = tick::is_last(units, new.ends, c);
-        let after = tick::ticked(units, last, 0, c);
-        let new_parent = new.parent;
-        let new_dist = new.dist;
-        above = new_parent;
-        far = new_dist;
-        c = after;
-        made += 1;
-    }
-    TreeRun {
-        parent: above,
-        dist: far,
-        clock: c,
-        made,
-    }
-}
-
-// Stage 3: followers, then predecessors with the start of the first ranking.
-pub fn tour_run(
-    units: u16,
-    budget: u16,
-    parent: &[u16],
-    clock: Clock,
-    next: [u16; 512],
-    pred: [u16; 512],
-    jump: [u16; 512],
-    sum: [u16; 512],
-) -> TourRun
-    ensures { λ r. ⌜ r ≡ stageRun (tourOn units) (tourOne units (now (parent .entry))) budget
-        (record { next = next; pred = pred; jump = jump; sum = sum; clock = clock; made = 0 }) ⌝ }
-{
-    let mut to = next;
-    let mut from = pred;
-    let mut before = jump;
-    let mut total = sum;
-    let mut c = clock;
-    let mut made: u16 = 0;
-    while made < budget {
-        if !tick::within(units, 3, c) {
-            return TourRun {
-                next: to,
-                pred: from,
-                jump: before,
-                sum: total,
-                clock: c,
-                made,
-            };
-        }
-        let last = tick::is_last(units, c.made == 1, c);
-        let after = tick::ticked(units, last, 0, c);
-        if c.made == 0 {
-            let new = tour::next_round(units, parent, to);
-            to = new;
-            c = after;
-            made += 1;
-            continue;
-        }
-        let new = tour::pred_round(units, parent, &to, from, before);
-        let new_sum = tour::first_sums(units, parent, total);
-        let new_pred = new.pred;
-        let new_jump = new.jump;
-        from = new_pred;
-        before = new_jump;
-        total = new_sum;
-        c = after;
-        made += 1;
-    }
-    TourRun {
-        next: to,
-        pred: from,
-        jump: before,
-        sum: total,
         clock: c,
         made,
     }

@@ -1,3 +1,0 @@
-pub mod Agreed
-pub mod Chosen
-pub mod Near

@@ -1,4 +1,0 @@
-pub mod Firsts
-pub mod Siblings
-pub mod Neighbors
-pub mod Predecessors

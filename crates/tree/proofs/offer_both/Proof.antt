@@ -1,0 +1,71 @@
+-- By the test of both ends.
+use mathlib.Core.Path.{_≡_, sym, _∙_}
+use mathlib.Core.Bool.{true, false, _||_}
+use Rattle.rules.specs.Tree.{visitedBefore}
+use Rattle.rules.specs.TreeLaws.{offers}
+use borrow.Author.Needs.{needs}
+use Rattle.tree.proofs.offer_both.Statement.{statement}
+use Rattle.tree.proofs.offer_both.Tie as tie
+
+was-visited-requires : tie.Need-was-visited-requires
+was-visited-requires c κs = search needs
+
+was-visited-requires-2 : tie.Need-was-visited-requires-2
+was-visited-requires-2 c κs = search needs
+
+either-requires : tie.Need-either-requires
+either-requires c κs = search needs
+
+choose-requires : tie.Need-choose-requires
+choose-requires c κs = search needs
+
+offer-requires : tie.Need-offer-requires
+offer-requires c κs = search needs
+
+choose-requires-2 : tie.Need-choose-requires-2
+choose-requires-2 c κs = search needs
+
+offer-requires-2 : tie.Need-offer-requires-2
+offer-requires-2 c κs = search needs
+
+same-length : tie.Need-same-length
+same-length c = search needs
+
+returns : tie.Need-returns
+unfolding offers
+returns c =
+    let two = c .before .before in
+    let one = two .before .before .before .before .before in
+    let s = one .before .before .before in
+    let e = s .before in
+    let a = e .before .before .before .before .before .args in
+    let some
+    : (visitedBefore (a .made) (a .dist .now) (a .a) || visitedBefore (a .made) (a .dist .now) (a .b)) ≡ true
+    = sym (rw (e .before .before .was-visited .ensures, e .before .was-visited2 .ensures) at (e .either .ensures)) ∙ s .if1 .taken in
+    let to-a = rw (one .before .choose .ensures, e .before .was-visited2 .ensures) at (one .offer .ensures) in
+    let to-b = rw (two .before .choose2 .ensures, e .before .before .was-visited .ensures, to-a) at (two .offer2 .ensures) in
+    rw some to-b
+
+returns-2 : tie.Need-returns-2
+returns-2 c =
+    let e = c .before in
+    let a = e .before .before .before .before .before .args in
+    let none
+    : (visitedBefore (a .made) (a .dist .now) (a .a) || visitedBefore (a .made) (a .dist .now) (a .b)) ≡ false
+    = sym (rw (e .before .before .was-visited .ensures, e .before .was-visited2 .ensures) at (e .either .ensures)) ∙ c .if1 .left in
+    rw none
+
+pub offer-both-spec : {M : Type 1} → statement M
+offer-both-spec =
+    tie.close
+    (tie.spec
+    was-visited-requires
+    was-visited-requires-2
+    either-requires
+    choose-requires
+    offer-requires
+    choose-requires-2
+    offer-requires-2
+    same-length
+    returns
+    returns-2)
