@@ -1,8 +1,8 @@
 -- The place picks last.
-use Rattle.blocks.specs.Naming.{place-last}
+use Rattle.labels.specs.Naming.{place-last}
 use borrow.Author.Needs.{needs}
-use Rattle.blocks.proofs.labels.named.Statement.{statement}
-use Rattle.blocks.proofs.labels.named.Tie as tie
+use Rattle.labels.proofs.named.Statement.{statement}
+use Rattle.labels.proofs.named.Tie as tie
 
 choose-requires : tie.Need-choose-requires
 choose-requires c κs = search needs
