@@ -1,2 +1,3 @@
 pub mod Absorbed
-pub mod Silent
+pub mod Propagation
+pub mod Rounds
