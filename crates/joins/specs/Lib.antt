@@ -1,2 +1,1 @@
-pub mod Absorbed
-pub mod Silent
+pub mod Rounds

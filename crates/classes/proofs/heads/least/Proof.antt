@@ -1,0 +1,110 @@
+-- Unit by unit.
+use mathlib.Core.Path.{_≡_, refl, _∙_}
+use Prim.Native.Nat.{_≤_, _<_, _-_}
+use native.Mathlib.Omega.{arith}
+use lib.ListN.{length, getD}
+use Rattle.lists.specs.Tables.{over}
+use Rattle.lists.specs.Rounds.{over-more, over-all}
+use Rattle.classes.specs.Propagation.{leastOf}
+use borrow.Author.Needs.{needs}
+use Rattle.classes.proofs.heads.least.Statement.{statement}
+use Rattle.classes.proofs.heads.least.Tie as tie
+
+abbrev Inv-loop : tie.InvT-loop
+Inv-loop units parent heads said t new₀ v₀ new v = (v ≤ units) × (length new ≡ 256) × (new ≡ over v (leastOf parent heads said t) new₀)
+
+abbrev μ-loop : tie.MeasureT-loop
+μ-loop units parent heads said t new₀ v₀ new v = units - v
+
+-- a unit's head exists
+head : (c : tie.After-head Inv-loop μ-loop) → getD (c .before .before .before .args .heads .now) (c .before .before .loop .v) 0 < 256
+head c =
+    let p = c .before .before .before .pre in
+    omega (arith, p .0, p .1 (c .before .before .loop .v) (c .before .loop-test .taken))
+
+loop-holds : tie.Need-loop-holds Inv-loop μ-loop
+loop-holds c = search needs
+
+cast-at : tie.Need-cast-at Inv-loop μ-loop
+cast-at c = search needs
+
+mul-head : tie.Need-mul-head Inv-loop μ-loop
+mul-head c = search needs
+
+element-copy-out-head : tie.Need-element-copy-out-head Inv-loop μ-loop
+element-copy-out-head c = search needs
+
+cast-head : tie.Need-cast-head Inv-loop μ-loop
+cast-head c = search (head c, needs)
+
+mul-least-of : tie.Need-mul-least-of Inv-loop μ-loop
+mul-least-of c = search needs
+
+element-copy-out-least-of : tie.Need-element-copy-out-least-of Inv-loop μ-loop
+element-copy-out-least-of c = search needs
+
+mul-least-of-2 : tie.Need-mul-least-of-2 Inv-loop μ-loop
+mul-least-of-2 c = search (head (c .before), needs)
+
+element-copy-out-least-of-2 : tie.Need-element-copy-out-least-of-2 Inv-loop μ-loop
+element-copy-out-least-of-2 c = search (head (c .before), needs)
+
+least-of-requires : tie.Need-least-of-requires Inv-loop μ-loop
+least-of-requires c κs = search needs
+
+mul-choose : tie.Need-mul-choose Inv-loop μ-loop
+mul-choose c = search needs
+
+element-copy-out-choose : tie.Need-element-copy-out-choose Inv-loop μ-loop
+element-copy-out-choose c = search needs
+
+choose-requires : tie.Need-choose-requires Inv-loop μ-loop
+choose-requires c κs = search needs
+
+mul-new : tie.Need-mul-new Inv-loop μ-loop
+mul-new c = search needs
+
+array-write-new : tie.Need-array-write-new Inv-loop μ-loop
+array-write-new c = search needs
+
+add-v : tie.Need-add-v Inv-loop μ-loop
+add-v c = search needs
+
+loop-less : tie.Need-loop-less Inv-loop μ-loop
+loop-less c = search needs
+
+loop-again : tie.Need-loop-again Inv-loop μ-loop
+loop-again c =
+    let s = c .before .before .before .before .before .before .before in
+    let a = s .before .args in
+    let is : c .choose .result ≡ leastOf (a .parent .now) (a .heads .now) (a .said .now) (a .t .now) (s .loop .v) = cc in
+    (search needs, search needs, over-more _ _ _ _ _ _ (s .loop .inv .2) is refl)
+
+returns : tie.Need-returns Inv-loop μ-loop
+returns c = c .before .loop .inv .2 ∙ over-all _ _ _ _ (c .before .loop .inv .0) (c .loop-test .left)
+
+pub least-spec : {M : Type 1} → statement M
+least-spec =
+    tie.close
+    (tie.spec
+    Inv-loop
+    μ-loop
+    loop-holds
+    cast-at
+    mul-head
+    element-copy-out-head
+    cast-head
+    mul-least-of
+    element-copy-out-least-of
+    mul-least-of-2
+    element-copy-out-least-of-2
+    least-of-requires
+    mul-choose
+    element-copy-out-choose
+    choose-requires
+    mul-new
+    array-write-new
+    add-v
+    loop-less
+    loop-again
+    returns)

@@ -1,0 +1,49 @@
+-- One round of stage 8 on the tables that it changes, and that it is a step of the state.
+use mathlib.Core.Path.{_≡_, refl}
+use mathlib.Core.Bool.{Bool, true, _&&_}
+use mathlib.Core.List.{List}
+use Prim.Native.Nat.{ℕ, _+_}
+use native.Mathlib.Omega.{arith}
+use Rattle.rules.specs.Aux.{linkJoinsRound, parentJoinsRound}
+use Rattle.rules.specs.Fits.{linksFit}
+use Rattle.machine.specs.State
+use Rattle.machine.specs.State.{State, units, links}
+use Rattle.machine.specs.Step
+use Rattle.machine.specs.Step.{nextClock}
+use Rattle.machine.specs.StageLaws
+use Rattle.machine.specs.KeptLaws.{links-fit}
+use Rattle.machine.specs.InStage.{inStage, lastAt}
+use Rattle.machine.specs.StageSteps.{Stage}
+use Rattle.joins.specs.declared.Ran.{Ran}
+
+-- the stage makes a round: its links fit, and the clock stands in it
+abbrev pub on : ℕ → ℕ → List ℕ → Ran → Bool
+on n m ends x = linksFit n m ends && inStage n 8 (x .clock)
+
+-- one round is the whole stage
+unfoldable pub one : ℕ → ℕ → List ℕ → List ℕ → List ℕ → List ℕ → List ℕ → List ℕ → Ran → Ran
+one n m ends parent nd pre low high x =
+    record {
+      parents = parentJoinsRound n parent nd pre low high (x .parents);
+      links = linkJoinsRound m ends parent (x .links);
+      clock = nextClock (lastAt n true (x .clock)) 0 (x .clock);
+      made = x .made + 1;
+    }
+
+-- the state with these tables and clock
+abbrev pub into : State → Ran → State
+into s x = State.withClock (x .clock) (State.withAux (record { parents = x .parents; links = x .links; color = s .aux .color }) s)
+
+pub stage : (s : State)
+    → Stage 8 (units s) (linksFit (units s) (links s) (s .table .ends)) (λ (x : Ran). x .clock)
+    (one (units s) (links s) (s .table .ends) (s .tree .parent) (s .order .nd) (s .order .pre) (s .range .low) (s .range .high)) (λ (x : Ran). x .made) (into s)
+unfolding one lastAt Step.lastRound Step.auxEdges
+stage s =
+    record {
+      small = omega arith;
+      site = λ x. refl;
+      clocks = λ x. refl;
+      fit = λ x w. links-fit (into s x) w;
+      counts = λ x. refl;
+      steps = λ x w e. rw (StageLaws.step-8 (into s x) e, StageLaws.ends-8 (into s x) e, StageLaws.requests-8 (into s x) e);
+    }
