@@ -7,10 +7,10 @@ use Rattle.lists.specs.Tables.{over}
 use Rattle.lists.specs.Rounds.{over-more}
 use Rattle.lists.specs.Limits.{over-least}
 use Rattle.rules.specs.Ranking.{jumpAfter, jumpRound, sumAfter, sumRound}
-use Rattle.ranks.specs.Asking.{jump-taken, sum-taken, jump-past, sum-past, jump-stays, sum-stays}
+use Rattle.ranking.specs.Asking.{jump-taken, sum-taken, jump-past, sum-past, jump-stays, sum-stays}
 use borrow.Author.Needs.{needs}
-use Rattle.ranks.proofs.ranking.double.Statement.{statement}
-use Rattle.ranks.proofs.ranking.double.Tie as tie
+use Rattle.ranking.proofs.double.Statement.{statement}
+use Rattle.ranking.proofs.double.Tie as tie
 
 abbrev Inv-loop : tie.InvT-loop
 Inv-loop objects jump₀ sum₀ old-jump old-sum limit a₀ jump sum a =
