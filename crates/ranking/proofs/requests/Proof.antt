@@ -44,14 +44,14 @@ loop-less : tie.Need-loop-less Inv-loop μ-loop
 loop-less c = search needs
 
 loop-again : tie.Need-loop-again Inv-loop μ-loop
-loop-again c = 
+loop-again c =
     let s = c .before .before .before in
     let p = asks (s .before .before .args .jump .now) in
     (search needs, omega (arith, one c), count-more (s .loop .a) p _ _ _ (s .loop .inv .2) (c .choose .ensures) refl)
 
 returns : tie.Need-returns Inv-loop μ-loop
 unfolding requestsOf
-returns c = 
+returns c =
     let s = c .before in
     let a = s .before .before .args in
     let ended : s .loop .a ≡ min (a .objects) 512 = omega (arith, s .loop .inv .0, c .loop-test .left, s .before .with-entries .ensures) in

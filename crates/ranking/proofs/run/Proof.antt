@@ -48,7 +48,7 @@ loop-less c = omega (arith, go (c .before .before .before .before .before .befor
 
 loop-again : tie.Need-loop-again Inv-loop μ-loop
 unfolding one rankingEnds
-loop-again c = 
+loop-again c =
     let t = c .before .before .before in
     let r = t .before in
     let i = r .before .before in

@@ -1,7 +1,7 @@
 -- By the two tests.
 use borrow.Author.Needs.{needs}
-use Rattle.ranks.proofs.order.second_sum.Statement.{statement}
-use Rattle.ranks.proofs.order.second_sum.Tie as tie
+use Rattle.marks.proofs.second_sum.Statement.{statement}
+use Rattle.marks.proofs.second_sum.Tie as tie
 
 both-requires : tie.Need-both-requires
 both-requires c κs = search needs
