@@ -70,9 +70,10 @@ fn number_if<'a>(
     ensures { λ _. ⌜ now (pre .exit)
         ≡ cond last (preRound units (now (color .entry)) (now (parent .entry)) (now (sum .entry)) (now (pre .entry))) (now (pre .entry)) ⌝ }
 {
-    if last {
-        number(units, color, parent, sum, pre);
+    if !last {
+        return;
     }
+    number(units, color, parent, sum, pre);
 }
 
 // The place of each unit: its sum, or 0 at a root, after the units of smaller colors.
