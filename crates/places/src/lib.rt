@@ -1,0 +1,100 @@
+// Stage 6, places: the second ranking; with its last round the place of each unit.
+use state::Clock;
+use values::counts;
+ghost use mathlib.Core.Path.{_≡_};
+ghost use mathlib.Core.Bool.{cond};
+ghost use Prim.Native.Nat.{_≤_};
+ghost use Rattle.rules.specs.Order.{preRound};
+ghost use Rattle.machine.specs.StageRun.{stageRun};
+ghost use Rattle.places.specs.Rounds.{on, one};
+
+const ABSENT: u16 = 65535;
+
+// The tables of the stage, the clock, and the rounds made.
+pub struct Ran {
+    pub pre: [u16; 256],
+    pub jump: [u16; 512],
+    pub sum: [u16; 512],
+    pub clock: Clock,
+    pub made: u16,
+}
+
+// At most so many rounds.
+pub fn run<'a>(
+    units: u16,
+    budget: u16,
+    color: &'a [u16; 256],
+    parent: &'a [u16; 256],
+    clock: Clock,
+    pre: [u16; 256],
+    jump: [u16; 512],
+    sum: [u16; 512],
+) -> Ran
+    ensures { λ r. ⌜ r ≡ stageRun (on units) (one units (now (color .entry)) (now (parent .entry))) budget
+        (record { pre = pre; jump = jump; sum = sum; clock = clock; made = 0 }) ⌝ }
+{
+    let arcs = 2 * (units as usize);
+    let mut place = pre;
+    let mut before = jump;
+    let mut total = sum;
+    let mut c = clock;
+    let mut made: u16 = 0;
+    while clock::goes_on(true, units, 6, made, budget, c) {
+        let asked = ranking::requests(arcs, &before);
+        let last = clock::is_last(units, asked == 0, c);
+        let after = clock::ticked(units, 6, asked == 0, asked, c);
+        number_if(last, units, color, parent, &total, &mut place);
+        ranking::double(arcs, &mut before, &mut total);
+        c = after;
+        made += 1;
+    }
+    Ran {
+        pre: place,
+        jump: before,
+        sum: total,
+        clock: c,
+        made,
+    }
+}
+
+// The places, with the last round.
+fn number_if<'a>(
+    last: bool,
+    units: u16,
+    color: &'a [u16; 256],
+    parent: &'a [u16; 256],
+    sum: &'a [u16; 512],
+    pre: &mut [u16; 256],
+)
+    requires { ⌜ units ≤ 256 ⌝ }
+    ensures { λ _. ⌜ now (pre .exit)
+        ≡ cond last (preRound units (now (color .entry)) (now (parent .entry)) (now (sum .entry)) (now (pre .entry))) (now (pre .entry)) ⌝ }
+{
+    if !last {
+        return;
+    }
+    number(units, color, parent, sum, pre);
+}
+
+// The place of each unit: its sum, or 0 at a root, after the units of smaller colors.
+fn number<'a>(
+    units: u16,
+    color: &'a [u16; 256],
+    parent: &'a [u16; 256],
+    sum: &'a [u16; 512],
+    pre: &mut [u16; 256],
+)
+    requires { ⌜ units ≤ 256 ⌝ }
+    ensures { λ _. ⌜ now (pre .exit) ≡ preRound units (now (color .entry)) (now (parent .entry)) (now (sum .entry)) (now (pre .entry)) ⌝ }
+{
+    let bucket = counts::below_table(units, color);
+    let absent = counts::count_at(true, units, color, ABSENT);
+    let n = units as usize;
+    let mut v: usize = 0;
+    while v < n {
+        let before = counts::count_by(true, units, color, &bucket, absent, color[v]);
+        let own = values::choose(parent[v] == ABSENT, 0, sum[2 * v]);
+        pre[v] = values::bounded_sum(own, before);
+        v += 1;
+    }
+}
