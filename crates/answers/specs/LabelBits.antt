@@ -15,7 +15,7 @@ use lib.Seq.{getD-set-same, getD-set-other}
 use borrow.Author.Tests.{eq-eqb, ne-eqb, eqb-false, lt-ltb, ltb-true, not-true}
 use Rattle.lists.specs.Tests.{either, and-left, and-right, and-true, cond-true, cond-false, not-both}
 use Rattle.lists.specs.Folds.{fold, some}
-use Rattle.lists.specs.LeastLaws.{some-exact, some-none}
+use Rattle.lists.specs.Some.{some-exact, some-none}
 use Rattle.table.specs.Table.{endA, endB}
 use Rattle.rules.specs.Basics.{ABSENT, at}
 use Rattle.rules.specs.Labels.{touches, single}

@@ -9,7 +9,8 @@ use native.Mathlib.Decide.{ℕ-discrete, decLe}
 use native.Mathlib.Omega.{arith}
 use lib.ListN.{length}
 use Rattle.lists.specs.Members.{Mem}
-use Rattle.lists.specs.Pigeonhole.{picks, Picked, pigeonhole}
+use Rattle.lists.specs.Pigeonhole.{Picked, pigeonhole}
+use Rattle.lists.specs.Folds.{count}
 use Rattle.graph.specs.Rings.{last, Walk, Route, Connected}
 use Rattle.graph.specs.Walks.{last-mem, walk-map}
 use Rattle.graph.specs.Routes.{connected-trans, connected-sym, simple}
@@ -34,7 +35,7 @@ module _ (p : ℕ → Bool) (n : ℕ) (R : ℕ → ℕ → Type 0) where
 
   -- what is reached is reached in fewer steps than there are picked nodes, and in no more than were taken
   pub short : (v w : ℕ) (l : List ℕ) → Picked p n v → Route (Near p n R) v l w
-      → (m : List ℕ) × (length m ≤ length l) × (length m < picks p n) × Route (Near p n R) v m w
+      → (m : List ℕ) × (length m ≤ length l) × (length m < count n p) × Route (Near p n R) v m w
   short v w l h r =
       let (m, s, e, f, d) = simple (Near p n R) v l (r .0) in
       (m, f, pigeonhole p n (v ∷ m) d (walk-picked v m h s), (s, e ∙ r .1))
@@ -84,20 +85,20 @@ module _ {p : ℕ → Bool} {n : ℕ} {R : ℕ → ℕ → Type 0} {val : ℕ �
           (w ∷ a .0, omega arith, (((pw, r), a .2 .0), a .2 .1 ∙ sym e))
 
   -- a round that changes something comes before as many rounds as there are picked nodes
-  pub changed : (k v : ℕ) → Picked p n v → val (suc k) v ≢ val k v → suc k < picks p n
+  pub changed : (k v : ℕ) → Picked p n v → val (suc k) v ≢ val k v → suc k < count n p
   changed k v h c = go (value-within (suc k) v h)
     where
-      go : Within p n R (suc k) v (val (suc k) v) → suc k < picks p n
+      go : Within p n R (suc k) v (val (suc k) v) → suc k < count n p
       go (l, b, r) =
           let (m, f, q, s) = short p n R v (val (suc k) v) l h r in
           by m q s (decLe (length m) k)
         where
-          by : (m : List ℕ) → length m < picks p n → Route (Near p n R) v m (val (suc k) v) → Dec (length m ≤ k) → suc k < picks p n
+          by : (m : List ℕ) → length m < count n p → Route (Near p n R) v m (val (suc k) v) → Dec (length m ≤ k) → suc k < count n p
           by m q s (yes g) = absurd (c (omega (arith, least-within k v (val (suc k) v) h (m, g, s), rounds .own k v h)))
           by m q s (no g) = omega arith
 
   -- so from that number of rounds on nothing changes ..
-  pub still-from : (k : ℕ) → picks p n ≤ suc k → Still p n val k
+  pub still-from : (k : ℕ) → count n p ≤ suc k → Still p n val k
   still-from k b v h = go (ℕ-discrete (val (suc k) v) (val k v))
     where
       go : Dec (val (suc k) v ≡ val k v) → val (suc k) v ≡ val k v
@@ -105,10 +106,10 @@ module _ {p : ℕ → Bool} {n : ℕ} {R : ℕ → ℕ → Type 0} {val : ℕ �
       go (no e) = absurd (omega (arith, changed k v h e))
 
   -- .. and the first later round without change is at most the greater of 2 and that number
-  pub still-by : (k : ℕ) × (1 ≤ k) × (suc k ≤ max 2 (picks p n)) × Still p n val k
-  still-by = go (picks p n) refl
+  pub still-by : (k : ℕ) × (1 ≤ k) × (suc k ≤ max 2 (count n p)) × Still p n val k
+  still-by = go (count n p) refl
     where
-      go : (N : ℕ) → picks p n ≡ N → (k : ℕ) × (1 ≤ k) × (suc k ≤ max 2 (picks p n)) × Still p n val k
+      go : (N : ℕ) → count n p ≡ N → (k : ℕ) × (1 ≤ k) × (suc k ≤ max 2 (count n p)) × Still p n val k
       go zero e = (1, omega arith, omega arith, still-from 1 (omega arith))
       go (suc zero) e = (1, omega arith, omega arith, still-from 1 (omega arith))
       go (suc (suc k)) e = (suc k, omega arith, omega arith, still-from (suc k) (omega arith))

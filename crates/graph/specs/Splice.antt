@@ -10,7 +10,7 @@ use lib.Dec.{eqb}
 use lib.ListN.{length, length-append}
 use borrow.Author.Tests.{eqb-true, eqb-false, eq-eqb}
 use Rattle.lists.specs.Members.{Mem, Distinct, Disjoint, mem-left, mem-right, mem-cases, mem-reverse, distinct-left, distinct-right, distinct-apart, distinct-join, distinct-reverse}
-use Rattle.lists.specs.Parts.{some, before, after, firstOn, lastOn, past, memb, some-of, first-split, first-on, before-off, last-split, last-on, past-off, memb-mem, mem-memb}
+use Rattle.lists.specs.Parts.{before, after, firstOn, lastOn, past, memb, first-split, first-on, before-off, last-split, last-on, past-off, memb-mem, mem-memb, any, any-of}
 use Rattle.graph.specs.Rings.{Graph, last, Walk, Step, lastOf, firstOf, Ring, Follows, Holds, SameLink}
 use Rattle.graph.specs.Walks.{last-append, lastOf-split, walk-join, walk-left, walk-right, walk-back, ring-closed, closed-ring, step-left, step-right, step-back, step-follows}
 
@@ -77,10 +77,10 @@ module _ (E : ℕ → ℕ → Type 0) (on : ℕ → Bool) where
 
   outer-of : (l : List ℕ) → Ring E l → (z w : ℕ) → z ≢ w → Mem z l → Mem w l → on z ≡ true → on w ≡ true
       → Outer E on l (enter on l) (leave on l) (outer on l)
-  outer-of l R z w n mz mw oz ow = parts (firstOn on l) (before on l) (after on l) (first-split on l any) (first-on on l any) (before-off on l)
+  outer-of l R z w n mz mw oz ow = parts (firstOn on l) (before on l) (after on l) (first-split on l meets) (first-on on l meets) (before-off on l)
     where
-      any : some on l ≡ true
-      any = some-of on z l mz oz
+      meets : any on l ≡ true
+      meets = any-of on z l mz oz
 
       later : (x : ℕ) (B A : List ℕ) → l ≡ B ++ x ∷ A → ((v : ℕ) → Mem v B → on v ≡ true → ⊥) → (v : ℕ) → Mem v l → on v ≡ true → v ≢ x → Mem v A
       later x B A e offB v m o d = cases (mem-cases v B (x ∷ A) (subst (λ (k : List ℕ). Mem v k) e m))
@@ -90,9 +90,9 @@ module _ (E : ℕ → ℕ → Type 0) (on : ℕ → Bool) where
           cases (inr (inl h)) = absurd (d h)
           cases (inr (inr h)) = h
 
-      more : (x : ℕ) (B A : List ℕ) → l ≡ B ++ x ∷ A → ((v : ℕ) → Mem v B → on v ≡ true → ⊥) → Dec (z ≡ x) → some on A ≡ true
-      more x B A e offB (yes h) = some-of on w A (later x B A e offB w mw ow (λ k. n (h ∙ sym k))) ow
-      more x B A e offB (no h) = some-of on z A (later x B A e offB z mz oz h) oz
+      more : (x : ℕ) (B A : List ℕ) → l ≡ B ++ x ∷ A → ((v : ℕ) → Mem v B → on v ≡ true → ⊥) → Dec (z ≡ x) → any on A ≡ true
+      more x B A e offB (yes h) = any-of on w A (later x B A e offB w mw ow (λ k. n (h ∙ sym k))) ow
+      more x B A e offB (no h) = any-of on z A (later x B A e offB z mz oz h) oz
 
       parts : (x : ℕ) (B A : List ℕ) → l ≡ B ++ x ∷ A → on x ≡ true → ((v : ℕ) → Mem v B → on v ≡ true → ⊥) → Outer E on l x (lastOn on A) (past on A ++ B)
       parts x B A e ox offB =

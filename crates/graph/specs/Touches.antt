@@ -7,7 +7,8 @@ use Prim.Native.Nat.{ℕ, zero, suc, _<_}
 use native.Mathlib.Decide.{ℕ-discrete, decLt}
 use native.Mathlib.Omega.{arith}
 use Rattle.lists.specs.Members.{Mem}
-use Rattle.lists.specs.Pigeonhole.{picks, picks-more}
+use Rattle.lists.specs.Folds.{count}
+use Rattle.lists.specs.Counts.{count-next}
 use Rattle.graph.specs.Rings.{Graph, last, Walk, Ring, Connected}
 use Rattle.graph.specs.Walks.{holds-first, holds-second}
 use Rattle.graph.specs.Routes.{Without, ring-around}
@@ -122,13 +123,13 @@ module _ {E : ℕ → ℕ → Type 0} {p d root cl : ℕ → ℕ} (G : Graph E) 
       → ((u v : ℕ) → E u v → u < n)
       → ((x : ℕ) → x < n → (touches x ≡ true) ↔ Touches E p d cl c x)
       → ((x : ℕ) → x < n → (names x ≡ true) ↔ Names d cl c x)
-      → picks touches n ≡ suc (picks names n)
+      → count n touches ≡ suc (count n names)
   touched-count n c w touches names k low ht hn =
       let m = top-exists c w k .0 in
       let T = top-exists c w k .1 in
       let lm : m < n = low m (T .touched .0) (class-link G F (T .touched .1)) in
       let nameless : names m ≡ false = off (names m) (λ e. T .nameless (hn m lm .0 e)) in
-      picks-more touches names n m lm (ht m lm .1 (T .touched)) nameless (λ i l ne. agree m T i l ne (touches i) (names i) refl refl)
+      count-next n touches names m lm (ht m lm .1 (T .touched)) nameless (λ i l ne. agree m T i l ne (touches i) (names i) refl refl)
     where
       off : (b : Bool) → (b ≡ true → ⊥) → b ≡ false
       off true f = absurd (f refl)

@@ -9,7 +9,7 @@ use lib.Dec.{eqb}
 use lib.ListN.{length, length-append}
 use borrow.Author.Tests.{eqb-true, eqb-false, eq-eqb}
 use Rattle.lists.specs.Members.{Mem, Distinct, mem-left, mem-swap, distinct-swap, distinct-apart}
-use Rattle.lists.specs.Parts.{before, after, firstOn, some-of, first-split, first-on}
+use Rattle.lists.specs.Parts.{before, after, firstOn, first-split, first-on, any-of}
 use Rattle.graph.specs.Rings.{last, Walk, Step, lastOf, firstOf, Ring, Follows, Holds, SameLink}
 use Rattle.graph.specs.Walks.{last-append, lastOf-split, walk-join, walk-left, walk-right, ring-closed, follows-step, step-into, holds-first, holds-second}
 
@@ -23,7 +23,7 @@ turn a b r = cond (eqb (lastOf (rotate b r)) a) (rotate b r) (rotate a r)
 
 rotate-split : (b : ℕ) (r : List ℕ) → Mem b r → r ≡ before (λ z. eqb z b) r ++ b ∷ after (λ z. eqb z b) r
 rotate-split b r m =
-    let h = some-of (λ z. eqb z b) b r m (eq-eqb b b refl) in
+    let h = any-of (λ z. eqb z b) b r m (eq-eqb b b refl) in
     let e : firstOn (λ z. eqb z b) r ≡ b = eqb-true (firstOn (λ z. eqb z b) r) b (first-on (λ z. eqb z b) r h) in
     rw e at (first-split (λ z. eqb z b) r h)
 

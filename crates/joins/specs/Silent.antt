@@ -11,13 +11,12 @@ use native.Mathlib.Omega.{arith}
 use lib.Dec.{eqb, ltb}
 use lib.ListN.{length, getD, set, List·getD-eq-default}
 use borrow.Author.Tests.{not-false, eqb-true, eq-eqb, ne-eqb, lt-ltb, ltb-true}
-use Rattle.lists.specs.Bools.{or-false-left, or-false-right}
-use Rattle.lists.specs.Tests.{either, and-left, and-right, cond-true, cond-false}
+use Rattle.lists.specs.Tests.{either, and-left, and-right, cond-true, cond-false, or-false-left, or-false-right}
 use Rattle.lists.specs.Tables.{over, over-cong, getD-over, getD-over-past, length-over}
 use Rattle.lists.specs.Folds.{least}
 use Rattle.lists.specs.LeastLaws.{least-start}
-use Rattle.lists.specs.Rounds.{over-self, over-same}
-use Rattle.lists.specs.Scatter.{takesIn, fold-start, fold-keeps, single-over}
+use Rattle.lists.specs.Rounds.{over-same, over-cong-in}
+use Rattle.lists.specs.Scatter.{takesIn, single-over, fold-again, fold-absorbs}
 use Rattle.table.specs.Table.{endA, endB}
 use Rattle.rules.specs.Basics.{ABSENT, at, isRoot, heard}
 use Rattle.rules.specs.HeardLaws.{hears, hears-over-if}
@@ -51,7 +50,7 @@ overMarked w j ends parent marks said v =
 module _ (w : ℕ) (ends parent marks said : List ℕ) where
   pub marked-none : said ≡ over w (overMarked w 0 ends parent marks said) said
   unfolding overMarked
-  marked-none = sym (over-self 0 w said)
+  marked-none = over-same 0 w _ said (λ (v : ℕ) (l : v < w). refl)
 
   pub marked-more : (j : ℕ) (t new : List ℕ) → t ≡ over w (overMarked w j ends parent marks said) said
       → new ≡ hearsMarked w parent said (at marks j) (endA ends j) (endB ends j) t
@@ -61,7 +60,7 @@ module _ (w : ℕ) (ends parent marks said : List ℕ) where
       rw (put, was, add-one j)
       (hears-over-if (counted w parent (at marks j) (endA ends j) (endB ends j)) false w said (endA ends j) (endB ends j)
       (overMarked w j ends parent marks said) said
-      (λ (v : ℕ). fold-start false j (λ (i : ℕ). heardMarked w parent said (at marks i) (endA ends i) (endB ends i) v) (at said v)))
+      (λ (v : ℕ). fold-again false j (λ (i : ℕ). heardMarked w parent said (at marks i) (endA ends i) (endB ends i) v) (at said v)))
 
   unmarked : (mark a b v : ℕ) → mark ≡ 0 → heardMarked w parent said mark a b v ≡ at said v
   unmarked mark a b v e = rw e
@@ -131,7 +130,7 @@ module _ (w : ℕ) (heads said : List ℕ) where
       rw (told-over k before own)
       (single-over false w (λ (v : ℕ). least k (λ (u : ℕ). cond (eqb (at heads u) v) (at said u) (at said v)) (before v)) (at said) said
       (at heads k) (at said k)
-      (λ (v : ℕ). fold-keeps false k (λ (u : ℕ). cond (eqb (at heads u) v) (at said u) (at said v)) (before v) (at said v) (own v)))
+      (λ (v : ℕ). fold-absorbs false k (λ (u : ℕ). cond (eqb (at heads u) v) (at said u) (at said v)) (before v) (at said v) (own v)))
 
 -- a test of all heads, one more
 pub all-more : (w k : ℕ) (heads : List ℕ) (all new : Bool) → (all ≡ true → (i : ℕ) → i < k → at heads i < w)
@@ -276,7 +275,7 @@ silent-round : (w n m : ℕ) (ends parent links marks value heads t up : List �
     → over n (settled parent t up) value ≡ auxRound n m 1 ends parent links marks value
 unfolding auxRound leastJoined overMarked
 silent-round w n m ends parent links marks value heads t up full few within are low words was from =
-    over-same 0 n (settled parent t up) (leastJoined n m ends parent links marks value) value
+    over-cong-in 0 n (settled parent t up) (leastJoined n m ends parent links marks value) value
     (λ (v : ℕ) (h : v < n) (l : v < length value). go v h l (either (isRoot parent v)))
   where
     said : List ℕ
@@ -293,7 +292,7 @@ silent-round w n m ends parent links marks value heads t up full few within are 
 
     read : (v : ℕ) → v < n → at t v ≡ least n (over-head v) (least m (over-link v) (at said v))
     read v h =
-        rw (was, told-over w heads said n (λ (i : ℕ). least m (over-link i) (at said i)) (λ (i : ℕ). fold-start false m (over-link i) (at said i)))
+        rw (was, told-over w heads said n (λ (i : ℕ). least m (over-link i) (at said i)) (λ (i : ℕ). fold-again false m (over-link i) (at said i)))
         (getD-over w (λ (i : ℕ). least n (over-head i) (least m (over-link i) (at said i))) said v 0 (omega arith)
         (omega (arith, full, length-over w (rooted parent value) value)))
 

@@ -1,4 +1,4 @@
--- Pieces of one length, one after the other: their total length, and each piece at its place.
+-- Pieces one after the other; where they have one length, their total length and each piece at its place.
 use mathlib.Core.Path.{_≡_, refl, sym, ap, _∙_}
 use mathlib.Core.List.{List, [], _∷_, _++_, append-assoc}
 use Prim.Native.Nat.{ℕ, zero, suc, _+_, _*_, _≤_, _<_}
@@ -7,7 +7,12 @@ use native.Mathlib.Nat.{le-refl, le-step, not-suc-le-zero}
 use native.Mathlib.Omega.{arith}
 use lib.ListN.{length, take, drop, length-append}
 use lib.Seq.{take-at, drop-at, drop-append-le, take-append-le}
-use Rattle.lists.specs.Tables.{gathered}
+
+-- f 0 ++ f 1 ++ .. ++ f (n − 1)
+module _ {ℓ} {A : Type ℓ} where
+  abbrev pub gathered : ℕ → (ℕ → List A) → List A
+  gathered zero f = []
+  gathered (suc n) f = gathered n f ++ f n
 
 module _ {A : Type 0} where
   pub length-gathered : (n k : ℕ) (f : ℕ → List A) → ((i : ℕ) → i < n → length (f i) ≡ k) → length (gathered n f) ≡ k * n

@@ -11,10 +11,11 @@ use lib.ListN.{length}
 use borrow.Author.Tests.{eqb-true, eqb-false, eq-eqb, ne-eqb, lt-ltb, not-true, not-false}
 use Rattle.lists.specs.Tests.{either, not-exact, and-left, and-right, and-true, cond-true, cond-false}
 use Rattle.lists.specs.Tables.{over, length-over, getD-over, over-over}
-use Rattle.lists.specs.Folds.{least, agree}
+use Rattle.lists.specs.Folds.{least, agree, count}
 use Rattle.lists.specs.LeastLaws.{least-le, least-start, least-is}
 use Rattle.lists.specs.Agreement.{agree-at, agree-differ}
-use Rattle.lists.specs.Pigeonhole.{picks, Picked, picks-fewer}
+use Rattle.lists.specs.Pigeonhole.{Picked}
+use Rattle.lists.specs.Counts.{count-fewer}
 use Rattle.table.specs.Table.{endA, endB}
 use Rattle.rules.specs.Basics.{ABSENT, at, isRoot, heard}
 use Rattle.rules.specs.BoundLaws.{eq-exact}
@@ -258,8 +259,8 @@ module _
     -- ---- how long the stage takes, and what it leaves
 
     -- the color unit of unit 0 is a root, so at most n − 1 units name tree links
-    named-few : picks (named parent) n < n
-    named-few = picks-fewer (named parent) n (at color 0) below (ap not (eq-eqb (at parent (at color 0)) ABSENT (rooted .absentRoot (at color 0) below .1 top)))
+    named-few : count n (named parent) < n
+    named-few = count-fewer n (named parent) (at color 0) below (ap not (eq-eqb (at parent (at color 0)) ABSENT (rooted .absentRoot (at color 0) below .1 top)))
       where
         below : at color 0 < n
         below = rooted .colorBelow 0 (site .someUnit)

@@ -13,7 +13,8 @@ use lib.Pow.{pow-pos, pow-mono}
 use borrow.Author.Tests.{eqb-true, eq-eqb, ne-eqb, leb-true, le-leb, lt-leb, ltb-true, lt-ltb, le-ltb}
 use Rattle.lists.specs.Folds.{sum as total, count}
 use Rattle.lists.specs.Tests.{and-left, and-right, and-true, not-both}
-use Rattle.lists.specs.CountLaws.{sum-le, sum-further, count-cong, count-none, count-some, count-positive, count-both}
+use Rattle.lists.specs.Sums.{sum-le, sum-further}
+use Rattle.lists.specs.Counts.{count-cong, count-none, count-some, count-positive, count-apart}
 use Rattle.numbers.specs.Lg.{lg, lgFrom}
 use Rattle.numbers.specs.LgLaws.{lg-reaches, lg-least}
 use Rattle.rules.specs.Basics.{ABSENT, MAX-NUMBER, at, bounded}
@@ -232,18 +233,18 @@ module _ (K : ℕ) (R : ℕ → ℕ) (p : ℕ → Bool)
         arith,
         within-count x (λ (y : ℕ) (h : 1 ≤ y) (l : y ≤ x). each y h (omega arith)),
         at-level (each (suc x) (omega arith) (omega arith)),
-        count-both K (λ (b : ℕ). p b && leb (R b) x) (λ (b : ℕ). p b && eqb (R b) (suc x)) (λ (b : ℕ). p b && leb (R b) (suc x)) below level,
+        count-apart K (λ (b : ℕ). p b && leb (R b) x) (λ (b : ℕ). p b && eqb (R b) (suc x)) (λ (b : ℕ). p b && leb (R b) (suc x)) below level,
       )
     where
       at-level : (b : ℕ) × (b < K) × (p b ≡ true) × (R b ≡ suc x) → 1 ≤ count K (λ (b : ℕ). p b && eqb (R b) (suc x))
       at-level (b, l, e, q) =
           count-positive K (λ (b : ℕ). p b && eqb (R b) (suc x)) b l (and-true (p b) (eqb (R b) (suc x)) e (eq-eqb (R b) (suc x) q))
 
-      below : (b : ℕ) → b < K → (p b && leb (R b) x) ≡ true → ((p b && eqb (R b) (suc x)) ≡ false) × ((p b && leb (R b) (suc x)) ≡ true)
+      below : (b : ℕ) → b < K → (p b && leb (R b) x) ≡ true → ((p b && leb (R b) (suc x)) ≡ true) × ((p b && eqb (R b) (suc x)) ≡ false)
       below b l e =
           let picked : p b ≡ true = and-left (p b) (leb (R b) x) e in
           let near : R b ≤ x = leb-true (R b) x (and-right (p b) (leb (R b) x) e) in
-          (rw (picked, ne-eqb (R b) (suc x) (omega arith)), rw (picked, le-leb (R b) (suc x) (omega arith)))
+          (rw (picked, le-leb (R b) (suc x) (omega arith)), rw (picked, ne-eqb (R b) (suc x) (omega arith)))
 
       level : (b : ℕ) → b < K → (p b && eqb (R b) (suc x)) ≡ true → (p b && leb (R b) (suc x)) ≡ true
       level b l e =
@@ -256,17 +257,17 @@ module _ (K : ℕ) (R : ℕ → ℕ) (p : ℕ → Bool)
       omega (
         arith,
         within-count x each,
-        count-both K (λ (b : ℕ). ltb x (R b)) (λ (b : ℕ). p b && leb (R b) x) p far (λ (b : ℕ) (k : b < K). and-left (p b) (leb (R b) x)),
+        count-apart K (λ (b : ℕ). ltb x (R b)) (λ (b : ℕ). p b && leb (R b) x) p far (λ (b : ℕ) (k : b < K). and-left (p b) (leb (R b) x)),
       )
     where
       each : (y : ℕ) → 1 ≤ y → y ≤ x → (b : ℕ) × (b < K) × (p b ≡ true) × (R b ≡ y)
       each y k m = attained y (R a - y) a k l (behind a l (omega arith) .0) (omega arith)
 
-      far : (b : ℕ) → b < K → ltb x (R b) ≡ true → ((p b && leb (R b) x) ≡ false) × (p b ≡ true)
+      far : (b : ℕ) → b < K → ltb x (R b) ≡ true → (p b ≡ true) × ((p b && leb (R b) x) ≡ false)
       far b k e =
           let beyond : x < R b = ltb-true x (R b) e in
           let picked : p b ≡ true = behind b k (omega arith) .0 in
-          (rw (picked, lt-leb (R b) x beyond), picked)
+          (picked, rw (picked, lt-leb (R b) x beyond))
 
   -- so with at most 510 objects, the arcs of 256 units, a ranking makes at most 4,079 requests
   pub asked-few : count K p ≤ 510 → (k : ℕ) → asked K R k ≤ 4079

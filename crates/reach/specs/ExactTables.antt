@@ -17,7 +17,7 @@ use Rattle.rules.specs.Components.{colorRound}
 use Rattle.rules.specs.Tour.{arcUnit, isArc}
 use Rattle.rules.specs.Ranking.{asks, rankingEnds}
 use Rattle.rules.specs.Range.{unitAt, localAt, globalFirst, rangeFirst, movesLittle, movesBig, odd}
-use Rattle.rules.specs.ChoiceLaws.{AtLeast}
+use Rattle.lists.specs.FoldLaws.{AtLeast}
 use Rattle.rules.specs.RangeEntries.{unit-at}
 use Rattle.rules.specs.Order.{placeOf}
 use Rattle.survey.specs.declared.state.Survey.{Survey}

@@ -6,7 +6,7 @@ use mathlib.Core.List.{List}
 use Prim.Native.Nat.{ℕ, _+_, _*_, _-_, _≤_, _<_, min, max}
 use Rattle.numbers.specs.Lg.{lg}
 use Rattle.rules.specs.Basics.{ABSENT, at}
-use Rattle.rules.specs.ChoiceLaws.{AtLeast}
+use Rattle.lists.specs.FoldLaws.{AtLeast}
 use Rattle.rules.specs.Tour.{isInto, isArc, follower, predecessor}
 use Rattle.rules.specs.Range.{localAt}
 use Rattle.rules.specs.Labels.{namingUnit}

@@ -10,8 +10,9 @@ use lib.Dec.{eqb, ltb}
 use borrow.Author.Tests.{eqb-true, eqb-false, eq-eqb, ne-eqb, ltb-true, ltb-false}
 use Rattle.lists.specs.Tests.{either, or-exact, not-exact, and-left, and-right, and-true, cond-true, cond-false}
 use Rattle.lists.specs.Folds.{least, count, some}
-use Rattle.lists.specs.LeastLaws.{least-le, least-is, some-exact}
-use Rattle.lists.specs.CountOne.{count-one}
+use Rattle.lists.specs.LeastLaws.{least-le, least-is}
+use Rattle.lists.specs.Some.{some-exact}
+use Rattle.lists.specs.Counts.{count-one}
 use Rattle.table.specs.Table.{endA, endB}
 use Rattle.rules.specs.Basics.{ABSENT, at}
 use Rattle.rules.specs.BoundLaws.{eq-exact}

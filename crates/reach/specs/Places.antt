@@ -10,9 +10,9 @@ use native.Mathlib.Omega.{arith}
 use lib.Dec.{eqb, ltb}
 use borrow.Author.Tests.{eqb-true, eq-eqb, ne-eqb, lt-ltb, le-ltb, ltb-true}
 use Rattle.lists.specs.Folds.{count}
-use Rattle.lists.specs.Sums.{count-cong, count-apart, count-all}
+use Rattle.lists.specs.Counts.{count-cong, count-apart, count-true}
 use Rattle.lists.specs.Pigeonhole.{onto}
-use Rattle.lists.specs.Tests.{either, cond-true, not-both, refuted}
+use Rattle.lists.specs.Tests.{either, cond-true, not-both, refuted, same-test}
 use Rattle.rules.specs.Basics.{at, isRoot}
 use Rattle.rules.specs.Tour.{arcUnit, isInto, isArc}
 use Rattle.rules.specs.Order.{reverseArc, descendants, placeOf}
@@ -34,15 +34,11 @@ size n color c = count n (λ (w : ℕ). eqb (at color w) c)
 unfoldable pub place : ℕ → List ℕ → List ℕ → (ℕ → ℕ) → ℕ → ℕ
 place n color parent d v = pre n parent d v + offset n color (at color v)
 
-same-test : (a b : Bool) → (a ≡ true → b ≡ true) → (b ≡ true → a ≡ true) → a ≡ b
-same-test true b f g = sym (f refl)
-same-test false b f g = sym (refuted b (λ (e : b ≡ true). not-both false (g e) refl))
-
 offset-size : (n : ℕ) (color : List ℕ) (c : ℕ) → offset n color c + size n color c ≤ n
 offset-size n color c =
     omega (
       arith,
-      count-all n,
+      count-true n,
       count-apart n (λ (w : ℕ). ltb (at color w) c) (λ (w : ℕ). eqb (at color w) c) (λ (w : ℕ). true)
           (λ (w : ℕ) (l : w < n) (t : ltb (at color w) c ≡ true). let k = ltb-true (at color w) c t in (refl, ne-eqb (at color w) c (omega arith)))
           (λ (w : ℕ) (l : w < n) (t : eqb (at color w) c ≡ true). refl),

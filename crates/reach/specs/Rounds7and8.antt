@@ -14,7 +14,7 @@ use Rattle.lists.specs.Tables.{getD-over}
 use Rattle.numbers.specs.Lg.{lg}
 use Rattle.table.specs.Table.{endA, endB}
 use Rattle.rules.specs.Basics.{at, offTree}
-use Rattle.rules.specs.ChoiceLaws.{AtLeast, min-choice, max-choice}
+use Rattle.lists.specs.FoldLaws.{AtLeast, min-choice, max-choice}
 use Rattle.rules.specs.Range.{localAt, localOf, globalFirst, rangeFirst, littleFirst, bigFirst, rangeLater, littleLater, bigLater, globalLater, rangeEnds}
 use Rattle.rules.specs.Aux.{linkJoinsRound, joinsParent, parentJoinsRound}
 use Rattle.graph.specs.Forest.{Anc, OffTree}

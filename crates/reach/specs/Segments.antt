@@ -13,7 +13,7 @@ use Rattle.lists.specs.Multiples.{Multiple, multiple-one, multiple-up, multiple
 use Rattle.numbers.specs.Lg.{lg}
 use Rattle.numbers.specs.LgLaws.{lg-reaches}
 use Rattle.rules.specs.Basics.{MAX-NUMBER, at, bounded}
-use Rattle.rules.specs.ChoiceLaws.{Choice}
+use Rattle.lists.specs.FoldLaws.{Choice}
 use Rattle.rules.specs.Range.{odd, localOf, localAt, movesLittle, movesBig, withLittle, withBig, globalFirst, rangeFirst, littleFirst, bigFirst, rangeLater, littleLater, bigLater, globalLater}
 use Rattle.rules.specs.RangeEntries.{unit-at, local-at, global-first, range-first, little-first, big-first, even-multiple, odd-remainder, little-rests, big-rests, little-moves, big-moves, little-entry, big-entry, range-entry, little-takes, little-passes, big-takes, big-passes, global-doubles, global-stays, length-global-first, length-range-first, length-little-first, length-big-first, length-global-later, length-range-later, length-little-later, length-big-later}
 

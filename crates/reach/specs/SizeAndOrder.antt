@@ -10,7 +10,7 @@ use native.Mathlib.Omega.{arith}
 use lib.Dec.{eqb, ltb}
 use borrow.Author.Tests.{eqb-true, eq-eqb, ne-eqb, ltb-true, lt-ltb, le-ltb}
 use Rattle.lists.specs.Folds.{sum, count}
-use Rattle.lists.specs.LeastLaws.{count-le}
+use Rattle.lists.specs.Counts.{count-le}
 use Rattle.lists.specs.Sums.{sum-cong, sum-zero, sum-add, sum-swap, sum-le, sum-more, sum-one}
 use Rattle.lists.specs.Tests.{either, or-cases, or-left, or-right, and-left, and-right, and-true, cond-true, cond-false, refuted}
 use Rattle.rules.specs.Basics.{at}

@@ -10,7 +10,7 @@ use native.Mathlib.Omega.{arith}
 use lib.Dec.{eqb, ltb}
 use borrow.Author.Tests.{eqb-true, eq-eqb, ne-eqb, lt-ltb, le-ltb, ltb-true}
 use Rattle.lists.specs.Folds.{count}
-use Rattle.lists.specs.Sums.{count-mono, count-less, count-all}
+use Rattle.lists.specs.Counts.{count-mono, count-less, count-true}
 use Rattle.lists.specs.Tests.{either, and-left, and-right, and-true, or-cases, or-left, or-right, or-exact, cond-true, cond-false, not-both, refuted}
 use Rattle.rules.specs.Basics.{ABSENT, at, isRoot}
 use Rattle.rules.specs.Tour.{arcUnit, isInto, isArc, treeNeighbor, leastNeighbor, neighborAfter, arcFrom, arcAfter, follower, isStart, predecessor}
@@ -352,7 +352,7 @@ module _ {n m : ℕ} {ends color parent : List ℕ} {d : ℕ → ℕ} (site : Si
       (λ (i : ℕ) (l : i < 2 * n) (t : isArc parent i ≡ true).
       other-true i (λ (e : i ≡ 2 * r). not-both (isArc parent i) t (no-arc i (omega arith)))) in
       let b = count-less (2 * n) other (λ (i : ℕ). true) (2 * r) (omega (arith, below)) (rw (eq-eqb (2 * r) (2 * r) refl) refl) refl (λ (i : ℕ) (l : i < 2 * n) t. refl) in
-      omega (arith, count-all (2 * n))
+      omega (arith, count-true (2 * n))
     where
       r : ℕ
       r = rootOf n color 0

@@ -12,11 +12,6 @@ use Rattle.rules.specs.Basics.{at, heard}
 unfoldable pub hears : Bool → ℕ → List ℕ → ℕ → ℕ → List ℕ → List ℕ
 hears g n value a b t = takesIn (opOf g) n (takesIn (opOf g) n t a (at value b)) b (at value a)
 
-pub length-hears : (g : Bool) (n : ℕ) (value : List ℕ) (a b : ℕ) (t : List ℕ) → length (hears g n value a b t) ≡ length t
-unfolding hears
-length-hears g n value a b t =
-    length-takesIn (opOf g) n (takesIn (opOf g) n t a (at value b)) b (at value a) ∙ length-takesIn (opOf g) n t a (at value b)
-
 -- a table whose entries have taken in their own values
 pub hears-over : (g : Bool) (n : ℕ) (value : List ℕ) (a b : ℕ) (f : ℕ → ℕ) (old : List ℕ)
     → ((v : ℕ) → opOf g (f v) (at value v) ≡ f v)

@@ -9,12 +9,14 @@ use lib.Dec.{eqb, leb, ltb}
 use borrow.Author.Tests.{eqb-false, eqb-true, eq-eqb}
 use Rattle.lists.specs.All.{All, all-at, all-over, cond-keeps}
 use Rattle.lists.specs.Folds.{fold, least, count}
-use Rattle.lists.specs.LeastLaws.{least-le, count-le}
+use Rattle.lists.specs.LeastLaws.{least-le}
+use Rattle.lists.specs.Counts.{count-le}
 use Rattle.lists.specs.Tables.{over}
 use Rattle.lists.specs.Tests.{either, or-left, or-right, cond-true, cond-false}
 use Rattle.table.specs.Table.{endA, endB}
 use Rattle.rules.specs.Basics.{ABSENT, MAX-NUMBER, at, bounded, isRoot, heard, offTree}
-use Rattle.rules.specs.BoundLaws.{Names, Number, Distance, names-at, number-at, bounded-number, Picks, min-picks, picks-keep, fold-picks}
+use Rattle.rules.specs.BoundLaws.{Names, Number, Distance, names-at, number-at, bounded-number}
+use Rattle.lists.specs.FoldLaws.{Picks, min-picks, picks-keep, fold-picks}
 use Rattle.rules.specs.Components.{leastHeard, colorSaid, colorRound}
 use Rattle.rules.specs.Tree.{visitedBefore, candidate, chosenParent, visits, parentRound, distRound}
 use Rattle.rules.specs.Tour.{arcUnit, isInto, isArc, treeNeighbor, leastNeighbor, greaterNeighbor, neighborAfter, arcFrom, arcAfter, follower, isStart, predecessor, nextRound, predRound, firstSums, firstJumps}

@@ -1,6 +1,6 @@
 -- Stage 3 as code makes it: both arcs of a unit in one turn, predecessors and starts by buckets.
 use mathlib.Core.Path.{_≡_, refl, sym, ap, _∙_}
-use mathlib.Core.Bool.{Bool, true, false, not, cond, _&&_}
+use mathlib.Core.Bool.{Bool, true, false, not, cond, _&&_, or-false}
 use mathlib.Core.List.{List}
 use Prim.Native.Nat.{ℕ, _+_, _*_, _/_, _%_, _≤_, _<_, min}
 use native.Mathlib.Omega.{arith}
@@ -8,7 +8,6 @@ use lib.Dec.{eqb}
 use lib.ListN.{getD}
 use borrow.Author.Tests.{eqb-true, eq-eqb, ne-eqb}
 use Rattle.lists.specs.Tables.{over}
-use Rattle.lists.specs.Bools.{or-none}
 use Rattle.lists.specs.Folds.{least}
 use Rattle.lists.specs.FoldLaws.{fold-cong}
 use Rattle.rules.specs.Basics.{ABSENT, at, isRoot}
@@ -68,7 +67,7 @@ root-one : (n : ℕ) (parent : List ℕ) (p w : ℕ) → n ≤ ABSENT → at par
     → cond (Tour.treeNeighbor parent p w) w ABSENT ≡ cond (eqb (at parent w) p) w ABSENT
 root-one n parent p w small root h =
     let ne : at parent p ≡ w → ⊥ = λ q. omega (arith, q, root) in
-    rw (ne-eqb (at parent p) w ne, or-none (eqb (at parent w) p))
+    rw (ne-eqb (at parent p) w ne, or-false (eqb (at parent w) p))
 
 pub root-least : (n : ℕ) (parent : List ℕ) (p : ℕ) → n ≤ ABSENT → at parent p ≡ ABSENT → Tour.leastNeighbor n parent p ≡ firstAt n parent p
 unfolding Tour.leastNeighbor firstAt

@@ -5,7 +5,7 @@ use mathlib.Core.List.{List}
 use Prim.Native.Nat.{ℕ, _+_, _≤_}
 use native.Mathlib.Omega.{arith}
 use lib.Dec.{leb}
-use Rattle.lists.specs.LeastLaws.{count-le}
+use Rattle.lists.specs.Counts.{count-le}
 use Rattle.table.specs.Passes.{passes}
 use Rattle.rules.specs.Ceilings.{ceiling}
 use Rattle.rules.specs.CeilingLaws.{ceiling-small}

@@ -5,9 +5,8 @@ use native.Mathlib.Nat.{le-antisymm}
 use native.Mathlib.Omega.{arith}
 use lib.ListN.{length}
 use Rattle.lists.specs.Tables.{over}
-use Rattle.lists.specs.Rounds.{over-more}
+use Rattle.lists.specs.Rounds.{over-more, over-least}
 use Rattle.rules.specs.OrderLaws.{placeBy, pre-round}
-use Rattle.lists.specs.Limits.{over-least}
 use borrow.Author.Needs.{needs}
 use Rattle.ranks.proofs.order.pre_round.Statement.{statement}
 use Rattle.ranks.proofs.order.pre_round.Tie as tie

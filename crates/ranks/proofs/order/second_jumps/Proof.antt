@@ -4,10 +4,9 @@ use Prim.Native.Nat.{_*_, _≤_, _-_, min}
 use native.Mathlib.Nat.{le-antisymm}
 use lib.ListN.{length}
 use Rattle.lists.specs.Tables.{over}
-use Rattle.lists.specs.Rounds.{over-pair}
+use Rattle.lists.specs.Rounds.{over-pair, over-least-pairs}
 use Rattle.rules.specs.Basics.{at}
 use Rattle.rules.specs.Order.{secondJumps}
-use Rattle.lists.specs.Limits.{over-least-pairs}
 use borrow.Author.Needs.{needs}
 use Rattle.ranks.proofs.order.second_jumps.Statement.{statement}
 use Rattle.ranks.proofs.order.second_jumps.Tie as tie

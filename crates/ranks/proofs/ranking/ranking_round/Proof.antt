@@ -4,9 +4,8 @@ use Prim.Native.Nat.{_≤_, _-_, min}
 use native.Mathlib.Nat.{le-antisymm}
 use lib.ListN.{length}
 use Rattle.lists.specs.Tables.{over}
-use Rattle.lists.specs.Rounds.{over-more}
+use Rattle.lists.specs.Rounds.{over-more, over-least}
 use Rattle.rules.specs.Ranking.{jumpAfter, jumpRound, sumAfter, sumRound}
-use Rattle.lists.specs.Limits.{over-least}
 use borrow.Author.Needs.{needs}
 use Rattle.ranks.proofs.ranking.ranking_round.Statement.{statement}
 use Rattle.ranks.proofs.ranking.ranking_round.Tie as tie

@@ -1,7 +1,7 @@
 -- Past the table there is nothing to hear.
 use native.Mathlib.Omega.{arith}
 use Rattle.rules.specs.Components.{leastHeard}
-use Rattle.lists.specs.Limits.{over-least}
+use Rattle.lists.specs.Rounds.{over-least}
 use borrow.Author.Needs.{needs}
 use Rattle.stages.proofs.components.least_heard.Statement.{statement}
 use Rattle.stages.proofs.components.least_heard.Tie as tie

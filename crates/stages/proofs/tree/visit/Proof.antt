@@ -7,10 +7,9 @@ use native.Mathlib.Omega.{arith}
 use lib.ListN.{length}
 use Rattle.lists.specs.Tables.{over}
 use Rattle.lists.specs.Folds.{some}
-use Rattle.lists.specs.Rounds.{over-more}
-use Rattle.lists.specs.Counts.{some-more, some-all}
+use Rattle.lists.specs.Rounds.{over-more, over-least}
+use Rattle.lists.specs.Some.{some-more, some-all}
 use Rattle.rules.specs.TreeLaws.{visitsBy, parentBy, distBy}
-use Rattle.lists.specs.Limits.{over-least}
 use borrow.Author.Needs.{needs}
 use Rattle.stages.proofs.tree.visit.Statement.{statement}
 use Rattle.stages.proofs.tree.visit.Tie as tie

@@ -5,10 +5,9 @@ use Prim.Native.Nat.{_*_, _≤_, _-_, min}
 use native.Mathlib.Nat.{le-antisymm}
 use lib.ListN.{length}
 use Rattle.lists.specs.Tables.{over}
-use Rattle.lists.specs.Rounds.{over-pair}
+use Rattle.lists.specs.Rounds.{over-pair, over-least-pairs}
 use Rattle.rules.specs.Basics.{isRoot}
 use Rattle.rules.specs.Tour.{firstSum, firstSums}
-use Rattle.lists.specs.Limits.{over-least-pairs}
 use Rattle.tours.specs.Predecessors.{sum-into, sum-out}
 use borrow.Author.Needs.{needs}
 use Rattle.tours.proofs.tour.first_sums.Statement.{statement}

@@ -5,13 +5,12 @@ use native.Mathlib.Omega.{arith}
 use native.Mathlib.Nat.{le-antisymm}
 use lib.ListN.{length, getD}
 use Rattle.lists.specs.Tables.{over}
-use Rattle.lists.specs.Rounds.{over-pair}
+use Rattle.lists.specs.Rounds.{over-pair, over-least-pairs}
 use Rattle.rules.specs.Basics.{ABSENT}
 use Rattle.rules.specs.Buckets.{BUCKETS}
 use Rattle.rules.specs.FirstLaws.{firstAt}
 use Rattle.rules.specs.Tour.{predecessor, predRound, firstJumps}
 use Rattle.rules.specs.TourLaws.{pred-out}
-use Rattle.lists.specs.Limits.{over-least-pairs}
 use Rattle.tours.specs.Predecessors.{pred-in-any}
 use borrow.Author.Needs.{needs}
 use Rattle.tours.proofs.tour.pred_round.Statement.{statement}
