@@ -11,6 +11,7 @@ use native.Mathlib.Omega.{arith}
 use lib.Dec.{eqb, ltb}
 use lib.ListN.{length, getD, set, List·getD-eq-default}
 use borrow.Author.Tests.{not-false, eqb-true, eq-eqb, ne-eqb, lt-ltb, ltb-true}
+use Rattle.lists.specs.Below.{below-more}
 use Rattle.lists.specs.Tests.{either, and-left, and-right, cond-true, cond-false, or-false-left, or-false-right}
 use Rattle.lists.specs.Tables.{over, over-cong, getD-over, getD-over-past, length-over}
 use Rattle.lists.specs.Folds.{least}
@@ -88,17 +89,11 @@ module _ (w : ℕ) (ends parent marks said : List ℕ) where
 -- a test of some mark from `from` on, one more
 pub none-more : (from k : ℕ) (marks : List ℕ) (any new : Bool) → (any ≡ false → (i : ℕ) → from ≤ i → i < k → at marks i ≡ 0)
     → new ≡ (any || not (eqb (at marks k) 0)) → new ≡ false → (i : ℕ) → from ≤ i → i < k + 1 → at marks i ≡ 0
-none-more from k marks any new before put e i a l = go (decLt i k)
-  where
-    failed : (any || not (eqb (at marks k) 0)) ≡ false
-    failed = sym put ∙ e
-
-    last : i ≡ k → at marks i ≡ 0
-    last q = rw q (eqb-true (at marks k) 0 (not-false (eqb (at marks k) 0) (or-false-right any (not (eqb (at marks k) 0)) failed)))
-
-    go : Dec (i < k) → at marks i ≡ 0
-    go (yes h) = before (or-false-left any (not (eqb (at marks k) 0)) failed) i a h
-    go (no h) = last (omega arith)
+none-more from k marks any new before put e i a l =
+    let failed : (any || not (eqb (at marks k) 0)) ≡ false = sym put ∙ e in
+    below-more (λ (j : ℕ). from ≤ j → at marks j ≡ 0) k
+    (λ (j : ℕ) (h : j < k) (b : from ≤ j). before (or-false-left any (not (eqb (at marks k) 0)) failed) j b h)
+    (λ (b : from ≤ k). eqb-true (at marks k) 0 (not-false (eqb (at marks k) 0) (or-false-right any (not (eqb (at marks k) 0)) failed))) i l a
 
 -- ---- with parents
 
@@ -135,17 +130,10 @@ module _ (w : ℕ) (heads said : List ℕ) where
 -- a test of all heads, one more
 pub all-more : (w k : ℕ) (heads : List ℕ) (all new : Bool) → (all ≡ true → (i : ℕ) → i < k → at heads i < w)
     → new ≡ (all && ltb (at heads k) w) → new ≡ true → (i : ℕ) → i < k + 1 → at heads i < w
-all-more w k heads all new before put e i l = go (decLt i k)
-  where
-    passed : (all && ltb (at heads k) w) ≡ true
-    passed = sym put ∙ e
-
-    last : i ≡ k → at heads i < w
-    last q = rw q (ltb-true (at heads k) w (and-right all (ltb (at heads k) w) passed))
-
-    go : Dec (i < k) → at heads i < w
-    go (yes h) = before (and-left all (ltb (at heads k) w) passed) i h
-    go (no h) = last (omega arith)
+all-more w k heads all new before put e =
+    let passed : (all && ltb (at heads k) w) ≡ true = sym put ∙ e in
+    below-more (λ (i : ℕ). at heads i < w) k (before (and-left all (ltb (at heads k) w) passed))
+    (ltb-true (at heads k) w (and-right all (ltb (at heads k) w) passed))
 
 -- the heads, and over them what they say as far as it is looked up: a head not yet looked up
 module _ (k : ℕ) (heads said up : List ℕ) (was : up ≡ over k (λ (i : ℕ). at said (at heads i)) heads) where

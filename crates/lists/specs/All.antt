@@ -45,10 +45,6 @@ module _ {A : Type 0} where
   all-of P [] d h = tt
   all-of P (x ∷ t) d h = (h zero (suc-le-suc zero-le), all-of P t d (λ (i : ℕ) (l : i < length t). h (suc i) (suc-le-suc l)))
 
-  pub all-map : (P Q : A → Type 0) (t : List A) → ((x : A) → P x → Q x) → All P t → All Q t
-  all-map P Q [] h a = tt
-  all-map P Q (x ∷ t) h a = (h x (a .0), all-map P Q t h (a .1))
-
   -- the test `every` decides it, where p decides P
   pub every-exact : (p : A → Bool) (P : A → Type 0) → ((x : A) → (p x ≡ true) ↔ P x) → (t : List A) → (every p t ≡ true) ↔ All P t
   every-exact p P h [] = (λ e. tt, λ a. refl)

@@ -99,11 +99,9 @@ count-some (suc n) p = go (either (p n)) (count-some n p)
 
 pub count-positive : (n : ℕ) (p : ℕ → Bool) (i : ℕ) → i < n → p i ≡ true → 1 ≤ count n p
 count-positive zero p i l h = absurd (not-suc-le-zero l)
-count-positive (suc n) p i l h = go (decLt i n) (λ (k : i < n). count-positive n p i k h)
-  where
-    go : Dec (i < n) → (i < n → 1 ≤ count n p) → 1 ≤ count (suc n) p
-    go (yes k) before = omega (arith, before k)
-    go (no k) before = let q : n ≡ i = omega arith in let e : p n ≡ true = rw q h in rw e (omega arith)
+count-positive (suc n) p i l h =
+    below-suc (λ (j : ℕ). p j ≡ true → 1 ≤ count (suc n) p) n
+    (λ (j : ℕ) (k : j < n) (e : p j ≡ true). omega (arith, count-positive n p j k e)) (λ (e : p n ≡ true). rw e (omega arith)) i l h
 
 -- two that pass
 count-two : (n : ℕ) (p : ℕ → Bool) (i j : ℕ) → i < j → j < n → p i ≡ true → p j ≡ true → 2 ≤ count n p

@@ -3,8 +3,9 @@ use mathlib.Core.Path.{_≡_, refl, ap₂, _∙_}
 use mathlib.Core.Logic.{_⊎_, inl, inr}
 use Prim.Native.Nat.{ℕ, zero, suc, _≤_, _<_, min, max}
 use native.Mathlib.Nat.{le-refl, le-step, not-suc-le-zero}
-use native.Mathlib.Decide.{decLe, decLt}
+use native.Mathlib.Decide.{decLe}
 use native.Mathlib.Omega.{arith}
+use Rattle.lists.specs.Below.{below-suc}
 use Rattle.lists.specs.Folds.{fold}
 
 pub fold-cong : (op : ℕ → ℕ → ℕ) (n : ℕ) (f g : ℕ → ℕ) (x : ℕ) → ((i : ℕ) → i < n → f i ≡ g i) → fold op n f x ≡ fold op n g x
@@ -86,11 +87,10 @@ module _ {op : ℕ → ℕ → ℕ} {le : ℕ → ℕ → Type 0} (choice : Choi
 
   pub fold-before : (n : ℕ) (f : ℕ → ℕ) (x i : ℕ) → i < n → le (fold op n f x) (f i)
   fold-before zero f x i l = absurd (not-suc-le-zero l)
-  fold-before (suc n) f x i l = go (decLt i n) (λ (h : i < n). fold-before n f x i h)
-    where
-      go : Dec (i < n) → (i < n → le (fold op n f x) (f i)) → le (fold op (suc n) f x) (f i)
-      go (yes h) below = choice .through (fold op (suc n) f x) (fold op n f x) (f i) (choice .left (fold op n f x) (f n)) (below h)
-      go (no h) below = let e : i ≡ n = omega arith in rw e (choice .right (fold op n f x) (f n))
+  fold-before (suc n) f x i l =
+      below-suc (λ (j : ℕ). le (fold op (suc n) f x) (f j)) n
+      (λ (j : ℕ) (h : j < n). choice .through (fold op (suc n) f x) (fold op n f x) (f j) (choice .left (fold op n f x) (f n)) (fold-before n f x j h))
+      (choice .right (fold op n f x) (f n)) i l
 
   pub fold-is : (n : ℕ) (f : ℕ → ℕ) (x : ℕ) → (fold op n f x ≡ x) ⊎ ((i : ℕ) × (i < n) × (fold op n f x ≡ f i))
   fold-is zero f x = inl refl

@@ -1,12 +1,12 @@
--- What the least and the greatest of some numbers are.
-use mathlib.Core.Path.{_≡_, refl, _∙_}
+-- What the least of some numbers is.
+use mathlib.Core.Path.{_≡_}
 use mathlib.Core.Bool.{Bool, true, false, cond}
 use mathlib.Core.Logic.{_⊎_, inl, inr}
 use Prim.Native.Nat.{ℕ, zero, suc, _≤_, _<_}
 use native.Mathlib.Nat.{le-refl, le-step}
 use native.Mathlib.Omega.{arith}
-use Rattle.lists.specs.Folds.{least, greatest}
-use Rattle.lists.specs.FoldLaws.{min-choice, max-choice, fold-start, fold-before, fold-is}
+use Rattle.lists.specs.Folds.{least}
+use Rattle.lists.specs.FoldLaws.{min-choice, fold-start, fold-before, fold-is}
 use Rattle.lists.specs.Tests.{either}
 
 pub least-start : (n : ℕ) (f : ℕ → ℕ) (x : ℕ) → least n f x ≤ x
@@ -38,12 +38,3 @@ least-found n p none = go (least-is n (λ (w : ℕ). cond (p w) w none) none)
         → (least n (λ (w : ℕ). cond (p w) w none) none < n) ⊎ (least n (λ (w : ℕ). cond (p w) w none) none ≡ none)
     go (inl e) = inr e
     go (inr w) = at (least n (λ (w : ℕ). cond (p w) w none) none) (w .0) (w .1) (w .2) (either (p (w .0)))
-
-pub greatest-start : (n : ℕ) (f : ℕ → ℕ) (x : ℕ) → x ≤ greatest n f x
-greatest-start n f x = fold-start max-choice n f x
-
-pub greatest-ge : (n : ℕ) (f : ℕ → ℕ) (x i : ℕ) → i < n → f i ≤ greatest n f x
-greatest-ge n f x i l = fold-before max-choice n f x i l
-
-pub greatest-is : (n : ℕ) (f : ℕ → ℕ) (x : ℕ) → (greatest n f x ≡ x) ⊎ ((i : ℕ) × (i < n) × (greatest n f x ≡ f i))
-greatest-is n f x = fold-is max-choice n f x

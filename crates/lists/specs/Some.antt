@@ -5,8 +5,7 @@ use mathlib.Core.Logic.{_↔_, _⊎_, inl, inr}
 use Prim.Native.Nat.{ℕ, zero, suc, _+_, _≤_, _<_}
 use native.Mathlib.Nat.{le-refl, le-step, le-antisymm, not-suc-le-zero}
 use native.Mathlib.Numerals.{add-one}
-use native.Mathlib.Decide.{decLt}
-use native.Mathlib.Omega.{arith}
+use Rattle.lists.specs.Below.{below-suc}
 use Rattle.lists.specs.Folds.{some}
 use Rattle.lists.specs.Tests.{or-cases, or-left, or-right, refuted, not-both}
 
@@ -20,14 +19,9 @@ some-found (suc n) p e = pick (or-cases (some n p) (p n) e) (some-found n p)
 
 some-at : (n : ℕ) (p : ℕ → Bool) (i : ℕ) → i < n → p i ≡ true → some n p ≡ true
 some-at zero p i l h = absurd (not-suc-le-zero l)
-some-at (suc n) p i l h = go (decLt i n) (λ (k : i < n). some-at n p i k h)
-  where
-    last : i ≡ n → some (suc n) p ≡ true
-    last e = or-right (some n p) (p n) (rw (← e) h)
-
-    go : Dec (i < n) → (i < n → some n p ≡ true) → some (suc n) p ≡ true
-    go (yes k) below = or-left (some n p) (p n) (below k)
-    go (no k) below = last (omega arith)
+some-at (suc n) p i l h =
+    below-suc (λ (j : ℕ). p j ≡ true → some (suc n) p ≡ true) n (λ (j : ℕ) (k : j < n) (e : p j ≡ true). or-left (some n p) (p n) (some-at n p j k e))
+    (or-right (some n p) (p n)) i l h
 
 -- some number below n passes
 pub some-exact : (n : ℕ) (p : ℕ → Bool) → (some n p ≡ true) ↔ ((i : ℕ) × (i < n) × (p i ≡ true))

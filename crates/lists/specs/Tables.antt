@@ -11,20 +11,10 @@ module _ {ℓ} {A : Type ℓ} where
   tab zero f = []
   tab (suc n) f = let h = f zero in h ∷ tab n (λ (k : ℕ). f (suc k))
 
-  pub length-tab : (n : ℕ) (f : ℕ → A) → length (tab n f) ≡ n
-  length-tab zero f = refl
-  length-tab (suc n) f = ap suc (length-tab n (λ (k : ℕ). f (suc k)))
-
   pub getD-tab : (n : ℕ) (f : ℕ → A) (i : ℕ) (d : A) → i < n → getD (tab n f) i d ≡ f i
   getD-tab zero f i d h = absurd (not-suc-le-zero h)
   getD-tab (suc n) f zero d h = refl
   getD-tab (suc n) f (suc i) d h = getD-tab n (λ (k : ℕ). f (suc k)) i d (le-of-suc-le-suc h)
-
-  pub tab-cong : (n : ℕ) (f g : ℕ → A) → ((i : ℕ) → i < n → f i ≡ g i) → tab n f ≡ tab n g
-  tab-cong zero f g h = refl
-  tab-cong (suc n) f g h =
-      ap₂ (λ (x : A) (xs : List A). x ∷ xs) (h zero (suc-le-suc zero-le))
-      (tab-cong n (λ (k : ℕ). f (suc k)) (λ (k : ℕ). g (suc k)) (λ (i : ℕ) (l : i < n). h (suc i) (suc-le-suc l)))
 
   listed : (l : List A) (d : A) → l ≡ tab (length l) (λ (i : ℕ). getD l i d)
   listed [] d = refl

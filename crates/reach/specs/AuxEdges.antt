@@ -10,6 +10,7 @@ use native.Mathlib.Nat.{pos-of-ne-zero}
 use native.Mathlib.Omega.{arith}
 use lib.Dec.{eqb, ltb, leb}
 use borrow.Author.Tests.{ltb-true, lt-ltb, leb-true, le-leb}
+use Rattle.lists.specs.FoldLaws.{min-choice, max-choice}
 use Rattle.lists.specs.Tests.{and-exact, or-exact}
 use Rattle.rules.specs.Basics.{at, isRoot}
 use Rattle.rules.specs.Range.{localOf}
@@ -19,7 +20,7 @@ use Rattle.graph.specs.Ancestors.{anc-trans}
 use Rattle.reach.specs.Site.{Site, Link, link-below}
 use Rattle.reach.specs.Rooted.{Rooted}
 use Rattle.reach.specs.Ordered.{Ordered, Ranged}
-use Rattle.reach.specs.OffTheTree.{nonroot-exact, off-flip, Given, low-off, low-given, high-off, high-given}
+use Rattle.reach.specs.OffTheTree.{nonroot-exact, off-flip, Given, local-off, local-given}
 
 -- u joins its parent: that is no root, and a link off the tree leads from below u to outside the parent's descendants
 pub record JoinsUp (E : ℕ → ℕ → Type 0) (p d : ℕ → ℕ) (u : ℕ) : Type 0 where
@@ -52,7 +53,7 @@ module _
       by-low l = go (ranged .lowTaken u hu)
         where
           go : (w : ℕ) × (w < n) × Anc (at parent) d u w × (at low u ≡ localOf min m ends parent pre w) → JoinsUp (Link m ends) (at parent) d u
-          go (w, hw, a, e) = by (low-given site rooted pre w)
+          go (w, hw, a, e) = by (local-given site rooted pre min-choice w)
             where
               by : Given site rooted pre w (localOf min m ends parent pre w) → JoinsUp (Link m ends) (at parent) d u
               by (inl f) = absurd (omega (arith, in-parent w hw a, e, f))
@@ -71,7 +72,7 @@ module _
       by-high l = go (ranged .highTaken u hu)
         where
           go : (w : ℕ) × (w < n) × Anc (at parent) d u w × (at high u ≡ localOf max m ends parent pre w) → JoinsUp (Link m ends) (at parent) d u
-          go (w, hw, a, e) = by (high-given site rooted pre w)
+          go (w, hw, a, e) = by (local-given site rooted pre max-choice w)
             where
               by : Given site rooted pre w (localOf max m ends parent pre w) → JoinsUp (Link m ends) (at parent) d u
               by (inl f) = absurd (omega (arith, in-parent w hw a, e, f))
@@ -102,9 +103,9 @@ module _
 
           go : Dec (at pre x < at pre (at parent u)) → Dec (at pre x < at pre (at parent u) + at nd (at parent u))
               → (at low u < at pre (at parent u)) ⊎ (at pre (at parent u) + at nd (at parent u) ≤ at high u)
-          go (yes l) k = inl (omega (arith, ranged .lowLeast u y hu hy a, low-off site rooted pre y x o′))
+          go (yes l) k = inl (omega (arith, ranged .lowLeast u y hu hy a, local-off site rooted pre min-choice y x o′))
           go (no l) (yes k) = absurd (out (ordered .interval (at parent u) x hp hx .1 (omega arith, k)))
-          go (no l) (no k) = inr (omega (arith, ranged .highGreatest u y hu hy a, high-off site rooted pre y x o′))
+          go (no l) (no k) = inr (omega (arith, ranged .highGreatest u y hu hy a, local-off site rooted pre max-choice y x o′))
 
     -- the mark of case 3 is exact
     pub joins-exact : (u : ℕ) → u < n → (joinsParent parent nd pre low high u ≡ true) ↔ JoinsUp (Link m ends) (at parent) d u

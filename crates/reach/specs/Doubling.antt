@@ -145,10 +145,7 @@ module _ {K : ℕ} {R S : ℕ → ℕ} (potential : Potential K R S) {jump sum :
   pub jumps-absent : rankingEnds K jump ≡ true → (a : ℕ) → a < K → at jump a ≡ ABSENT
   jumps-absent e a l = all-reached e a l .0
 
-  -- and the round without requests changes nothing
-  pub jumps-rest : rankingEnds K jump ≡ true → jumpRound K jump ≡ jump
-  jumps-rest e = jumps-still K jump (jumps-absent e)
-
+  -- and the round without requests changes no sum
   pub sums-rest : rankingEnds K jump ≡ true → sumRound K jump sum ≡ sum
   sums-rest e = sums-still K jump sum (jumps-absent e)
 

@@ -368,29 +368,3 @@ module _ {n m : ℕ} {ends color parent : List ℕ} {d : ℕ → ℕ} (site : Si
 
       other-true : (i : ℕ) → (i ≡ 2 * r → ⊥) → other i ≡ true
       other-true i h = rw (ne-eqb i (2 * r) h) refl
-
-  -- the arcs with a rank above x, where there is one
-  pub ranks-above : (x a : ℕ) → a < 2 * n → isArc parent a ≡ true → x < rankOf n parent d a
-      → count (2 * n) (λ (b : ℕ). isArc parent b && ltb x (rankOf n parent d b)) + x ≤ 2 * n - 2
-  ranks-above zero a l t h =
-      omega (
-        arith,
-        arcs-le,
-        count-mono (2 * n) (λ (b : ℕ). isArc parent b && ltb 0 (rankOf n parent d b)) (isArc parent)
-            (λ (i : ℕ) (k : i < 2 * n) (s : (isArc parent i && ltb 0 (rankOf n parent d i)) ≡ true). and-left (isArc parent i) (ltb 0 (rankOf n parent d i)) s),
-      )
-  ranks-above (suc x) a l t h =
-      let (b, k, s, e) = rank-taken a (suc x) l t (omega arith) (omega arith) in
-      omega (
-        arith,
-        ranks-above x a l t (omega arith),
-        count-less (2 * n) (λ (c : ℕ). isArc parent c && ltb (suc x) (rankOf n parent d c)) (λ (c : ℕ). isArc parent c && ltb x (rankOf n parent d c)) b k
-            (rw (s, le-ltb (suc x) (rankOf n parent d b) (omega arith)) refl)
-            (rw (s, lt-ltb x (rankOf n parent d b) (omega arith)) refl)
-            (λ (i : ℕ) (j : i < 2 * n) (q : (isArc parent i && ltb (suc x) (rankOf n parent d i)) ≡ true).
-            and-true (isArc parent i) (ltb x (rankOf n parent d i)) (and-left (isArc parent i) (ltb (suc x) (rankOf n parent d i)) q)
-            (less i (ltb-true (suc x) (rankOf n parent d i) (and-right (isArc parent i) (ltb (suc x) (rankOf n parent d i)) q)))),
-      )
-    where
-      less : (i : ℕ) → suc x < rankOf n parent d i → ltb x (rankOf n parent d i) ≡ true
-      less i k = lt-ltb x (rankOf n parent d i) (omega arith)

@@ -1,6 +1,6 @@
 -- Stage 3 as code makes it: both arcs of a unit in one turn, predecessors and starts by buckets.
 use mathlib.Core.Path.{_≡_, refl, sym, ap, _∙_}
-use mathlib.Core.Bool.{Bool, true, false, not, cond, _&&_, or-false}
+use mathlib.Core.Bool.{Bool, true, false, not, cond, _&&_, and-true, or-false}
 use mathlib.Core.List.{List}
 use Prim.Native.Nat.{ℕ, _+_, _*_, _/_, _%_, _≤_, _<_, min}
 use native.Mathlib.Omega.{arith}
@@ -14,10 +14,6 @@ use Rattle.rules.specs.Basics.{ABSENT, at, isRoot}
 use Rattle.rules.specs.Buckets.{BUCKETS, lookup, lookup-right}
 use Rattle.rules.specs.FirstLaws.{firstAt, first-clamp}
 use Rattle.rules.specs.Tour
-
-and-all : (b : Bool) → (b && true) ≡ b
-and-all true = refl
-and-all false = refl
 
 -- ---- the two arcs of v
 
@@ -109,4 +105,4 @@ module _ (n : ℕ) (parent next child first : List ℕ) (lost : ℕ) (small : n 
 
   pub pred-out : (v : ℕ) → 2 * v + 1 < BUCKETS → predOut parent first v ≡ Tour.predecessor n parent next (2 * v + 1)
   unfolding Tour.predecessor Tour.isStart
-  pred-out v h = rw (unit-out v, odd-out v, first-same (2 * v + 1) h) (ap (λ (b : Bool). cond b (least (2 * n) (λ (b : ℕ). cond (eqb (at next b) (2 * v + 1)) b ABSENT) ABSENT) ABSENT) (sym (and-all (not (isRoot parent v)))))
+  pred-out v h = rw (unit-out v, odd-out v, first-same (2 * v + 1) h) (ap (λ (b : Bool). cond b (least (2 * n) (λ (b : ℕ). cond (eqb (at next b) (2 * v + 1)) b ABSENT) ABSENT) ABSENT) (sym (and-true (not (isRoot parent v)))))

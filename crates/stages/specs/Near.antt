@@ -10,6 +10,7 @@ use lib.ListN.{length, getD, set}
 use lib.Seq.{set-getD, getD-set-other}
 use lib.Dec.{ltb}
 use borrow.Author.Tests.{lt-ltb, le-ltb}
+use Rattle.lists.specs.Below.{below-more}
 use Rattle.lists.specs.LeastLaws.{least-start}
 use Rattle.lists.specs.Tables.{over, length-over, getD-over}
 use Rattle.lists.specs.Scatter.{takesIn}
@@ -25,11 +26,8 @@ EndsWithin n m ends = (2 * m ≤ length ends) × ((i : ℕ) → i < 2 * m → ge
 -- a bound of one word more
 pub above-more : (ends : List ℕ) (k most new : ℕ) → ((i : ℕ) → i < k → getD ends i 0 ≤ most) → new ≡ max most (getD ends k 0)
     → (i : ℕ) → i < k + 1 → getD ends i 0 ≤ new
-above-more ends k most new was put i h = go (decLt i k)
-  where
-    go : Dec (i < k) → getD ends i 0 ≤ new
-    go (yes l) = omega (arith, was i l, put)
-    go (no l) = let e : i ≡ k = omega arith in rw e (omega (arith, put))
+above-more ends k most new was put =
+    below-more (λ (i : ℕ). getD ends i 0 ≤ new) k (λ (i : ℕ) (l : i < k). omega (arith, was i l, put)) (omega (arith, put))
 
 -- unit v exists and has at most what it says
 abbrev pub Hearer : ℕ → List ℕ → List ℕ → ℕ → Type 0

@@ -1,11 +1,12 @@
 -- Laws by which the code that judges a state goes.
 use mathlib.Core.Path.{_≡_, refl, sym, ap, _∙_}
-use mathlib.Core.Bool.{Bool, true, _&&_, and-true, and-assoc}
+use mathlib.Core.Bool.{Bool, true, _&&_, and-true}
 use mathlib.Core.List.{List, [], _∷_, _++_}
 use Prim.Native.Nat.{ℕ, _*_, _≤_}
 use lib.Dec.{eqb, leb}
 use lib.ListN.{take}
 use borrow.Author.Tests.{eqb-true}
+use Rattle.lists.specs.All.{every-append}
 use Rattle.lists.specs.Folds.{every}
 use Rattle.lists.specs.Tests.{and-right}
 use Rattle.table.specs.Table.{maxLinks, tableRefusal}
@@ -30,11 +31,6 @@ pub kept-clock : (s : Survey) → wellFormed s ≡ true → (units s ≤ 256) ×
 kept-clock s w =
     let k : Kept s = kept-exact s .0 w in
     (passes (units s) (words s) (k .passes) .fewUnits, (k .from, k .to))
-
--- a test of every entry of two lists in a row
-every-append : {A : Type 0} (p : A → Bool) (s t : List A) → every p (s ++ t) ≡ (every p s && every p t)
-every-append p [] t = refl
-every-append p (x ∷ s) t = rw (every-append p s t) (sym (and-assoc (p x) (every p s) (every p t)))
 
 -- the tables of units after the ends, and the tables of numbers in three groups: what the code judges together
 abbrev pub otherUnitTables : Survey → List (List ℕ)
