@@ -20,7 +20,7 @@ abbrev pub Near : (ℕ → Bool) → ℕ → (ℕ → ℕ → Type 0) → ℕ �
 Near p n R v w = Picked p n w × R v w
 
 -- w is at most k steps from v
-abbrev pub Within : (ℕ → Bool) → ℕ → (ℕ → ℕ → Type 0) → ℕ → ℕ → ℕ → Type 0
+abbrev Within : (ℕ → Bool) → ℕ → (ℕ → ℕ → Type 0) → ℕ → ℕ → ℕ → Type 0
 Within p n R k v w = (l : List ℕ) × (length l ≤ k) × Route (Near p n R) v l w
 
 module _ (p : ℕ → Bool) (n : ℕ) (R : ℕ → ℕ → Type 0) where
@@ -34,7 +34,7 @@ module _ (p : ℕ → Bool) (n : ℕ) (R : ℕ → ℕ → Type 0) where
   reached-picked v w h (l, r) = rw (r .1) at (walk-picked v l h (r .0) (last v l) (last-mem v l))
 
   -- what is reached is reached in fewer steps than there are picked nodes, and in no more than were taken
-  pub short : (v w : ℕ) (l : List ℕ) → Picked p n v → Route (Near p n R) v l w
+  short : (v w : ℕ) (l : List ℕ) → Picked p n v → Route (Near p n R) v l w
       → (m : List ℕ) × (length m ≤ length l) × (length m < count n p) × Route (Near p n R) v m w
   short v w l h r =
       let (m, s, e, f, d) = simple (Near p n R) v l (r .0) in
@@ -57,7 +57,7 @@ module _ {p : ℕ → Bool} {n : ℕ} {R : ℕ → ℕ → Type 0} {val : ℕ �
   falls (suc k) v h = omega (arith, rounds .own k v h, falls k v h)
 
   -- the value after k rounds is the least node within k steps: it is at most each ..
-  pub least-within : (k v w : ℕ) → Picked p n v → Within p n R k v w → val k v ≤ w
+  least-within : (k v w : ℕ) → Picked p n v → Within p n R k v w → val k v ≤ w
   least-within k v w h (l, b, r) = go k v l h b (r .0) (r .1)
     where
       go : (j x : ℕ) (m : List ℕ) → Picked p n x → length m ≤ j → Walk (Near p n R) x m → last x m ≡ w → val j x ≤ w
@@ -68,7 +68,7 @@ module _ {p : ℕ → Bool} {n : ℕ} {R : ℕ → ℕ → Type 0} {val : ℕ �
           omega (arith, rounds .near j x y px (r .0 .0) (r .0 .1))
 
   -- .. and is one of them
-  pub value-within : (k v : ℕ) → Picked p n v → Within p n R k v (val k v)
+  value-within : (k v : ℕ) → Picked p n v → Within p n R k v (val k v)
   value-within zero v h = ([], omega arith, (tt, sym (rounds .start v h)))
   value-within (suc k) v h = go (value-within k) (rounds .attained k v h)
     where
@@ -98,7 +98,7 @@ module _ {p : ℕ → Bool} {n : ℕ} {R : ℕ → ℕ → Type 0} {val : ℕ �
           by m q s (no g) = omega arith
 
   -- so from that number of rounds on nothing changes ..
-  pub still-from : (k : ℕ) → count n p ≤ suc k → Still p n val k
+  still-from : (k : ℕ) → count n p ≤ suc k → Still p n val k
   still-from k b v h = go (ℕ-discrete (val (suc k) v) (val k v))
     where
       go : Dec (val (suc k) v ≡ val k v) → val (suc k) v ≡ val k v
@@ -120,10 +120,10 @@ module _ {p : ℕ → Bool} {n : ℕ} {R : ℕ → ℕ → Type 0} {val : ℕ �
 
   module _ (k : ℕ) (still : Still p n val k) where
     -- once nothing changes a value is at most those that its node reads ..
-    pub still-near : (v w : ℕ) → Picked p n v → Picked p n w → R v w → val k v ≤ val k w
+    still-near : (v w : ℕ) → Picked p n v → Picked p n w → R v w → val k v ≤ val k w
     still-near v w pv pw r = omega (arith, still v pv, rounds .near k v w pv pw r)
 
-    pub still-along : (v w : ℕ) → Picked p n v → Connected (Near p n R) v w → val k v ≤ val k w
+    still-along : (v w : ℕ) → Picked p n v → Connected (Near p n R) v w → val k v ≤ val k w
     still-along v w pv (l, r) = go v l pv (r .0) (r .1)
       where
         go : (x : ℕ) (m : List ℕ) → Picked p n x → Walk (Near p n R) x m → last x m ≡ w → val k x ≤ val k w

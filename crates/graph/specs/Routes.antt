@@ -79,7 +79,7 @@ module _ (E : ℕ → ℕ → Type 0) where
   )
 
   -- a walk that meets no u connects its start with each of its vertices, without the links at u
-  pub connected-along : (u a : ℕ) (l : List ℕ) → Walk E a l → (Mem u (a ∷ l) → ⊥) → (z : ℕ) → Mem z (a ∷ l) → Connected (Without u E) a z
+  connected-along : (u a : ℕ) (l : List ℕ) → Walk E a l → (Mem u (a ∷ l) → ⊥) → (z : ℕ) → Mem z (a ∷ l) → Connected (Without u E) a z
   connected-along u a [] w h z (inl e) = ([], (tt, sym e))
   connected-along u a [] w h z (inr m) = absurd m
   connected-along u a (b ∷ l) w h z (inl e) = ([], (tt, sym e))

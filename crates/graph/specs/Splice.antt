@@ -16,13 +16,13 @@ use Rattle.graph.specs.Walks.{last-append, lastOf-split, walk-join, walk
 
 -- Of a ring, read from its first vertex to its last: the first and the last vertex that pass a test, and what lies outside
 -- these two: past the last and on to the first, over the link from the ring's last vertex to its first.
-abbrev pub enter : (ℕ → Bool) → List ℕ → ℕ
+abbrev enter : (ℕ → Bool) → List ℕ → ℕ
 enter on l = firstOn on l
 
-abbrev pub leave : (ℕ → Bool) → List ℕ → ℕ
+abbrev leave : (ℕ → Bool) → List ℕ → ℕ
 leave on l = lastOn on (after on l)
 
-abbrev pub outer : (ℕ → Bool) → List ℕ → List ℕ
+abbrev outer : (ℕ → Bool) → List ℕ → List ℕ
 outer on l = past on (after on l) ++ before on l
 
 -- what `outer` is of a ring on which two different vertices pass
@@ -104,7 +104,7 @@ module _ (E : ℕ → ℕ → Type 0) (on : ℕ → Bool) where
           (outer-parts B x (s .0) (lastOn on A) (past on A) R′ ox (last-on on A h) offB (past-off on A))
 
 -- z is s or t, as a test
-abbrev pub either : ℕ → ℕ → ℕ → Bool
+abbrev either : ℕ → ℕ → ℕ → Bool
 either s t z = eqb z s || eqb z t
 
 either-cases : (s t z : ℕ) → either s t z ≡ true → (z ≡ s) ⊎ (z ≡ t)
@@ -126,7 +126,7 @@ either-second s t = go (eqb t s)
 
 -- Of a ring r with s and t on it: the part between s and t that leads over the link from the last vertex to the first,
 -- read from s to t, without its ends.
-abbrev pub arc : ℕ → ℕ → List ℕ → List ℕ
+abbrev arc : ℕ → ℕ → List ℕ → List ℕ
 arc s t r = cond (eqb (enter (either s t) r) t) (outer (either s t) r) (reverse (outer (either s t) r))
 
 -- The ring through the link from the last vertex to the first of r and that of q, where two vertices are on both. The ear

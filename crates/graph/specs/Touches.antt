@@ -27,7 +27,7 @@ abbrev pub Names : (ℕ → ℕ) → (ℕ → ℕ) → ℕ → ℕ → Type 0
 Names d cl c x = (0 < d x) × (cl x ≡ c)
 
 -- m is the unit that class c touches and that names no tree link of it
-pub record Top (E : ℕ → ℕ → Type 0) (p d cl : ℕ → ℕ) (c m : ℕ) : Type 0 where
+record Top (E : ℕ → ℕ → Type 0) (p d cl : ℕ → ℕ) (c m : ℕ) : Type 0 where
   pub touched : Touches E p d cl c m
   pub nameless : Names d cl c m → ⊥
 
@@ -40,7 +40,7 @@ module _ {E : ℕ → ℕ → Type 0} {p d root cl : ℕ → ℕ} (G : Graph E) 
       go (yes h) (no e) = no (λ k. e (k .1))
       go (no h) e = no (λ k. h (k .0))
 
-  pub names-touches : (c x : ℕ) → Names d cl c x → Touches E p d cl c x
+  names-touches : (c x : ℕ) → Names d cl c x → Touches E p d cl c x
   names-touches c x (h, e) = (p x, lower h refl (sym e))
 
   -- a top is the parent of a unit that names a tree link of the class
@@ -86,7 +86,7 @@ module _ {E : ℕ → ℕ → Type 0} {p d root cl : ℕ → ℕ} (G : Graph E) 
               pick (yes i) = absurd (T .nameless (i, sym g ∙ f))
               pick (no i) = omega arith
 
-  pub top-unique : (c m k : ℕ) → Top E p d cl c m → Top E p d cl c k → m ≡ k
+  top-unique : (c m k : ℕ) → Top E p d cl c m → Top E p d cl c k → m ≡ k
   top-unique c m k T U = pick (ℕ-discrete m k)
     where
       pick : Dec (m ≡ k) → m ≡ k
@@ -107,7 +107,7 @@ module _ {E : ℕ → ℕ → Type 0} {p d root cl : ℕ → ℕ} (G : Graph E) 
               omega arith
 
   -- the top of the class of a tree link: climb while the class stays
-  pub top-exists : (c w : ℕ) → Names d cl c w → (m : ℕ) × Top E p d cl c m
+  top-exists : (c w : ℕ) → Names d cl c w → (m : ℕ) × Top E p d cl c m
   top-exists c w = go (d w) w refl
     where
       go : (i v : ℕ) → d v ≡ i → Names d cl c v → (m : ℕ) × Top E p d cl c m

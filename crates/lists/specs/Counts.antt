@@ -28,7 +28,7 @@ cond-le true b h = rw (h refl) (le-refl 1)
 cond-le false true h = omega arith
 cond-le false false h = le-refl 0
 
-pub count-mono : (n : ℕ) (p q : ℕ → Bool) → ((i : ℕ) → i < n → p i ≡ true → q i ≡ true) → count n p ≤ count n q
+count-mono : (n : ℕ) (p q : ℕ → Bool) → ((i : ℕ) → i < n → p i ≡ true → q i ≡ true) → count n p ≤ count n q
 count-mono n p q h = sum-le n (λ (i : ℕ). cond (p i) 1 0) (λ (i : ℕ). cond (q i) 1 0) (λ (i : ℕ) (l : i < n). cond-le (p i) (q i) (h i l))
 
 -- a test that passes where another does, and once more, passes more often

@@ -14,7 +14,7 @@ fold-cong op (suc n) f g x h =
     ap₂ op (fold-cong op n f g x (λ (i : ℕ) (l : i < n). h i (le-step l))) (h n (le-refl (suc n)))
 
 -- a fold keeps what its operation keeps
-pub fold-keeps : (P : ℕ → Type 0) (op : ℕ → ℕ → ℕ) → ((x y : ℕ) → P x → P y → P (op x y))
+fold-keeps : (P : ℕ → Type 0) (op : ℕ → ℕ → ℕ) → ((x y : ℕ) → P x → P y → P (op x y))
     → (n : ℕ) (f : ℕ → ℕ) (x : ℕ) → ((i : ℕ) → i < n → P (f i)) → P x → P (fold op n f x)
 fold-keeps P op h zero f x a b = b
 fold-keeps P op h (suc n) f x a b =

@@ -46,7 +46,7 @@ module _ (on : ℕ → Bool) where
   any-of z (x ∷ l) (inl e) h = or-left (on x) (any on l) (rw e at h)
   any-of z (x ∷ l) (inr m) h = or-right (on x) (any on l) (any-of z l m h)
 
-  pub any-find : (l : List ℕ) → any on l ≡ true → (z : ℕ) × Mem z l × (on z ≡ true)
+  any-find : (l : List ℕ) → any on l ≡ true → (z : ℕ) × Mem z l × (on z ≡ true)
   any-find [] h = absurd (true≢false (sym h))
   any-find (x ∷ l) h = go (any-find l) (or-cases (on x) (any on l) h)
     where
@@ -54,7 +54,7 @@ module _ (on : ℕ → Bool) where
       go f (inl k) = (x, inl refl, k)
       go f (inr k) = let r = f k in (r .0, inr (r .1), r .2)
 
-  pub any-none : (l : List ℕ) → any on l ≡ false → (z : ℕ) → Mem z l → on z ≡ true → ⊥
+  any-none : (l : List ℕ) → any on l ≡ false → (z : ℕ) → Mem z l → on z ≡ true → ⊥
   any-none l h z m k = true≢false (sym (any-of z l m k) ∙ h)
 
   pub first-split : (l : List ℕ) → any on l ≡ true → l ≡ before on l ++ firstOn on l ∷ after on l

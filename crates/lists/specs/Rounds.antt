@@ -48,7 +48,7 @@ module _ {ℓ} {A : Type ℓ} where
       over-ext d n f old old refl (λ (i : ℕ) (l : i < n) (m : i < length old). h i l) (λ (i : ℕ) (l : n ≤ i) (m : i < length old). refl)
 
   -- a turn of a loop that fills a table in order, right where the table has the entry
-  pub over-more-in : (n : ℕ) (f : ℕ → A) (old t new : List A) (x : A) → t ≡ over n f old → (n < length old → x ≡ f n) → new ≡ set t n x
+  over-more-in : (n : ℕ) (f : ℕ → A) (old t new : List A) (x : A) → t ≡ over n f old → (n < length old → x ≡ f n) → new ≡ set t n x
       → new ≡ over (n + 1) f old
   over-more-in n f old t new x was is put = go (decLt n (length old))
     where

@@ -33,7 +33,7 @@ use Rattle.reach.specs.AuxEdges.{JoinsUp}
 -- ---- what a join lets v hear
 
 -- its own value, or over a join that counts the other end's
-pub over-cases : (parent value : List ℕ) (mark a b v : ℕ)
+over-cases : (parent value : List ℕ) (mark a b v : ℕ)
     → (heardOver parent value mark a b v ≡ at value v)
     ⊎ ((w : ℕ) × SameLink a b v w × (joined parent mark a b ≡ true) × (heardOver parent value mark a b v ≡ at value w))
 over-cases parent value mark a b v = go (either (joined parent mark a b)) (either (eqb a v)) (either (eqb b v))
@@ -46,7 +46,7 @@ over-cases parent value mark a b v = go (either (joined parent mark a b)) (eithe
     go (inl e) (inr f) (inl g) = inr (a, inr (refl, eqb-true b v g), e, rw (e, f, g) refl)
     go (inl e) (inr f) (inr g) = inl (rw (e, f, g) refl)
 
-pub over-other : (parent value : List ℕ) (mark a b v w : ℕ) → joined parent mark a b ≡ true → SameLink a b v w
+over-other : (parent value : List ℕ) (mark a b v w : ℕ) → joined parent mark a b ≡ true → SameLink a b v w
     → heardOver parent value mark a b v ≡ at value w
 over-other parent value mark a b v w e (inl s) = rw (e, eq-eqb a v (s .0), s .1) refl
 over-other parent value mark a b v w e (inr s) = go (either (eqb a v))
@@ -62,11 +62,11 @@ pub record Marked (n m : ℕ) (ends parent linkJoins parentJoins : List ℕ) (d 
   pub unrelated : (u v : ℕ) → OffTree (Link m ends) (at parent) d u v → (Anc (at parent) d u v → ⊥) × (Anc (at parent) d v u → ⊥)
 
 -- the tree links are named by the units that are no roots
-abbrev pub named : List ℕ → ℕ → Bool
+abbrev named : List ℕ → ℕ → Bool
 named parent v = not (isRoot parent v)
 
 -- v and w are joined, either way
-abbrev pub Reads : ℕ → List ℕ → List ℕ → (ℕ → ℕ) → ℕ → ℕ → Type 0
+abbrev Reads : ℕ → List ℕ → List ℕ → (ℕ → ℕ) → ℕ → ℕ → Type 0
 Reads m ends parent d v w =
     OffTree (Link m ends) (at parent) d v w
     ⊎ ((JoinsUp (Link m ends) (at parent) d v × (at parent v ≡ w)) ⊎ (JoinsUp (Link m ends) (at parent) d w × (at parent w ≡ v)))
@@ -78,7 +78,7 @@ auxAfter n m ends parent linkJoins parentJoins first (suc k) =
     over n (leastJoined n m ends parent linkJoins parentJoins (auxAfter n m ends parent linkJoins parentJoins first k))
     (auxAfter n m ends parent linkJoins parentJoins first k)
 
-pub aux-length : (n m : ℕ) (ends parent linkJoins parentJoins first : List ℕ) (k : ℕ)
+aux-length : (n m : ℕ) (ends parent linkJoins parentJoins first : List ℕ) (k : ℕ)
     → length (auxAfter n m ends parent linkJoins parentJoins first k) ≡ length first
 unfolding auxAfter
 aux-length n m ends parent lj pj first zero = length-over n (λ (v : ℕ). v) first

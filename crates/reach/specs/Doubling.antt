@@ -94,7 +94,7 @@ module _ {K : ℕ} {R S : ℕ → ℕ} (potential : Potential K R S) {jump sum :
   -- ---- requests
 
   -- an object makes a request exactly when it stands past 2 ^ k
-  pub asks-far : (a : ℕ) → a < K → asks jump a ≡ ltb (2 ^ k) (R a)
+  asks-far : (a : ℕ) → a < K → asks jump a ≡ ltb (2 ^ k) (R a)
   asks-far a l = go (ranked .object a l)
     where
       go : Reached R S jump sum k a ⊎ Ahead K R S jump sum k a → asks jump a ≡ ltb (2 ^ k) (R a)
@@ -113,7 +113,7 @@ module _ {K : ℕ} {R S : ℕ → ℕ} (potential : Potential K R S) {jump sum :
   -- ---- the end
 
   -- the stage ends when all objects stand within 2 ^ k
-  pub ends-within : rankingEnds K jump ≡ true → (a : ℕ) → a < K → R a ≤ 2 ^ k
+  ends-within : rankingEnds K jump ≡ true → (a : ℕ) → a < K → R a ≤ 2 ^ k
   unfolding rankingEnds
   ends-within e a l = go (decLe (R a) (2 ^ k))
     where
@@ -124,13 +124,13 @@ module _ {K : ℕ} {R S : ℕ → ℕ} (potential : Potential K R S) {jump sum :
           (omega
           (arith, requests, eqb-true (requestsOf K jump) 0 e, count-positive K (λ (b : ℕ). ltb (2 ^ k) (R b)) a l (lt-ltb (2 ^ k) (R a) (omega arith))))
 
-  pub within-ends : ((a : ℕ) → a < K → R a ≤ 2 ^ k) → rankingEnds K jump ≡ true
+  within-ends : ((a : ℕ) → a < K → R a ≤ 2 ^ k) → rankingEnds K jump ≡ true
   unfolding rankingEnds
   within-ends h =
       eq-eqb (requestsOf K jump) 0
       (requests ∙ count-none K (λ (a : ℕ). ltb (2 ^ k) (R a)) (λ (a : ℕ) (l : a < K). le-ltb (2 ^ k) (R a) (h a l)))
 
-  pub all-reached : rankingEnds K jump ≡ true → (a : ℕ) → a < K → Reached R S jump sum k a
+  all-reached : rankingEnds K jump ≡ true → (a : ℕ) → a < K → Reached R S jump sum k a
   all-reached e a l = go (ranked .object a l)
     where
       go : Reached R S jump sum k a ⊎ Ahead K R S jump sum k a → Reached R S jump sum k a
@@ -142,7 +142,7 @@ module _ {K : ℕ} {R S : ℕ → ℕ} (potential : Potential K R S) {jump sum :
   sums e a l = all-reached e a l .2
 
   -- no object has a working predecessor,
-  pub jumps-absent : rankingEnds K jump ≡ true → (a : ℕ) → a < K → at jump a ≡ ABSENT
+  jumps-absent : rankingEnds K jump ≡ true → (a : ℕ) → a < K → at jump a ≡ ABSENT
   jumps-absent e a l = all-reached e a l .0
 
   -- and the round without requests changes no sum
@@ -196,7 +196,7 @@ most-le k = go (most-total k)
     go (inr e) = omega arith
 
 -- where one object stands past x at least x do not: then a ranking makes at most 4,079 requests
-pub asked-le : (K A : ℕ) (R : ℕ → ℕ) → A ≤ 510
+asked-le : (K A : ℕ) (R : ℕ → ℕ) → A ≤ 510
     → ((x : ℕ) → 1 ≤ x → (a : ℕ) → a < K → x < R a → count K (λ (b : ℕ). ltb x (R b)) + x ≤ A)
     → (k : ℕ) → asked K R k ≤ 4079
 asked-le K A R h within k = omega (arith, most-le k, sum-le k past most (λ (i : ℕ) (l : i < k). each i (count-some K (λ (a : ℕ). ltb (2 ^ i) (R a)))))
@@ -249,7 +249,7 @@ module _ (K : ℕ) (R : ℕ → ℕ) (p : ℕ → Bool)
           let same : R b ≡ suc x = eqb-true (R b) (suc x) (and-right (p b) (eqb (R b) (suc x)) e) in
           rw (picked, le-leb (R b) (suc x) (omega arith))
 
-  pub past-count : (x : ℕ) → 1 ≤ x → (a : ℕ) → a < K → x < R a → count K (λ (b : ℕ). ltb x (R b)) + x ≤ count K p
+  past-count : (x : ℕ) → 1 ≤ x → (a : ℕ) → a < K → x < R a → count K (λ (b : ℕ). ltb x (R b)) + x ≤ count K p
   past-count x h a l past =
       omega (
         arith,

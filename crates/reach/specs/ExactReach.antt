@@ -144,7 +144,7 @@ round-exact s h x g l =
 
 module _ (n : ℕ) (t : List ℕ) (accepted : tableRefusal n t ≡ 0) where
   -- the exact round of every state before the end is defined, and is the round
-  pub step-exact : (k : ℕ) → k < total (loaded n t) → stepExact (Step.steps k (loaded n t)) ≡ some (Step.step (Step.steps k (loaded n t)))
+  step-exact : (k : ℕ) → k < total (loaded n t) → stepExact (Step.steps k (loaded n t)) ≡ some (Step.step (Step.steps k (loaded n t)))
   step-exact k l =
       let goes : Goes (Step.steps k (loaded n t)) = goes-on n t accepted k l in
       let going : Step.steps k (loaded n t) .clock .stage ≡ FINISHED → ⊥ = total-least (loaded n t) (loaded-wellFormed n t accepted) .least k l in

@@ -41,11 +41,11 @@ pub record Treed (s : Survey) : Type 0 where
       → (Anc (at (s .tree .parent)) depth u v → ⊥) × (Anc (at (s .tree .parent)) depth v u → ⊥)
 
 -- round one of stage 3
-abbrev pub Followers : Survey → Type 0
+abbrev Followers : Survey → Type 0
 Followers s = (a : ℕ) → a < 2 * units s → at (s .tour .next) a ≡ follower (units s) (s .tree .parent) a
 
 -- round two of stage 3
-abbrev pub Predecessors : Survey → Type 0
+abbrev Predecessors : Survey → Type 0
 Predecessors s = (a : ℕ) → a < 2 * units s → at (s .tour .pred) a ≡ predecessor (units s) (s .tree .parent) (s .tour .next) a
 
 -- the tour as stage 3 leaves it

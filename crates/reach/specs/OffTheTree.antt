@@ -21,7 +21,7 @@ use Rattle.reach.specs.Rooted.{Rooted}
 
 module _ {n m : ℕ} {ends color parent : List ℕ} {d : ℕ → ℕ} (site : Site n m ends) (rooted : Rooted n m ends color parent d) where
   -- a unit below n is not the mark
-  pub unit-present : (v : ℕ) → v < n → v ≡ ABSENT → ⊥
+  unit-present : (v : ℕ) → v < n → v ≡ ABSENT → ⊥
   unit-present v h e = omega (arith, site .fewUnits)
 
   -- a unit with a parent that exists is no root

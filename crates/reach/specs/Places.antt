@@ -24,10 +24,10 @@ use Rattle.reach.specs.SizeAndOrder.{nd, pre, isAbove, above-exact, nd-p
 use Rattle.reach.specs.Potentials.{rankOf, forwardSum, arc-cases, root-exact, arc-exact, forward-into, pre-size, rank-less, rank-size}
 
 -- how many units have a smaller color, and how many this one
-abbrev pub offset : ℕ → List ℕ → ℕ → ℕ
+abbrev offset : ℕ → List ℕ → ℕ → ℕ
 offset n color c = count n (λ (w : ℕ). ltb (at color w) c)
 
-abbrev pub size : ℕ → List ℕ → ℕ → ℕ
+abbrev size : ℕ → List ℕ → ℕ → ℕ
 size n color c = count n (λ (w : ℕ). eqb (at color w) c)
 
 -- the preorder number of v, components in the order of their colors
@@ -54,11 +54,11 @@ offset-next n color c e h =
 module _ {n m : ℕ} {ends color parent : List ℕ} {d : ℕ → ℕ} (rooted : Rooted n m ends color parent d) where
   -- ---- components
 
-  pub root-color : (v : ℕ) → v < n → rootOf n color v ≡ at color v
+  root-color : (v : ℕ) → v < n → rootOf n color v ≡ at color v
   root-color v l = cond-true (ltb v n) (at color v) v (lt-ltb v n l)
 
   -- the descendants of a root are its component
-  pub root-size : (v : ℕ) → v < n → d v ≡ 0 → size n color (at color v) ≡ nd n parent d v
+  root-size : (v : ℕ) → v < n → d v ≡ 0 → size n color (at color v) ≡ nd n parent d v
   unfolding nd
   root-size v l z =
       count-cong n (λ (w : ℕ). eqb (at color w) (at color v)) (isAbove parent d v)
@@ -140,7 +140,7 @@ module _ {n m : ℕ} {ends color parent : List ℕ} {d : ℕ → ℕ} (rooted : 
   -- ---- the rules of stages 5 and 6, on tables that hold the potentials
 
   -- a table holds the ranks of the arcs
-  abbrev pub Held : List ℕ → Type 0
+  abbrev Held : List ℕ → Type 0
   Held rank = (a : ℕ) → a < 2 * n → isArc parent a ≡ true → at rank a ≡ rankOf n parent d a
 
   -- forward arcs are those into a unit

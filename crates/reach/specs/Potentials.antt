@@ -83,7 +83,7 @@ module _ {n m : ℕ} {ends color parent : List ℕ} {d : ℕ → ℕ} (rooted : 
       let u : arcUnit (2 * v) ≡ v = omega arith in
       rw (u, into-even v, lt-ltb 0 (d v) h) (omega arith)
 
-  pub forward-out : (v : ℕ) → 0 < d v → forwardSum n parent d (2 * v + 1) + 1 ≡ pre n parent d v + nd n parent d v
+  forward-out : (v : ℕ) → 0 < d v → forwardSum n parent d (2 * v + 1) + 1 ≡ pre n parent d v + nd n parent d v
   unfolding forwardSum
   forward-out v h =
       let u : arcUnit (2 * v + 1) ≡ v = omega arith in
@@ -101,7 +101,7 @@ module _ {n m : ℕ} {ends color parent : List ℕ} {d : ℕ → ℕ} (rooted : 
       let w = anc-within rooted (r .0) in
       omega (arith, pre-root rooted (rootOf n color v) (r .1))
 
-  pub pre-fits : (v : ℕ) → pre n parent d v + nd n parent d v ≤ n
+  pre-fits : (v : ℕ) → pre n parent d v + nd n parent d v ≤ n
   pre-fits v = omega (arith, pre-size v, nd-le rooted (rootOf n color v))
 
   pub rank-less : (v : ℕ) → 0 < d v → rankOf n parent d (2 * v) < rankOf n parent d (2 * v + 1)
@@ -131,7 +131,7 @@ module _ {n m : ℕ} {ends color parent : List ℕ} {d : ℕ → ℕ} (rooted : 
       let g = pre-deep rooted v in
       ((omega arith, omega arith, omega arith), (omega arith, omega arith, omega arith)))
 
-  pub rank-le : (a : ℕ) → 0 < d (arcUnit a) → rankOf n parent d a ≤ 2 * n - 2
+  rank-le : (a : ℕ) → 0 < d (arcUnit a) → rankOf n parent d a ≤ 2 * n - 2
   rank-le a h = let b = bounds a h .1 in omega arith
 
   -- of every place below 2n, arc or not

@@ -21,7 +21,7 @@ use Rattle.survey.specs.Load.{absents, zeros, begun, loaded}
 use Rattle.survey.specs.Step
 
 -- the tables by what indexes them
-abbrev pub unitIndexed : Survey → List (List ℕ)
+abbrev unitIndexed : Survey → List (List ℕ)
 unitIndexed s =
     s .components .color
     ∷ s .tree .parent
@@ -38,13 +38,13 @@ unitIndexed s =
     ∷ s .aux .color
     ∷ []
 
-abbrev pub arcIndexed : Survey → List (List ℕ)
+abbrev arcIndexed : Survey → List (List ℕ)
 arcIndexed s = s .tour .next ∷ s .tour .pred ∷ s .ranking .jump ∷ s .ranking .sum ∷ s .order .forward ∷ []
 
-abbrev pub linkIndexed : Survey → List (List ℕ)
+abbrev linkIndexed : Survey → List (List ℕ)
 linkIndexed s = s .aux .links ∷ s .labels .class ∷ s .labels .label ∷ []
 
-abbrev pub Long : ℕ → List ℕ → Type 0
+abbrev Long : ℕ → List ℕ → Type 0
 Long k t = length t ≡ k
 
 pub record Sized (s : Survey) : Type 0 where

@@ -23,7 +23,7 @@ overLinks j ends parent linkJoins value v =
     least j (λ (i : ℕ). heardOver parent value (at linkJoins i) (endA ends i) (endB ends i) v) (at value v)
 
 -- and, after what `before` says, over the joins of the first k units with their parents
-unfoldable pub overParents : ℕ → List ℕ → List ℕ → List ℕ → (ℕ → ℕ) → ℕ → ℕ
+unfoldable overParents : ℕ → List ℕ → List ℕ → List ℕ → (ℕ → ℕ) → ℕ → ℕ
 overParents k parent parentJoins value before v =
     least k (λ (u : ℕ). heardOver parent value (at parentJoins u) u (at parent u) v) (before v)
 
@@ -67,7 +67,7 @@ module _ (n : ℕ) (parent parentJoins value : List ℕ) where
   parents-all k m old l g = rw (le-antisymm l g)
 
   -- on a table whose entries have taken in their own values
-  pub parents-over : (k : ℕ) (before : ℕ → ℕ) → ((v : ℕ) → min (before v) (at value v) ≡ before v)
+  parents-over : (k : ℕ) (before : ℕ → ℕ) → ((v : ℕ) → min (before v) (at value v) ≡ before v)
       → joinsParents k n parent parentJoins value (over n before value) ≡ over n (overParents k parent parentJoins value before) value
   unfolding joinsParents overParents
   parents-over zero before own = refl

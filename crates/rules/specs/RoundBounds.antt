@@ -135,7 +135,7 @@ next-names n parent next small p w =
     all-over (Names (2 * n)) (2 * n) (follower n parent) next (λ (a : ℕ) (l : a < 2 * n). follower-names n parent a small p l) w
 
 -- predecessors, in the tour and as the first ranking's working ones
-pub predecessor-names : (n : ℕ) (parent next table : List ℕ) → All (Names (2 * n)) table
+predecessor-names : (n : ℕ) (parent next table : List ℕ) → All (Names (2 * n)) table
     → All (Names (2 * n)) (over (2 * n) (predecessor n parent next) table)
 unfolding predecessor
 predecessor-names n parent next table w =
@@ -154,7 +154,7 @@ unfolding firstJumps
 first-jump-names n parent next jump w = predecessor-names n parent next jump w
 
 -- a table of marks, 1 or 0
-pub mark-numbers : (n : ℕ) (p : ℕ → Bool) (table : List ℕ) → All Number table → All Number (over n (λ (i : ℕ). cond (p i) 1 0) table)
+mark-numbers : (n : ℕ) (p : ℕ → Bool) (table : List ℕ) → All Number table → All Number (over n (λ (i : ℕ). cond (p i) 1 0) table)
 mark-numbers n p table w =
     all-over Number n (λ (i : ℕ). cond (p i) 1 0) table (λ (i : ℕ) (l : i < n). cond-keeps Number (p i) 1 0 (omega arith) (omega arith)) w
 

@@ -65,7 +65,7 @@ root-one n parent p w small root h =
     let ne : at parent p ≡ w → ⊥ = λ q. omega (arith, q, root) in
     rw (ne-eqb (at parent p) w ne, or-false (eqb (at parent w) p))
 
-pub root-least : (n : ℕ) (parent : List ℕ) (p : ℕ) → n ≤ ABSENT → at parent p ≡ ABSENT → Tour.leastNeighbor n parent p ≡ firstAt n parent p
+root-least : (n : ℕ) (parent : List ℕ) (p : ℕ) → n ≤ ABSENT → at parent p ≡ ABSENT → Tour.leastNeighbor n parent p ≡ firstAt n parent p
 unfolding Tour.leastNeighbor firstAt
 root-least n parent p small root =
     fold-cong min n (λ (w : ℕ). cond (Tour.treeNeighbor parent p w) w ABSENT) (λ (w : ℕ). cond (eqb (at parent w) p) w ABSENT) ABSENT
