@@ -26,8 +26,8 @@ use Rattle.graph.specs.Ancestors.{root-anc}
 use Rattle.graph.specs.Propagation.{Rounds, Still, changed, still-on}
 use Rattle.graph.specs.Joins.{classes-by-rounds}
 use Rattle.reach.specs.Site.{Site, Link, link-below, site-graph}
-use Rattle.reach.specs.Rooted.{Rooted}
-use Rattle.reach.specs.OffTheTree.{nonroot-exact, root-exact, off-flip}
+use Rattle.reach.specs.Rooted.{Rooted, nonroot-exact}
+use Rattle.reach.specs.OffTheTree.{off-flip}
 use Rattle.reach.specs.AuxEdges.{JoinsUp}
 
 -- ---- what a join lets v hear
@@ -112,10 +112,10 @@ module _
     in-range k v h = omega (arith, long, aux-length n m ends parent linkJoins parentJoins first k)
 
     named-exact : (v : ℕ) → (0 < d v) ↔ Picked (named parent) n v
-    named-exact v = (λ h. inside h (decLt v n), λ h. nonroot-exact site rooted v (h .below) .0 (h .passes))
+    named-exact v = (λ h. inside h (decLt v n), λ h. nonroot-exact rooted v (h .below) .0 (h .passes))
       where
         inside : 0 < d v → Dec (v < n) → Picked (named parent) n v
-        inside h (yes l) = record { below = l; passes = nonroot-exact site rooted v l .1 h }
+        inside h (yes l) = record { below = l; passes = nonroot-exact rooted v l .1 h }
         inside h (no l) = absurd (omega (arith, rooted .outside v (omega arith)))
 
     -- a round's value of a named unit
@@ -133,8 +133,8 @@ module _
         → 0 < d (endA ends j) → 0 < d (endB ends j) → joined parent (at linkJoins j) (endA ends j) (endB ends j) ≡ true
     link-joined j l o a b =
         and-true _ _
-        (and-true _ _ (mark-true (at linkJoins j) (marked .linkMarks j l .1 o)) (nonroot-exact site rooted (endA ends j) (site .belowA j l) .1 a))
-        (nonroot-exact site rooted (endB ends j) (site .belowB j l) .1 b)
+        (and-true _ _ (mark-true (at linkJoins j) (marked .linkMarks j l .1 o)) (nonroot-exact rooted (endA ends j) (site .belowA j l) .1 a))
+        (nonroot-exact rooted (endB ends j) (site .belowB j l) .1 b)
       where
         mark-true : (x : ℕ) → (x ≡ 0 → ⊥) → not (eqb x 0) ≡ true
         mark-true x h = not-exact (eqb x 0) (eq-exact x 0) .1 h
@@ -142,8 +142,8 @@ module _
     parent-joined : (u : ℕ) → u < n → JoinsUp (Link m ends) (at parent) d u → joined parent (at parentJoins u) u (at parent u) ≡ true
     parent-joined u l j =
         and-true _ _
-        (and-true _ _ (not-exact (eqb (at parentJoins u) 0) (eq-exact (at parentJoins u) 0) .1 (marked .parentMarks u l .1 j)) (nonroot-exact site rooted u l .1 (j .child)))
-        (nonroot-exact site rooted (at parent u) (rooted .parentBelow u l (j .child)) .1 (j .inner))
+        (and-true _ _ (not-exact (eqb (at parentJoins u) 0) (eq-exact (at parentJoins u) 0) .1 (marked .parentMarks u l .1 j)) (nonroot-exact rooted u l .1 (j .child)))
+        (nonroot-exact rooted (at parent u) (rooted .parentBelow u l (j .child)) .1 (j .inner))
 
     joined-mark : (mark a b : ℕ) → joined parent mark a b ≡ true → (mark ≡ 0 → ⊥)
     joined-mark mark a b e = not-exact (eqb mark 0) (eq-exact mark 0) .0 (and-left _ (not (isRoot parent a)) (and-left _ (not (isRoot parent b)) e))

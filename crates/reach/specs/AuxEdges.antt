@@ -18,9 +18,9 @@ use Rattle.rules.specs.Aux.{joinsParent}
 use Rattle.graph.specs.Forest.{Anc, self, up, OffTree}
 use Rattle.graph.specs.Ancestors.{anc-trans}
 use Rattle.reach.specs.Site.{Site, Link, link-below}
-use Rattle.reach.specs.Rooted.{Rooted}
+use Rattle.reach.specs.Rooted.{Rooted, nonroot-exact}
 use Rattle.reach.specs.Ordered.{Ordered, Ranged}
-use Rattle.reach.specs.OffTheTree.{nonroot-exact, off-flip, Given, local-off, local-given}
+use Rattle.reach.specs.OffTheTree.{off-flip, Given, local-off, local-given}
 
 -- u joins its parent: that is no root, and a link off the tree leads from below u to outside the parent's descendants
 pub record JoinsUp (E : ℕ → ℕ → Type 0) (p d : ℕ → ℕ) (u : ℕ) : Type 0 where
@@ -135,12 +135,12 @@ module _
         there : joinsParent parent nd pre low high u ≡ true → JoinsUp (Link m ends) (at parent) d u
         there e =
             let q = parts .0 e in
-            let du : 0 < d u = nonroot-exact site rooted u hu .0 (q .0 .0) in
-            chosen du (nonroot-exact site rooted (at parent u) (rooted .parentBelow u hu du) .0 (q .0 .1)) (q .1)
+            let du : 0 < d u = nonroot-exact rooted u hu .0 (q .0 .0) in
+            chosen du (nonroot-exact rooted (at parent u) (rooted .parentBelow u hu du) .0 (q .0 .1)) (q .1)
 
         back : JoinsUp (Link m ends) (at parent) d u → joinsParent parent nd pre low high u ≡ true
         back j =
             parts .1 (
-              (nonroot-exact site rooted u hu .1 (j .child), nonroot-exact site rooted (at parent u) (rooted .parentBelow u hu (j .child)) .1 (j .inner)),
+              (nonroot-exact rooted u hu .1 (j .child), nonroot-exact rooted (at parent u) (rooted .parentBelow u hu (j .child)) .1 (j .inner)),
               leaves u hu (j .child) (j .inner) (j .x) (j .y) (j .off) (j .inside) (j .outside),
             )

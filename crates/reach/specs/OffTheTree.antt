@@ -28,15 +28,6 @@ module _ {n m : ℕ} {ends color parent : List ℕ} {d : ℕ → ℕ} (site : Si
   pub has-parent : (u v : ℕ) → u < n → v < n → at parent u ≡ v → 0 < d u
   has-parent u v hu hv e = pos-of-ne-zero (λ z. unit-present v hv (sym e ∙ rooted .absentRoot u hu .1 z))
 
-  pub root-exact : (v : ℕ) → v < n → (isRoot parent v ≡ true) ↔ (d v ≡ 0)
-  root-exact v h = (λ e. rooted .absentRoot v h .0 (eqb-true (at parent v) ABSENT e), λ z. eq-eqb (at parent v) ABSENT (rooted .absentRoot v h .1 z))
-
-  pub nonroot-exact : (v : ℕ) → v < n → (not (isRoot parent v) ≡ true) ↔ (0 < d v)
-  nonroot-exact v h = (
-    λ e. pos-of-ne-zero (λ z. not-exact (isRoot parent v) (root-exact v h) .0 e z),
-    λ l. not-exact (isRoot parent v) (root-exact v h) .1 (λ z. omega arith),
-  )
-
   -- a link that the test finds off the tree is off it
   pub off-exact : (u v : ℕ) → Link m ends u v → (offTree parent u v ≡ true) ↔ OffTree (Link m ends) (at parent) d u v
   off-exact u v l = (λ e. record { link = l; off = off (parts .0 e) }, λ o. parts .1 (λ e. o .off (inl (has-parent u v hu hv e, e)), λ e. o .off (inr (has-parent v u hv hu e, e))))

@@ -19,9 +19,9 @@ use Rattle.rules.specs.Order.{reverseArc, descendants, placeOf}
 use Rattle.table.specs.Table.{maxUnits}
 use Rattle.graph.specs.Forest.{Anc}
 use Rattle.graph.specs.Ancestors.{anc?, anc-depth, anc-level, root-along, root-anc, top-anc}
-use Rattle.reach.specs.Rooted.{Rooted, rootOf}
+use Rattle.reach.specs.Rooted.{Rooted, rootOf, root-exact}
 use Rattle.reach.specs.SizeAndOrder.{nd, pre, isAbove, above-exact, nd-positive, pre-root, anc-within, pre-apart}
-use Rattle.reach.specs.Potentials.{rankOf, forwardSum, arc-cases, root-exact, arc-exact, forward-into, pre-size, rank-less, rank-size}
+use Rattle.reach.specs.Potentials.{rankOf, forwardSum, arc-cases, arc-exact, forward-into, pre-size, rank-less, rank-size}
 
 -- how many units have a smaller color, and how many this one
 abbrev offset : ℕ → List ℕ → ℕ → ℕ

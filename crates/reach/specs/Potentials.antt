@@ -13,7 +13,7 @@ use Rattle.lists.specs.Tests.{not-exact}
 use Rattle.rules.specs.Basics.{ABSENT, at, isRoot}
 use Rattle.rules.specs.Tour.{arcUnit, isInto, isArc}
 use Rattle.graph.specs.Ancestors.{root-anc}
-use Rattle.reach.specs.Rooted.{Rooted, rootOf}
+use Rattle.reach.specs.Rooted.{Rooted, rootOf, nonroot-exact}
 use Rattle.reach.specs.SizeAndOrder.{nd, pre, earlier, key, Child, inside, deeper, nd-le, nd-positive, pre-root, pre-child, pre-deep, earlier-child, earlier-parent, anc-within}
 
 -- where an arc stands in its tour, from 1; what is no arc has rank 1 and forward sum 0
@@ -50,18 +50,8 @@ arc-cases a = go (ℕ-discrete (a % 2) 0)
     go (no e) = inr (omega arith, ne-eqb (a % 2) 0 e)
 
 module _ {n m : ℕ} {ends color parent : List ℕ} {d : ℕ → ℕ} (rooted : Rooted n m ends color parent d) where
-  -- the rules' test
-  pub root-exact : (v : ℕ) → v < n → (isRoot parent v ≡ true) ↔ (d v ≡ 0)
-  root-exact v l = (λ t. rooted .absentRoot v l .0 (eqb-true (at parent v) ABSENT t), λ h. eq-eqb (at parent v) ABSENT (rooted .absentRoot v l .1 h))
-
   pub arc-exact : (a : ℕ) → a < 2 * n → (isArc parent a ≡ true) ↔ (0 < d (arcUnit a))
-  arc-exact a l =
-      let r = not-exact (isRoot parent (arcUnit a)) (root-exact (arcUnit a) (omega arith)) in
-      (λ (t : isArc parent a ≡ true). let z = r .0 t in some (ℕ-discrete (d (arcUnit a)) 0) z, λ (h : 0 < d (arcUnit a)). r .1 (λ (e : d (arcUnit a) ≡ 0). omega arith))
-    where
-      some : Dec (d (arcUnit a) ≡ 0) → (d (arcUnit a) ≡ 0 → ⊥) → 0 < d (arcUnit a)
-      some (yes e) h = absurd (h e)
-      some (no e) h = omega arith
+  arc-exact a l = nonroot-exact rooted (arcUnit a) (omega arith)
 
   -- ---- the potentials of the two arcs of a unit
 

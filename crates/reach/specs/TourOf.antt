@@ -17,9 +17,9 @@ use Rattle.rules.specs.Tour.{arcUnit, isInto, isArc, treeNeighbor, leastNeighbo
 use Rattle.rules.specs.CyclicOrder.{leastPassing, passing-least, passing-found, Next, greater, wrapped, next-onto, after-next, after-is, turned-high, turned-first, turned-next}
 use Rattle.graph.specs.Ancestors.{root-anc}
 use Rattle.reach.specs.Site.{Site}
-use Rattle.reach.specs.Rooted.{Rooted, rootOf}
+use Rattle.reach.specs.Rooted.{Rooted, rootOf, root-exact}
 use Rattle.reach.specs.SizeAndOrder.{pre, earlier, key, pivot, Child, inside, deeper, parent-unit, pivot-parent, pivot-root, earlier-gap, earlier-none, pre-root}
-use Rattle.reach.specs.Potentials.{rankOf, forwardSum, Arc, Step, into-even, out-odd, arc-cases, root-exact, arc-exact, rank-into, forward-into, rank-none, rank-from, rank-to}
+use Rattle.reach.specs.Potentials.{rankOf, forwardSum, Arc, Step, into-even, out-odd, arc-cases, arc-exact, rank-into, forward-into, rank-none, rank-from, rank-to}
 
 -- what precedes a: nothing where it is no arc or starts a tour, else an arc b that it comes one after
 pub data Preceded (n : ℕ) (parent : List ℕ) (d : ℕ → ℕ) (a b : ℕ) : Type 0 where
