@@ -1,31 +1,31 @@
 -- Stage 9: the classes are the components of the auxiliary graph, by propagation among the non-roots.
 use mathlib.Core.Path.{_≡_, refl, sym, ap, _∙_}
-use mathlib.Core.Bool.{Bool, true, false, cond, not, _&&_}
-use mathlib.Core.Logic.{_⊎_, inl, inr, _↔_, _≢_}
+use mathlib.Core.Bool.{Bool, true, false, not, _&&_}
+use mathlib.Core.Logic.{_⊎_, inl, inr, _↔_}
 use mathlib.Core.List.{List}
-use Prim.Native.Nat.{ℕ, zero, suc, _-_, _≤_, _<_, min}
-use native.Mathlib.Decide.{ℕ-discrete, decLt}
+use Prim.Native.Nat.{ℕ, zero, suc, _-_, _≤_, _<_}
+use native.Mathlib.Decide.{decLt}
 use native.Mathlib.Omega.{arith}
 use lib.Dec.{eqb, ltb}
 use lib.ListN.{length}
-use borrow.Author.Tests.{eqb-true, eqb-false, eq-eqb, ne-eqb, lt-ltb, not-true, not-false}
+use borrow.Author.Tests.{eqb-true, eq-eqb, ne-eqb, lt-ltb, not-true, not-false}
 use Rattle.lists.specs.Tests.{either, not-exact, and-left, and-right, and-true, cond-true, cond-false}
 use Rattle.lists.specs.Tables.{over, length-over, getD-over, over-over}
-use Rattle.lists.specs.Folds.{least, agree, count}
+use Rattle.lists.specs.Folds.{least, count}
 use Rattle.lists.specs.LeastLaws.{least-le, least-start, least-is}
 use Rattle.lists.specs.Agreement.{agree-at, agree-differ}
 use Rattle.lists.specs.Pigeonhole.{Picked}
 use Rattle.lists.specs.Counts.{count-fewer}
 use Rattle.table.specs.Table.{endA, endB}
-use Rattle.rules.specs.Basics.{ABSENT, at, isRoot, heard}
+use Rattle.rules.specs.Basics.{ABSENT, at, isRoot}
 use Rattle.rules.specs.BoundLaws.{eq-exact}
-use Rattle.rules.specs.Aux.{joined, heardOver, leastJoined, auxSaid, auxRound, auxEnds}
-use Rattle.graph.specs.Rings.{Graph, SameLink}
-use Rattle.graph.specs.Forest.{Forest, Anc, OffTree, Aux, across, along, Classes}
+use Rattle.rules.specs.Aux.{joined, heardOver, leastJoined, auxRound, auxEnds}
+use Rattle.graph.specs.Rings.{SameLink}
+use Rattle.graph.specs.Forest.{Anc, OffTree, Aux, across, along, Classes}
 use Rattle.graph.specs.Ancestors.{root-anc}
 use Rattle.graph.specs.Propagation.{Rounds, Still, changed, still-on}
 use Rattle.graph.specs.Joins.{classes-by-rounds}
-use Rattle.reach.specs.Site.{Site, Link, link-below, site-graph}
+use Rattle.reach.specs.Site.{Site, Link, site-graph}
 use Rattle.reach.specs.Rooted.{Rooted, nonroot-exact}
 use Rattle.reach.specs.OffTheTree.{off-flip}
 use Rattle.reach.specs.AuxEdges.{JoinsUp}

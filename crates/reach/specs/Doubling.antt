@@ -19,7 +19,7 @@ use Rattle.numbers.specs.Lg.{lg, lgFrom}
 use Rattle.numbers.specs.LgLaws.{lg-reaches, lg-least}
 use Rattle.rules.specs.Basics.{ABSENT, MAX-NUMBER, at, bounded}
 use Rattle.rules.specs.Ranking.{asks, sumRound, jumpRound, requestsOf, rankingEnds}
-use Rattle.rules.specs.RankingLaws.{length-jumps, length-sums, silent, asking, jump-kept, jump-taken, sum-kept, sum-taken, jumps-still, sums-still}
+use Rattle.rules.specs.RankingLaws.{length-jumps, length-sums, silent, asking, jump-kept, jump-taken, sum-kept, sum-taken, sums-still}
 
 -- what is assumed of the objects 0 .. K − 1: no sum leaves its bound, so none is clamped
 pub record Potential (K : ℕ) (R S : ℕ → ℕ) : Type 0 where

@@ -1,19 +1,18 @@
 -- The rules' test for a link off the tree, and their local values, in the words of the graph.
 use mathlib.Core.Path.{_≡_, refl, sym, _∙_}
-use mathlib.Core.Bool.{Bool, true, false, cond, not, _&&_}
+use mathlib.Core.Bool.{true, false, not}
 use mathlib.Core.Logic.{_⊎_, inl, inr, _↔_}
 use mathlib.Core.List.{List}
-use Prim.Native.Nat.{ℕ, suc, _<_}
+use Prim.Native.Nat.{ℕ, _<_}
 use native.Mathlib.Nat.{pos-of-ne-zero}
 use native.Mathlib.Omega.{arith}
 use lib.Dec.{eqb}
-use borrow.Author.Tests.{eqb-true, eqb-false, eq-eqb, ne-eqb}
+use borrow.Author.Tests.{eqb-true, eq-eqb, ne-eqb}
 use Rattle.lists.specs.Tests.{either, and-exact, not-exact}
 use Rattle.lists.specs.FoldLaws.{Choice, fold-before, fold-is}
 use Rattle.table.specs.Table.{endA, endB}
-use Rattle.rules.specs.Basics.{ABSENT, at, isRoot, offTree, heard}
+use Rattle.rules.specs.Basics.{ABSENT, at, offTree}
 use Rattle.rules.specs.Range.{placeHeard, localOf}
-use Rattle.graph.specs.Rings.{SameLink}
 use Rattle.graph.specs.Forest.{TreeLink, OffTree}
 use Rattle.rules.specs.BoundLaws.{eq-exact}
 use Rattle.reach.specs.Site.{Site, Link, link-below, site-graph}

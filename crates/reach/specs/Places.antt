@@ -1,7 +1,7 @@
 -- Stages 5 and 6 from the potentials: forward arcs, descendants and places; and what places are: a numbering of the units from 0 in which the
 -- descendants of each unit are an interval.
 use mathlib.Core.Path.{_≡_, refl, sym, ap, _∙_}
-use mathlib.Core.Bool.{Bool, true, false, cond, not, _&&_}
+use mathlib.Core.Bool.{true, false}
 use mathlib.Core.Logic.{_↔_, _⊎_, inl, inr}
 use mathlib.Core.List.{List}
 use Prim.Native.Nat.{ℕ, _+_, _*_, _-_, _≤_, _<_}
@@ -12,7 +12,7 @@ use borrow.Author.Tests.{eqb-true, eq-eqb, ne-eqb, lt-ltb, le-ltb, ltb-true}
 use Rattle.lists.specs.Folds.{count}
 use Rattle.lists.specs.Counts.{count-cong, count-apart, count-true}
 use Rattle.lists.specs.Pigeonhole.{onto}
-use Rattle.lists.specs.Tests.{either, cond-true, not-both, refuted, same-test}
+use Rattle.lists.specs.Tests.{either, cond-true, not-both, same-test}
 use Rattle.rules.specs.Basics.{at, isRoot}
 use Rattle.rules.specs.Tour.{arcUnit, isInto, isArc}
 use Rattle.rules.specs.Order.{reverseArc, descendants, placeOf}

@@ -8,9 +8,7 @@ use Prim.Native.Nat.{ℕ, suc, _+_, _*_, _-_, _/_, _%_, _≤_, _<_, max}
 use native.Mathlib.Decide.{ℕ-discrete, decLt}
 use native.Mathlib.Omega.{arith}
 use lib.Dec.{ltb}
-use borrow.Author.Tests.{eqb-true, eq-eqb, ne-eqb, lt-ltb, le-ltb}
-use Rattle.lists.specs.Tests.{not-exact}
-use Rattle.rules.specs.Basics.{ABSENT, at, isRoot}
+use borrow.Author.Tests.{eq-eqb, ne-eqb, lt-ltb, le-ltb}
 use Rattle.rules.specs.Tour.{arcUnit, isInto, isArc}
 use Rattle.graph.specs.Ancestors.{root-anc}
 use Rattle.reach.specs.Rooted.{Rooted, rootOf, nonroot-exact}

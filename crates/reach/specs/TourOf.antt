@@ -4,14 +4,14 @@ use mathlib.Core.Path.{_≡_, refl, sym, ap, subst, _∙_}
 use mathlib.Core.Bool.{Bool, true, false, cond, not, _&&_}
 use mathlib.Core.Logic.{_↔_, _⊎_, inl, inr}
 use mathlib.Core.List.{List}
-use Prim.Native.Nat.{ℕ, zero, suc, _+_, _*_, _-_, _≤_, _<_}
+use Prim.Native.Nat.{ℕ, suc, _+_, _*_, _-_, _≤_, _<_}
 use native.Mathlib.Decide.{ℕ-discrete, decLt}
 use native.Mathlib.Omega.{arith}
-use lib.Dec.{eqb, ltb}
-use borrow.Author.Tests.{eqb-true, eq-eqb, ne-eqb, lt-ltb, le-ltb, ltb-true}
+use lib.Dec.{eqb}
+use borrow.Author.Tests.{eqb-true, eq-eqb, ne-eqb, lt-ltb}
 use Rattle.lists.specs.Folds.{count}
 use Rattle.lists.specs.Counts.{count-less, count-fewer}
-use Rattle.lists.specs.Tests.{either, and-left, and-right, and-true, or-cases, or-left, or-right, or-exact, cond-true, cond-false, not-both, refuted}
+use Rattle.lists.specs.Tests.{either, and-left, and-right, or-cases, or-left, or-right, or-exact, cond-true, cond-false, not-both, refuted}
 use Rattle.rules.specs.Basics.{ABSENT, at, isRoot}
 use Rattle.rules.specs.Tour.{arcUnit, isInto, isArc, treeNeighbor, leastNeighbor, neighborAfter, arcFrom, arcAfter, follower, isStart, predecessor}
 use Rattle.rules.specs.CyclicOrder.{leastPassing, passing-least, passing-found, Next, greater, wrapped, next-onto, after-next, after-is, turned-high, turned-first, turned-next}

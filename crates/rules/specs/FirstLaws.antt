@@ -1,5 +1,5 @@
 -- The first item with a key, by buckets: stages 3 (the arc that an arc follows), 7 (the unit at a place) and 10 (a class's least position).
-use mathlib.Core.Path.{_≡_, refl}
+use mathlib.Core.Path.{_≡_}
 use mathlib.Core.Bool.{true, false, cond}
 use mathlib.Core.Logic.{_⊎_, inl, inr}
 use mathlib.Core.List.{List}

@@ -1,11 +1,10 @@
 -- A link or join of a and b as a loop meets it: each end takes in the other's value. Stages 1, 7 and 9.
-use mathlib.Core.Path.{_≡_, sym, ap, _∙_}
+use mathlib.Core.Path.{_≡_, sym, ap}
 use mathlib.Core.Bool.{Bool, true, false, cond}
 use mathlib.Core.List.{List}
 use Prim.Native.Nat.{ℕ, _<_}
-use lib.ListN.{length}
 use Rattle.lists.specs.Tables.{over, over-cong}
-use Rattle.lists.specs.Scatter.{opOf, takesIn, length-takesIn, pair-over}
+use Rattle.lists.specs.Scatter.{opOf, takesIn, pair-over}
 use Rattle.rules.specs.Basics.{at, heard}
 
 -- both ends, below n, take in the other's value

@@ -1,5 +1,5 @@
 -- Stage 7 as code makes it: local values by one pass over the links, places by buckets, and a round's moves by the segments' length.
-use mathlib.Core.Path.{_≡_, refl, sym}
+use mathlib.Core.Path.{_≡_, refl}
 use mathlib.Core.Bool.{Bool, true, false, cond, _&&_}
 use mathlib.Core.Logic.{_⊎_, inl, inr}
 use mathlib.Core.List.{List}

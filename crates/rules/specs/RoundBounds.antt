@@ -1,14 +1,14 @@
 -- A round leaves every entry within its bounds: for each rule, from the bounds of the tables that it reads.
 use mathlib.Core.Path.{_≡_, refl}
-use mathlib.Core.Bool.{Bool, true, false, cond, not, _&&_, _||_}
+use mathlib.Core.Bool.{Bool, true, false, cond, not, _&&_}
 use mathlib.Core.Logic.{_⊎_, inl, inr}
 use mathlib.Core.List.{List}
-use Prim.Native.Nat.{ℕ, suc, _+_, _*_, _-_, _/_, _%_, _^_, _≤_, _<_, min}
+use Prim.Native.Nat.{ℕ, _+_, _*_, _-_, _/_, _^_, _≤_, _<_, min}
 use native.Mathlib.Omega.{arith}
 use lib.Dec.{eqb, leb, ltb}
-use borrow.Author.Tests.{eqb-false, eqb-true, eq-eqb}
+use borrow.Author.Tests.{eqb-false, eq-eqb}
 use Rattle.lists.specs.All.{All, all-at, all-over, cond-keeps}
-use Rattle.lists.specs.Folds.{fold, least, count}
+use Rattle.lists.specs.Folds.{least, count}
 use Rattle.lists.specs.LeastLaws.{least-le}
 use Rattle.lists.specs.Counts.{count-le}
 use Rattle.lists.specs.Tables.{over}
@@ -19,7 +19,7 @@ use Rattle.rules.specs.BoundLaws.{Names, Number, Distance, names-at, num
 use Rattle.lists.specs.FoldLaws.{Picks, min-picks, picks-keep, fold-picks}
 use Rattle.rules.specs.Components.{leastHeard, colorSaid, colorRound}
 use Rattle.rules.specs.Tree.{visitedBefore, candidate, chosenParent, visits, parentRound, distRound}
-use Rattle.rules.specs.Tour.{arcUnit, isInto, isArc, treeNeighbor, leastNeighbor, greaterNeighbor, neighborAfter, arcFrom, arcAfter, follower, isStart, predecessor, nextRound, predRound, firstSums, firstJumps}
+use Rattle.rules.specs.Tour.{arcUnit, isInto, isArc, treeNeighbor, leastNeighbor, greaterNeighbor, neighborAfter, arcAfter, follower, isStart, predecessor, nextRound, predRound, firstSums, firstJumps}
 use Rattle.rules.specs.Ranking.{asks, sumRound, jumpRound}
 use Rattle.rules.specs.Order.{reverseArc, forwardRound, descendants, ndRound, secondSums, secondJumps, placeOf, preRound}
 use Rattle.rules.specs.Range.{placeHeard, localOf, unitAt, localAt, endPlace, globalFirst, rangeFirst, littleFirst, bigFirst, odd, movesLittle, movesBig, segment, segmentBefore, withLittle, withBig, rangeLater, littleLater, bigLater, globalLater}
