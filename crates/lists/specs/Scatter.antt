@@ -89,14 +89,6 @@ module _ (op : ℕ → ℕ → ℕ) (n : ℕ) (f : ℕ → ℕ) (old : List ℕ)
   pub takes-over : takesIn op n (over n f old) a x ≡ over n (λ (v : ℕ). cond (eqb a v) (op (f v) x) (f v)) old
   takes-over = takes-go (either (ltb a n))
 
-pub length-takesIn : (op : ℕ → ℕ → ℕ) (n : ℕ) (t : List ℕ) (a x : ℕ) → length (takesIn op n t a x) ≡ length t
-unfolding takesIn
-length-takesIn op n t a x = go (either (ltb a n))
-  where
-    go : (ltb a n ≡ true) ⊎ (ltb a n ≡ false) → length (cond (ltb a n) (set t a (op (getD t a 0) x)) t) ≡ length t
-    go (inl e) = rw e (length-set t a (op (getD t a 0) x))
-    go (inr e) = rw e
-
 -- an item with two targets, which take in x and y: the same where they are one target. `rest` is what the others hear, and have taken in already
 module _ (b : Bool) (v z a c x y rest : ℕ) (same : a ≡ c → x ≡ y) (own : opOf b z rest ≡ z) where
   abbrev once : ℕ

@@ -43,11 +43,7 @@ pub sum-taken : (k : ℕ) (jump sum : List ℕ) (a : ℕ) → a < k → k ≤ le
 unfolding sumRound
 sum-taken k jump sum a l h e = getD-over k _ sum a 0 l (omega arith) ∙ rw (asking jump a e)
 
--- where no object has a predecessor a round changes nothing
-pub jumps-still : (k : ℕ) (jump : List ℕ) → ((a : ℕ) → a < k → at jump a ≡ ABSENT) → jumpRound k jump ≡ jump
-unfolding jumpRound
-jumps-still k jump none = sym (over-same 0 k _ jump (λ (a : ℕ) (l : a < k). rw (silent jump a (none a l))))
-
+-- where no object has a predecessor a round changes no sum
 pub sums-still : (k : ℕ) (jump sum : List ℕ) → ((a : ℕ) → a < k → at jump a ≡ ABSENT) → sumRound k jump sum ≡ sum
 unfolding sumRound
 sums-still k jump sum none = sym (over-same 0 k _ sum (λ (a : ℕ) (l : a < k). rw (silent jump a (none a l))))
