@@ -11,7 +11,7 @@ use lib.ListN.{length, getD, set, replicate, length-replicate}
 use lib.Seq.{set-out}
 use Rattle.lists.specs.Tables.{over, length-over, getD-over, set-over}
 use Rattle.lists.specs.Folds.{count}
-use Rattle.lists.specs.CountLaws.{count-cong}
+use Rattle.lists.specs.Counts.{count-cong}
 
 -- the numbers below n that have a place, of size places
 unfoldable pub flagTable : ℕ → ℕ → (ℕ → Bool) → List ℕ

@@ -13,9 +13,9 @@ use lib.Dec.{eqb, ltb}
 use lib.ListN.{length, getD, set, length-set, replicate, length-replicate, getD-replicate}
 use lib.Seq.{getD-set-same, getD-set-other}
 use borrow.Author.Tests.{eq-eqb, ne-eqb, eqb-false, lt-ltb, ltb-true, not-true}
-use Rattle.lists.specs.Tests.{either, and-left, and-right, and-true, cond-true, cond-false, not-both}
+use Rattle.lists.specs.Tests.{either, and-left, and-right, and-true, cond-true, cond-false, not-both, same-test}
 use Rattle.lists.specs.Folds.{fold, some}
-use Rattle.lists.specs.LeastLaws.{some-exact, some-none}
+use Rattle.lists.specs.Some.{some-exact, some-none}
 use Rattle.table.specs.Table.{endA, endB}
 use Rattle.rules.specs.Basics.{ABSENT, at}
 use Rattle.rules.specs.Labels.{touches, single}
@@ -46,12 +46,6 @@ unfolding labelBits
 labelBits-more b k ends label u = rw (add-one k)
 
 -- ---- single points
-
--- two tests that imply one another
-alike : (a b : Bool) → (a ≡ true → b ≡ true) → (b ≡ true → a ≡ true) → a ≡ b
-alike true b f g = sym (f refl)
-alike false true f g = g refl
-alike false false f g = refl
 
 module _ (m : ℕ) (ends label : List ℕ) (u : ℕ) (words : (i : ℕ) → at label i ≤ ABSENT) where
   abbrev T : ℕ → Bool
@@ -144,7 +138,7 @@ module _ (m : ℕ) (ends label : List ℕ) (u : ℕ) (words : (i : ℕ) → at l
           second (inr none) = absurd (level (at label j) (words j) (λ i l t. equal i t (some-none m (other j) none i l) (ℕ-discrete (at label i) (at label j))) less)
 
   pub single-bits : ltb low high ≡ single m ends label u
-  single-bits = alike (ltb low high) (single m ends label u) meets spread
+  single-bits = same-test (ltb low high) (single m ends label u) meets spread
 
 -- ---- a table of bits, an entry a unit
 

@@ -8,8 +8,7 @@ use lib.Dec.{leb}
 use lib.ListN.{length, drop}
 use borrow.Author.Tests.{le-leb, lt-leb}
 use Rattle.lists.specs.Lent.{lent, back}
-use Rattle.lists.specs.Tables.{gathered}
-use Rattle.lists.specs.Gathered.{length-gathered}
+use Rattle.lists.specs.Gathered.{length-gathered, gathered}
 use Rattle.frames.specs.Frame.{wordBytes, lineOf, lineOver, lineLength}
 use Rattle.frames.specs.FrameLaws.{length-line}
 use Rattle.frames.specs.FrameRests.{line-next}

@@ -11,7 +11,7 @@ use lib.ListN.{length, getD, set, replicate, length-replicate, length-set, getD-
 use lib.Seq.{getD-set-same, getD-set-other}
 use borrow.Author.Tests.{eq-eqb, ne-eqb, lt-ltb, le-ltb}
 use Rattle.lists.specs.Folds.{count}
-use Rattle.lists.specs.LeastLaws.{count-le}
+use Rattle.lists.specs.Counts.{count-le}
 use Rattle.rules.specs.Basics.{ABSENT, at}
 use Rattle.rules.specs.Labels.{lone}
 

@@ -8,8 +8,7 @@ use lib.Dec.{leb}
 use lib.ListN.{length, drop, length-append, length-drop}
 use borrow.Author.Tests.{le-leb, lt-leb}
 use Rattle.lists.specs.Lent.{lent, back, back-next}
-use Rattle.lists.specs.Tables.{gathered}
-use Rattle.lists.specs.Gathered.{gathered-cong}
+use Rattle.lists.specs.Gathered.{gathered-cong, gathered}
 use Rattle.lists.specs.Folds.{count}
 use Rattle.table.specs.Table.{maxUnits, maxLinks}
 use Rattle.frames.specs.Frame.{wordBytes, lineOf, lineOver}

@@ -10,6 +10,7 @@ use lib.ListN.{length, getD, set}
 use lib.Seq.{set-getD, getD-set-other}
 use lib.Dec.{ltb}
 use borrow.Author.Tests.{lt-ltb, le-ltb}
+use Rattle.lists.specs.Below.{below-more}
 use Rattle.lists.specs.LeastLaws.{least-start}
 use Rattle.lists.specs.Tables.{over, length-over, getD-over}
 use Rattle.lists.specs.Scatter.{takesIn}

@@ -9,7 +9,7 @@ use lib.ListN.{length, getD, drop}
 use lib.Seq.{append-snoc}
 use borrow.Author.Tests.{eqb-true}
 use Rattle.lists.specs.Tests.{and-left, and-right}
-use Rattle.lists.specs.Listed.{listed-as}
+use Rattle.lists.specs.Tables.{listed-as}
 use Rattle.table.specs.Table.{linkCount}
 use Rattle.frames.specs.Frame.{LF, wordBytes, wordOf, hexesOf, checkByte, lineOf, bytesOf, sumOf}
 use Rattle.frames.specs.FrameLaws.{line-hexes, hexes-bytes, length-bytes, bytes-below, check-unique, sum-check}

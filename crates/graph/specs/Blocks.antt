@@ -67,7 +67,7 @@ module _ {E : ℕ → ℕ → Type 0} {p d root : ℕ → ℕ} (G : Graph E) (F 
       )
 
   -- so a chain of them joins tree links of one ring
-  pub joined-together : {u v : ℕ} → 0 < d u → Joined E p d u v → (0 < d v) × Together E u (p u) v (p v)
+  joined-together : {u v : ℕ} → 0 < d u → Joined E p d u v → (0 < d v) × Together E u (p u) v (p v)
   joined-together h stay = (h, inl (inl (refl, refl)))
   joined-together {u} h (on {v = v} {w = w} j a) =
       let t = joined-together h j in

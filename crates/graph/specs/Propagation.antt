@@ -9,7 +9,8 @@ use native.Mathlib.Decide.{ℕ-discrete, decLe}
 use native.Mathlib.Omega.{arith}
 use lib.ListN.{length}
 use Rattle.lists.specs.Members.{Mem}
-use Rattle.lists.specs.Pigeonhole.{picks, Picked, pigeonhole}
+use Rattle.lists.specs.Pigeonhole.{Picked, pigeonhole}
+use Rattle.lists.specs.Folds.{count}
 use Rattle.graph.specs.Rings.{last, Walk, Route, Connected}
 use Rattle.graph.specs.Walks.{last-mem, walk-map}
 use Rattle.graph.specs.Routes.{connected-trans, connected-sym, simple}
@@ -19,7 +20,7 @@ abbrev pub Near : (ℕ → Bool) → ℕ → (ℕ → ℕ → Type 0) → ℕ �
 Near p n R v w = Picked p n w × R v w
 
 -- w is at most k steps from v
-abbrev pub Within : (ℕ → Bool) → ℕ → (ℕ → ℕ → Type 0) → ℕ → ℕ → ℕ → Type 0
+abbrev Within : (ℕ → Bool) → ℕ → (ℕ → ℕ → Type 0) → ℕ → ℕ → ℕ → Type 0
 Within p n R k v w = (l : List ℕ) × (length l ≤ k) × Route (Near p n R) v l w
 
 module _ (p : ℕ → Bool) (n : ℕ) (R : ℕ → ℕ → Type 0) where
@@ -33,8 +34,8 @@ module _ (p : ℕ → Bool) (n : ℕ) (R : ℕ → ℕ → Type 0) where
   reached-picked v w h (l, r) = rw (r .1) at (walk-picked v l h (r .0) (last v l) (last-mem v l))
 
   -- what is reached is reached in fewer steps than there are picked nodes, and in no more than were taken
-  pub short : (v w : ℕ) (l : List ℕ) → Picked p n v → Route (Near p n R) v l w
-      → (m : List ℕ) × (length m ≤ length l) × (length m < picks p n) × Route (Near p n R) v m w
+  short : (v w : ℕ) (l : List ℕ) → Picked p n v → Route (Near p n R) v l w
+      → (m : List ℕ) × (length m ≤ length l) × (length m < count n p) × Route (Near p n R) v m w
   short v w l h r =
       let (m, s, e, f, d) = simple (Near p n R) v l (r .0) in
       (m, f, pigeonhole p n (v ∷ m) d (walk-picked v m h s), (s, e ∙ r .1))
@@ -56,7 +57,7 @@ module _ {p : ℕ → Bool} {n : ℕ} {R : ℕ → ℕ → Type 0} {val : ℕ �
   falls (suc k) v h = omega (arith, rounds .own k v h, falls k v h)
 
   -- the value after k rounds is the least node within k steps: it is at most each ..
-  pub least-within : (k v w : ℕ) → Picked p n v → Within p n R k v w → val k v ≤ w
+  least-within : (k v w : ℕ) → Picked p n v → Within p n R k v w → val k v ≤ w
   least-within k v w h (l, b, r) = go k v l h b (r .0) (r .1)
     where
       go : (j x : ℕ) (m : List ℕ) → Picked p n x → length m ≤ j → Walk (Near p n R) x m → last x m ≡ w → val j x ≤ w
@@ -67,7 +68,7 @@ module _ {p : ℕ → Bool} {n : ℕ} {R : ℕ → ℕ → Type 0} {val : ℕ �
           omega (arith, rounds .near j x y px (r .0 .0) (r .0 .1))
 
   -- .. and is one of them
-  pub value-within : (k v : ℕ) → Picked p n v → Within p n R k v (val k v)
+  value-within : (k v : ℕ) → Picked p n v → Within p n R k v (val k v)
   value-within zero v h = ([], omega arith, (tt, sym (rounds .start v h)))
   value-within (suc k) v h = go (value-within k) (rounds .attained k v h)
     where
@@ -84,20 +85,20 @@ module _ {p : ℕ → Bool} {n : ℕ} {R : ℕ → ℕ → Type 0} {val : ℕ �
           (w ∷ a .0, omega arith, (((pw, r), a .2 .0), a .2 .1 ∙ sym e))
 
   -- a round that changes something comes before as many rounds as there are picked nodes
-  pub changed : (k v : ℕ) → Picked p n v → val (suc k) v ≢ val k v → suc k < picks p n
+  pub changed : (k v : ℕ) → Picked p n v → val (suc k) v ≢ val k v → suc k < count n p
   changed k v h c = go (value-within (suc k) v h)
     where
-      go : Within p n R (suc k) v (val (suc k) v) → suc k < picks p n
+      go : Within p n R (suc k) v (val (suc k) v) → suc k < count n p
       go (l, b, r) =
           let (m, f, q, s) = short p n R v (val (suc k) v) l h r in
           by m q s (decLe (length m) k)
         where
-          by : (m : List ℕ) → length m < picks p n → Route (Near p n R) v m (val (suc k) v) → Dec (length m ≤ k) → suc k < picks p n
+          by : (m : List ℕ) → length m < count n p → Route (Near p n R) v m (val (suc k) v) → Dec (length m ≤ k) → suc k < count n p
           by m q s (yes g) = absurd (c (omega (arith, least-within k v (val (suc k) v) h (m, g, s), rounds .own k v h)))
           by m q s (no g) = omega arith
 
   -- so from that number of rounds on nothing changes ..
-  pub still-from : (k : ℕ) → picks p n ≤ suc k → Still p n val k
+  still-from : (k : ℕ) → count n p ≤ suc k → Still p n val k
   still-from k b v h = go (ℕ-discrete (val (suc k) v) (val k v))
     where
       go : Dec (val (suc k) v ≡ val k v) → val (suc k) v ≡ val k v
@@ -105,10 +106,10 @@ module _ {p : ℕ → Bool} {n : ℕ} {R : ℕ → ℕ → Type 0} {val : ℕ �
       go (no e) = absurd (omega (arith, changed k v h e))
 
   -- .. and the first later round without change is at most the greater of 2 and that number
-  pub still-by : (k : ℕ) × (1 ≤ k) × (suc k ≤ max 2 (picks p n)) × Still p n val k
-  still-by = go (picks p n) refl
+  pub still-by : (k : ℕ) × (1 ≤ k) × (suc k ≤ max 2 (count n p)) × Still p n val k
+  still-by = go (count n p) refl
     where
-      go : (N : ℕ) → picks p n ≡ N → (k : ℕ) × (1 ≤ k) × (suc k ≤ max 2 (picks p n)) × Still p n val k
+      go : (N : ℕ) → count n p ≡ N → (k : ℕ) × (1 ≤ k) × (suc k ≤ max 2 (count n p)) × Still p n val k
       go zero e = (1, omega arith, omega arith, still-from 1 (omega arith))
       go (suc zero) e = (1, omega arith, omega arith, still-from 1 (omega arith))
       go (suc (suc k)) e = (suc k, omega arith, omega arith, still-from (suc k) (omega arith))
@@ -119,10 +120,10 @@ module _ {p : ℕ → Bool} {n : ℕ} {R : ℕ → ℕ → Type 0} {val : ℕ �
 
   module _ (k : ℕ) (still : Still p n val k) where
     -- once nothing changes a value is at most those that its node reads ..
-    pub still-near : (v w : ℕ) → Picked p n v → Picked p n w → R v w → val k v ≤ val k w
+    still-near : (v w : ℕ) → Picked p n v → Picked p n w → R v w → val k v ≤ val k w
     still-near v w pv pw r = omega (arith, still v pv, rounds .near k v w pv pw r)
 
-    pub still-along : (v w : ℕ) → Picked p n v → Connected (Near p n R) v w → val k v ≤ val k w
+    still-along : (v w : ℕ) → Picked p n v → Connected (Near p n R) v w → val k v ≤ val k w
     still-along v w pv (l, r) = go v l pv (r .0) (r .1)
       where
         go : (x : ℕ) (m : List ℕ) → Picked p n x → Walk (Near p n R) x m → last x m ≡ w → val k x ≤ val k w

@@ -35,7 +35,7 @@ abbrev pub firstOf : List ℕ → ℕ
 firstOf [] = zero
 firstOf (a ∷ l) = a
 
-abbrev pub Linked : (ℕ → ℕ → Type 0) → List ℕ → Type 0
+abbrev Linked : (ℕ → ℕ → Type 0) → List ℕ → Type 0
 Linked E [] = Unit {0}
 Linked E (a ∷ l) = Walk E a l
 

@@ -1,6 +1,6 @@
 -- Connected vertices: an equivalence; and the routes that avoid a vertex as routes of a smaller graph.
 use mathlib.Core.Path.{_≡_, refl, sym, ap, subst, _∙_}
-use mathlib.Core.Logic.{_⊎_, inl, inr, _≢_, _↔_}
+use mathlib.Core.Logic.{_⊎_, inl, inr, _≢_}
 use mathlib.Core.List.{List, [], _∷_, _++_}
 use Prim.Native.Nat.{ℕ, suc, _≤_}
 use native.Mathlib.Omega.{arith}
@@ -78,11 +78,8 @@ module _ (E : ℕ → ℕ → Type 0) where
     λ x y s. let h = walk-step (Without u E) a l (r .0) x y s in (h .1, h .2),
   )
 
-  pub avoids-as-without : (u a : ℕ) (l : List ℕ) (b : ℕ) → (Route E a l b × Avoids u a l) ↔ Route (Without u E) a l b
-  avoids-as-without u a l b = (λ h. avoiding u a l b (h .0) (h .1), avoided u a l b)
-
   -- a walk that meets no u connects its start with each of its vertices, without the links at u
-  pub connected-along : (u a : ℕ) (l : List ℕ) → Walk E a l → (Mem u (a ∷ l) → ⊥) → (z : ℕ) → Mem z (a ∷ l) → Connected (Without u E) a z
+  connected-along : (u a : ℕ) (l : List ℕ) → Walk E a l → (Mem u (a ∷ l) → ⊥) → (z : ℕ) → Mem z (a ∷ l) → Connected (Without u E) a z
   connected-along u a [] w h z (inl e) = ([], (tt, sym e))
   connected-along u a [] w h z (inr m) = absurd m
   connected-along u a (b ∷ l) w h z (inl e) = ([], (tt, sym e))

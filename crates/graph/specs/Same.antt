@@ -7,7 +7,7 @@ use Rattle.graph.specs.Walks.{walk-map}
 use Rattle.graph.specs.Together.{ring-more, onRing-more}
 
 module _ (E F : ℕ → ℕ → Type 0) (more : (u v : ℕ) → E u v → F u v) where
-  pub route-more : (a : ℕ) (l : List ℕ) (b : ℕ) → Route E a l b → Route F a l b
+  route-more : (a : ℕ) (l : List ℕ) (b : ℕ) → Route E a l b → Route F a l b
   route-more a l b r = (walk-map E F a l (λ x y s e. more x y e) (r .0), r .1)
 
 -- E and F hold of the same pairs

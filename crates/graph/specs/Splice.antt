@@ -10,19 +10,19 @@ use lib.Dec.{eqb}
 use lib.ListN.{length, length-append}
 use borrow.Author.Tests.{eqb-true, eqb-false, eq-eqb}
 use Rattle.lists.specs.Members.{Mem, Distinct, Disjoint, mem-left, mem-right, mem-cases, mem-reverse, distinct-left, distinct-right, distinct-apart, distinct-join, distinct-reverse}
-use Rattle.lists.specs.Parts.{some, before, after, firstOn, lastOn, past, memb, some-of, first-split, first-on, before-off, last-split, last-on, past-off, memb-mem, mem-memb}
+use Rattle.lists.specs.Parts.{before, after, firstOn, lastOn, past, memb, first-split, first-on, before-off, last-split, last-on, past-off, memb-mem, mem-memb, any, any-of}
 use Rattle.graph.specs.Rings.{Graph, last, Walk, Step, lastOf, firstOf, Ring, Follows, Holds, SameLink}
 use Rattle.graph.specs.Walks.{last-append, lastOf-split, walk-join, walk-left, walk-right, walk-back, ring-closed, closed-ring, step-left, step-right, step-back, step-follows}
 
 -- Of a ring, read from its first vertex to its last: the first and the last vertex that pass a test, and what lies outside
 -- these two: past the last and on to the first, over the link from the ring's last vertex to its first.
-abbrev pub enter : (ℕ → Bool) → List ℕ → ℕ
+abbrev enter : (ℕ → Bool) → List ℕ → ℕ
 enter on l = firstOn on l
 
-abbrev pub leave : (ℕ → Bool) → List ℕ → ℕ
+abbrev leave : (ℕ → Bool) → List ℕ → ℕ
 leave on l = lastOn on (after on l)
 
-abbrev pub outer : (ℕ → Bool) → List ℕ → List ℕ
+abbrev outer : (ℕ → Bool) → List ℕ → List ℕ
 outer on l = past on (after on l) ++ before on l
 
 -- what `outer` is of a ring on which two different vertices pass
@@ -77,10 +77,10 @@ module _ (E : ℕ → ℕ → Type 0) (on : ℕ → Bool) where
 
   outer-of : (l : List ℕ) → Ring E l → (z w : ℕ) → z ≢ w → Mem z l → Mem w l → on z ≡ true → on w ≡ true
       → Outer E on l (enter on l) (leave on l) (outer on l)
-  outer-of l R z w n mz mw oz ow = parts (firstOn on l) (before on l) (after on l) (first-split on l any) (first-on on l any) (before-off on l)
+  outer-of l R z w n mz mw oz ow = parts (firstOn on l) (before on l) (after on l) (first-split on l meets) (first-on on l meets) (before-off on l)
     where
-      any : some on l ≡ true
-      any = some-of on z l mz oz
+      meets : any on l ≡ true
+      meets = any-of on z l mz oz
 
       later : (x : ℕ) (B A : List ℕ) → l ≡ B ++ x ∷ A → ((v : ℕ) → Mem v B → on v ≡ true → ⊥) → (v : ℕ) → Mem v l → on v ≡ true → v ≢ x → Mem v A
       later x B A e offB v m o d = cases (mem-cases v B (x ∷ A) (subst (λ (k : List ℕ). Mem v k) e m))
@@ -90,9 +90,9 @@ module _ (E : ℕ → ℕ → Type 0) (on : ℕ → Bool) where
           cases (inr (inl h)) = absurd (d h)
           cases (inr (inr h)) = h
 
-      more : (x : ℕ) (B A : List ℕ) → l ≡ B ++ x ∷ A → ((v : ℕ) → Mem v B → on v ≡ true → ⊥) → Dec (z ≡ x) → some on A ≡ true
-      more x B A e offB (yes h) = some-of on w A (later x B A e offB w mw ow (λ k. n (h ∙ sym k))) ow
-      more x B A e offB (no h) = some-of on z A (later x B A e offB z mz oz h) oz
+      more : (x : ℕ) (B A : List ℕ) → l ≡ B ++ x ∷ A → ((v : ℕ) → Mem v B → on v ≡ true → ⊥) → Dec (z ≡ x) → any on A ≡ true
+      more x B A e offB (yes h) = any-of on w A (later x B A e offB w mw ow (λ k. n (h ∙ sym k))) ow
+      more x B A e offB (no h) = any-of on z A (later x B A e offB z mz oz h) oz
 
       parts : (x : ℕ) (B A : List ℕ) → l ≡ B ++ x ∷ A → on x ≡ true → ((v : ℕ) → Mem v B → on v ≡ true → ⊥) → Outer E on l x (lastOn on A) (past on A ++ B)
       parts x B A e ox offB =
@@ -104,7 +104,7 @@ module _ (E : ℕ → ℕ → Type 0) (on : ℕ → Bool) where
           (outer-parts B x (s .0) (lastOn on A) (past on A) R′ ox (last-on on A h) offB (past-off on A))
 
 -- z is s or t, as a test
-abbrev pub either : ℕ → ℕ → ℕ → Bool
+abbrev either : ℕ → ℕ → ℕ → Bool
 either s t z = eqb z s || eqb z t
 
 either-cases : (s t z : ℕ) → either s t z ≡ true → (z ≡ s) ⊎ (z ≡ t)
@@ -126,7 +126,7 @@ either-second s t = go (eqb t s)
 
 -- Of a ring r with s and t on it: the part between s and t that leads over the link from the last vertex to the first,
 -- read from s to t, without its ends.
-abbrev pub arc : ℕ → ℕ → List ℕ → List ℕ
+abbrev arc : ℕ → ℕ → List ℕ → List ℕ
 arc s t r = cond (eqb (enter (either s t) r) t) (outer (either s t) r) (reverse (outer (either s t) r))
 
 -- The ring through the link from the last vertex to the first of r and that of q, where two vertices are on both. The ear

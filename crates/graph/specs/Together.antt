@@ -65,7 +65,7 @@ through a b r u v q = splice (turn a b r) (turn u v q)
 
 module _ {E : ℕ → ℕ → Type 0} (G : Graph E) where
   -- two rings with a common link
-  pub through-ring : {r q : List ℕ} → Ring E r → Ring E q → (a b c d u v : ℕ) → Holds r a b → Holds r c d → Holds q c d → Holds q u v
+  through-ring : {r q : List ℕ} → Ring E r → Ring E q → (a b c d u v : ℕ) → Holds r a b → Holds r c d → Holds q c d → Holds q u v
       → (SameLink a b u v → ⊥) → Ring E (through a b r u v q) × Holds (through a b r u v q) a b × Holds (through a b r u v q) u v
   through-ring {r} {q} R Q a b c d u v ha hc kc ku other =
       let er = turn-link R a b ha in

@@ -7,7 +7,8 @@ use Prim.Native.Nat.{ℕ, zero, suc, _<_}
 use native.Mathlib.Decide.{ℕ-discrete, decLt}
 use native.Mathlib.Omega.{arith}
 use Rattle.lists.specs.Members.{Mem}
-use Rattle.lists.specs.Pigeonhole.{picks, picks-more}
+use Rattle.lists.specs.Folds.{count}
+use Rattle.lists.specs.Counts.{count-next}
 use Rattle.graph.specs.Rings.{Graph, last, Walk, Ring, Connected}
 use Rattle.graph.specs.Walks.{holds-first, holds-second}
 use Rattle.graph.specs.Routes.{Without, ring-around}
@@ -26,7 +27,7 @@ abbrev pub Names : (ℕ → ℕ) → (ℕ → ℕ) → ℕ → ℕ → Type 0
 Names d cl c x = (0 < d x) × (cl x ≡ c)
 
 -- m is the unit that class c touches and that names no tree link of it
-pub record Top (E : ℕ → ℕ → Type 0) (p d cl : ℕ → ℕ) (c m : ℕ) : Type 0 where
+record Top (E : ℕ → ℕ → Type 0) (p d cl : ℕ → ℕ) (c m : ℕ) : Type 0 where
   pub touched : Touches E p d cl c m
   pub nameless : Names d cl c m → ⊥
 
@@ -39,7 +40,7 @@ module _ {E : ℕ → ℕ → Type 0} {p d root cl : ℕ → ℕ} (G : Graph E) 
       go (yes h) (no e) = no (λ k. e (k .1))
       go (no h) e = no (λ k. h (k .0))
 
-  pub names-touches : (c x : ℕ) → Names d cl c x → Touches E p d cl c x
+  names-touches : (c x : ℕ) → Names d cl c x → Touches E p d cl c x
   names-touches c x (h, e) = (p x, lower h refl (sym e))
 
   -- a top is the parent of a unit that names a tree link of the class
@@ -85,7 +86,7 @@ module _ {E : ℕ → ℕ → Type 0} {p d root cl : ℕ → ℕ} (G : Graph E) 
               pick (yes i) = absurd (T .nameless (i, sym g ∙ f))
               pick (no i) = omega arith
 
-  pub top-unique : (c m k : ℕ) → Top E p d cl c m → Top E p d cl c k → m ≡ k
+  top-unique : (c m k : ℕ) → Top E p d cl c m → Top E p d cl c k → m ≡ k
   top-unique c m k T U = pick (ℕ-discrete m k)
     where
       pick : Dec (m ≡ k) → m ≡ k
@@ -106,7 +107,7 @@ module _ {E : ℕ → ℕ → Type 0} {p d root cl : ℕ → ℕ} (G : Graph E) 
               omega arith
 
   -- the top of the class of a tree link: climb while the class stays
-  pub top-exists : (c w : ℕ) → Names d cl c w → (m : ℕ) × Top E p d cl c m
+  top-exists : (c w : ℕ) → Names d cl c w → (m : ℕ) × Top E p d cl c m
   top-exists c w = go (d w) w refl
     where
       go : (i v : ℕ) → d v ≡ i → Names d cl c v → (m : ℕ) × Top E p d cl c m
@@ -122,13 +123,13 @@ module _ {E : ℕ → ℕ → Type 0} {p d root cl : ℕ → ℕ} (G : Graph E) 
       → ((u v : ℕ) → E u v → u < n)
       → ((x : ℕ) → x < n → (touches x ≡ true) ↔ Touches E p d cl c x)
       → ((x : ℕ) → x < n → (names x ≡ true) ↔ Names d cl c x)
-      → picks touches n ≡ suc (picks names n)
+      → count n touches ≡ suc (count n names)
   touched-count n c w touches names k low ht hn =
       let m = top-exists c w k .0 in
       let T = top-exists c w k .1 in
       let lm : m < n = low m (T .touched .0) (class-link G F (T .touched .1)) in
       let nameless : names m ≡ false = off (names m) (λ e. T .nameless (hn m lm .0 e)) in
-      picks-more touches names n m lm (ht m lm .1 (T .touched)) nameless (λ i l ne. agree m T i l ne (touches i) (names i) refl refl)
+      count-next n touches names m lm (ht m lm .1 (T .touched)) nameless (λ i l ne. agree m T i l ne (touches i) (names i) refl refl)
     where
       off : (b : Bool) → (b ≡ true → ⊥) → b ≡ false
       off true f = absurd (f refl)

@@ -16,7 +16,7 @@ use Rattle.graph.specs.Forest.{Forest, Anc, self, up, TreeLink, OffTree}
 use Rattle.graph.specs.Ancestors.{anc-to, anc-depth, anc-level, anc-proper, root-up}
 
 -- from x to y up and down the tree, without x: step up from the deeper end. The first number bounds the steps.
-abbrev pub treePath : (ℕ → ℕ) → (ℕ → ℕ) → ℕ → ℕ → ℕ → List ℕ
+abbrev treePath : (ℕ → ℕ) → (ℕ → ℕ) → ℕ → ℕ → ℕ → List ℕ
 treePath p d zero x y = []
 treePath p d (suc k) x y =
     let rise = p x ∷ treePath p d k (p x) y in
@@ -24,14 +24,14 @@ treePath p d (suc k) x y =
     cond (eqb x y) [] (cond (leb (d y) (d x)) rise fall)
 
 -- exactly one of x and y is below w
-abbrev pub Parts : (ℕ → ℕ) → (ℕ → ℕ) → ℕ → ℕ → ℕ → Type 0
+abbrev Parts : (ℕ → ℕ) → (ℕ → ℕ) → ℕ → ℕ → ℕ → Type 0
 Parts p d w x y = (Anc p d w x × (Anc p d w y → ⊥)) ⊎ ((Anc p d w x → ⊥) × Anc p d w y)
 
 -- the chain from x through l passes the link (u, v), in either direction
-abbrev pub Passes : ℕ → List ℕ → ℕ → ℕ → Type 0
+abbrev Passes : ℕ → List ℕ → ℕ → ℕ → Type 0
 Passes x l u v = Step x l u v ⊎ Step x l v u
 
-pub record TreePath (E : ℕ → ℕ → Type 0) (p d : ℕ → ℕ) (x y : ℕ) (l : List ℕ) : Type 0 where
+record TreePath (E : ℕ → ℕ → Type 0) (p d : ℕ → ℕ) (x y : ℕ) (l : List ℕ) : Type 0 where
   pub way : Walk E x l
   pub end : last x l ≡ y
   pub different : Distinct (x ∷ l)
@@ -146,7 +146,7 @@ module _ {E : ℕ → ℕ → Type 0} {p d root : ℕ → ℕ} (G : Graph E) (F 
   top-same : (x y : ℕ) → root x ≡ root y → d x ≡ 0 → d y ≡ 0 → x ≡ y
   top-same x y r a b = sym (F .top x a) ∙ (r ∙ F .top y b)
 
-  pub treePath-is : (k x y : ℕ) → d x + d y ≤ k → root x ≡ root y → TreePath E p d x y (treePath p d k x y)
+  treePath-is : (k x y : ℕ) → d x + d y ≤ k → root x ≡ root y → TreePath E p d x y (treePath p d k x y)
   treePath-is zero x y h r = trivial x y (top-same x y r (omega arith) (omega arith))
   treePath-is (suc k) x y h r = go (eqb x y) (leb (d y) (d x)) refl refl (treePath-is k)
     where

@@ -7,7 +7,8 @@ use Prim.Native.Nat.{ℕ, zero, suc, _≤_, _<_}
 use native.Mathlib.Omega.{arith}
 use lib.Dec.{ltb, eqb}
 use borrow.Author.Tests.{lt-ltb, ltb-true}
-use Rattle.lists.specs.Pigeonhole.{picks, Picked}
+use Rattle.lists.specs.Pigeonhole.{Picked}
+use Rattle.lists.specs.Folds.{count}
 use Rattle.graph.specs.Rings.{Graph, Ring, Holds, OnRing, SameLink, Articulation}
 use Rattle.graph.specs.Forest.{Forest, Anc, TreeLink, OffTree, Aux, across, along, Joined, stay, on, back, Classes, ClassOf, lower, upper, first, second}
 use Rattle.graph.specs.Ancestors.{anc-depth, anc-level}
@@ -314,7 +315,7 @@ spread-classes =
     (λ v h. refl)
 
 -- class 1 touches 0, 1, 2 and has the tree links of 1 and 2
-touched : picks (λ x. ltb x 3) 4 ≡ suc (picks (λ x. non-root x && eqb (class x) 1) 4)
+touched : count 4 (λ x. ltb x 3) ≡ suc (count 4 (λ x. non-root x && eqb (class x) 1))
 touched = touched-count graph forest classes 4 1 1 (λ x. ltb x 3) (λ x. non-root x && eqb (class x) 1)
     (omega arith, refl) low touches names
   where

@@ -9,12 +9,12 @@ use lib.Dec.{eqb}
 use lib.ListN.{length, length-append}
 use borrow.Author.Tests.{eqb-true, eqb-false, eq-eqb}
 use Rattle.lists.specs.Members.{Mem, Distinct, mem-left, mem-swap, distinct-swap, distinct-apart}
-use Rattle.lists.specs.Parts.{before, after, firstOn, some-of, first-split, first-on}
+use Rattle.lists.specs.Parts.{before, after, firstOn, first-split, first-on, any-of}
 use Rattle.graph.specs.Rings.{last, Walk, Step, lastOf, firstOf, Ring, Follows, Holds, SameLink}
 use Rattle.graph.specs.Walks.{last-append, lastOf-split, walk-join, walk-left, walk-right, ring-closed, follows-step, step-into, holds-first, holds-second}
 
 -- the ring read from b on
-abbrev pub rotate : ℕ → List ℕ → List ℕ
+abbrev rotate : ℕ → List ℕ → List ℕ
 rotate b r = b ∷ (after (λ z. eqb z b) r ++ before (λ z. eqb z b) r)
 
 -- the ring read so that the link (a, b), in one of its two orders, leads from the last vertex to the first
@@ -23,16 +23,16 @@ turn a b r = cond (eqb (lastOf (rotate b r)) a) (rotate b r) (rotate a r)
 
 rotate-split : (b : ℕ) (r : List ℕ) → Mem b r → r ≡ before (λ z. eqb z b) r ++ b ∷ after (λ z. eqb z b) r
 rotate-split b r m =
-    let h = some-of (λ z. eqb z b) b r m (eq-eqb b b refl) in
+    let h = any-of (λ z. eqb z b) b r m (eq-eqb b b refl) in
     let e : firstOn (λ z. eqb z b) r ≡ b = eqb-true (firstOn (λ z. eqb z b) r) b (first-on (λ z. eqb z b) r h) in
     rw e at (first-split (λ z. eqb z b) r h)
 
-pub rotate-mem : (b : ℕ) (r : List ℕ) → Mem b r → (z : ℕ) → Mem z r → Mem z (rotate b r)
+rotate-mem : (b : ℕ) (r : List ℕ) → Mem b r → (z : ℕ) → Mem z r → Mem z (rotate b r)
 rotate-mem b r m z h =
     mem-swap z (before (λ z. eqb z b) r) (b ∷ after (λ z. eqb z b) r) (subst (λ (l : List ℕ). Mem z l) (rotate-split b r m) h)
 
 module _ {E : ℕ → ℕ → Type 0} {r : List ℕ} (R : Ring E r) where
-  pub rotate-ring : (b : ℕ) → Mem b r → Ring E (rotate b r)
+  rotate-ring : (b : ℕ) → Mem b r → Ring E (rotate b r)
   rotate-ring b m = go (before (λ z. eqb z b) r) (after (λ z. eqb z b) r) (rotate-split b r m)
     where
       go : (s t : List ℕ) → r ≡ s ++ b ∷ t → Ring E (b ∷ (t ++ s))
@@ -50,7 +50,7 @@ module _ {E : ℕ → ℕ → Type 0} {r : List ℕ} (R : Ring E r) where
           }
 
   -- the vertex that b follows is the last, read from b on
-  pub rotate-last : (a b : ℕ) → Follows r a b → Mem b r → lastOf (rotate b r) ≡ a
+  rotate-last : (a b : ℕ) → Follows r a b → Mem b r → lastOf (rotate b r) ≡ a
   rotate-last a b h m = go (before (λ z. eqb z b) r) (after (λ z. eqb z b) r) (rotate-split b r m)
     where
       go : (s t : List ℕ) → r ≡ s ++ b ∷ t → last b (t ++ s) ≡ a

@@ -65,12 +65,12 @@ step-cases a (b ∷ s) t u v (inr h) = go (step-cases b s t u v h)
     go (inr k) = inr k
 
 -- a step's ends stand on the walk, the second past the start
-pub step-from : (a : ℕ) (l : List ℕ) (u v : ℕ) → Step a l u v → Mem u (a ∷ l)
+step-from : (a : ℕ) (l : List ℕ) (u v : ℕ) → Step a l u v → Mem u (a ∷ l)
 step-from a [] u v h = absurd h
 step-from a (b ∷ l) u v (inl h) = inl (h .0)
 step-from a (b ∷ l) u v (inr h) = inr (step-from b l u v h)
 
-pub step-to : (a : ℕ) (l : List ℕ) (u v : ℕ) → Step a l u v → Mem v l
+step-to : (a : ℕ) (l : List ℕ) (u v : ℕ) → Step a l u v → Mem v l
 step-to a [] u v h = absurd h
 step-to a (b ∷ l) u v (inl h) = inl (h .1)
 step-to a (b ∷ l) u v (inr h) = inr (step-to b l u v h)

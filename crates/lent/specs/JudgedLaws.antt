@@ -1,9 +1,10 @@
 -- Laws by which the code that judges words goes.
 use mathlib.Core.Path.{_≡_, refl, sym, ap, _∙_}
-use mathlib.Core.Bool.{Bool, true, false, _&&_, and-true, and-assoc}
+use mathlib.Core.Bool.{Bool, true, false, _&&_, and-true}
 use mathlib.Core.List.{List, [], _∷_, _++_}
 use Prim.Native.Nat.{ℕ, _+_, _*_}
 use lib.ListN.{getD}
+use Rattle.lists.specs.All.{every-append}
 use Rattle.lists.specs.Folds.{every}
 use Rattle.rules.specs.Bounds.{nameOk, numberOk, distOk}
 use Rattle.survey.specs.declared.state.Clock.{Clock}
@@ -12,11 +13,6 @@ use Rattle.lent.specs.Layout
 use Rattle.lent.specs.Layout.{part, surveyOf}
 use Rattle.lent.specs.Parts.{two-parts}
 use Rattle.lent.specs.Fields.{total}
-
--- a test of every entry of two lists in a row
-every-append : {A : Type 0} (p : A → Bool) (s t : List A) → every p (s ++ t) ≡ (every p s && every p t)
-every-append p [] t = refl
-every-append p (x ∷ s) t = rw (every-append p s t) (sym (and-assoc (p x) (every p s) (every p t)))
 
 -- tables in a row, from a place on
 abbrev row : ℕ → List ℕ → List ℕ → List (List ℕ)

@@ -1,12 +1,12 @@
--- A property of every entry of a list: the words for the test `every`, and how tables and folds keep it.
-use mathlib.Core.Path.{_≡_, refl}
-use mathlib.Core.Bool.{Bool, true, false, cond, _&&_}
+-- A property of every entry of a list: the words for the test `every`, and how tables keep it.
+use mathlib.Core.Path.{_≡_, refl, sym}
+use mathlib.Core.Bool.{Bool, true, false, cond, _&&_, and-assoc}
 use mathlib.Core.Logic.{_↔_}
 use mathlib.Core.List.{List, [], _∷_, _++_}
 use Prim.Native.Nat.{ℕ, zero, suc, _<_, zero-le, suc-le-suc}
-use native.Mathlib.Nat.{le-refl, le-step, le-of-suc-le-suc, not-suc-le-zero}
+use native.Mathlib.Nat.{le-of-suc-le-suc, not-suc-le-zero}
 use lib.ListN.{length, getD, drop, replicate}
-use Rattle.lists.specs.Folds.{fold, every}
+use Rattle.lists.specs.Folds.{every}
 use Rattle.lists.specs.Tables.{over}
 use Rattle.lists.specs.Tests.{and-left, and-right, and-true}
 
@@ -40,20 +40,10 @@ module _ {A : Type 0} where
   all-replicate P zero x h = tt
   all-replicate P (suc n) x h = (h, all-replicate P n x h)
 
-  -- an entry that exists
-  pub all-in : (P : A → Type 0) (t : List A) (i : ℕ) (d : A) → i < length t → All P t → P (getD t i d)
-  all-in P [] i d h a = absurd (not-suc-le-zero h)
-  all-in P (x ∷ t) zero d h a = a .0
-  all-in P (x ∷ t) (suc i) d h a = all-in P t i d (le-of-suc-le-suc h) (a .1)
-
   -- by index
   pub all-of : (P : A → Type 0) (t : List A) (d : A) → ((i : ℕ) → i < length t → P (getD t i d)) → All P t
   all-of P [] d h = tt
   all-of P (x ∷ t) d h = (h zero (suc-le-suc zero-le), all-of P t d (λ (i : ℕ) (l : i < length t). h (suc i) (suc-le-suc l)))
-
-  pub all-map : (P Q : A → Type 0) (t : List A) → ((x : A) → P x → Q x) → All P t → All Q t
-  all-map P Q [] h a = tt
-  all-map P Q (x ∷ t) h a = (h x (a .0), all-map P Q t h (a .1))
 
   -- the test `every` decides it, where p decides P
   pub every-exact : (p : A → Bool) (P : A → Type 0) → ((x : A) → (p x ≡ true) ↔ P x) → (t : List A) → (every p t ≡ true) ↔ All P t
@@ -63,12 +53,16 @@ module _ {A : Type 0} where
     λ (a : P x × All P t). and-true (p x) (every p t) (h x .1 (a .0)) (every-exact p P h t .1 (a .1)),
   )
 
--- a fold keeps what its operation keeps
-pub fold-keeps : (P : ℕ → Type 0) (op : ℕ → ℕ → ℕ) → ((x y : ℕ) → P x → P y → P (op x y))
-    → (n : ℕ) (f : ℕ → ℕ) (x : ℕ) → ((i : ℕ) → i < n → P (f i)) → P x → P (fold op n f x)
-fold-keeps P op h zero f x a b = b
-fold-keeps P op h (suc n) f x a b =
-    h (fold op n f x) (f n) (fold-keeps P op h n f x (λ (i : ℕ) (l : i < n). a i (le-step l)) b) (a n (le-refl (suc n)))
+  -- an entry
+  pub every-at : (p : A → Bool) (t : List A) (i : ℕ) (d : A) → every p t ≡ true → i < length t → p (getD t i d) ≡ true
+  every-at p [] i d e h = absurd (not-suc-le-zero h)
+  every-at p (x ∷ t) zero d e h = and-left (p x) (every p t) e
+  every-at p (x ∷ t) (suc i) d e h = every-at p t i d (and-right (p x) (every p t) e) (le-of-suc-le-suc h)
+
+  -- two lists in a row
+  pub every-append : (p : A → Bool) (s t : List A) → every p (s ++ t) ≡ (every p s && every p t)
+  every-append p [] t = refl
+  every-append p (x ∷ s) t = rw (every-append p s t) (sym (and-assoc (p x) (every p s) (every p t)))
 
 -- a choice keeps what both sides have
 pub cond-keeps {ℓ} : {A : Type ℓ} (P : A → Type 0) (b : Bool) (x y : A) → P x → P y → P (cond b x y)

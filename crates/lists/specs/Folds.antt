@@ -1,7 +1,7 @@
--- Folds over the numbers below a count: least, greatest, sums, counts, and tests of all or some.
+-- Folds over the numbers below a count: least, sums, counts, and tests of all or some.
 use mathlib.Core.Bool.{Bool, true, false, cond, _&&_, _||_}
 use mathlib.Core.List.{List, [], _∷_}
-use Prim.Native.Nat.{ℕ, zero, suc, _+_, min, max}
+use Prim.Native.Nat.{ℕ, zero, suc, _+_, min}
 use lib.Dec.{eqb}
 
 -- x joined by op with f 0, f 1, .., f (n − 1)
@@ -12,10 +12,6 @@ fold op (suc n) f x = op (fold op n f x) (f n)
 -- the least of x and of f at 0 .. n − 1
 abbrev pub least : ℕ → (ℕ → ℕ) → ℕ → ℕ
 least n f x = fold min n f x
-
--- the greatest of x and of f at 0 .. n − 1
-abbrev pub greatest : ℕ → (ℕ → ℕ) → ℕ → ℕ
-greatest n f x = fold max n f x
 
 -- f 0 + .. + f (n − 1)
 abbrev pub sum : ℕ → (ℕ → ℕ) → ℕ

@@ -1,13 +1,18 @@
--- Pieces of one length, one after the other: their total length, and each piece at its place.
-use mathlib.Core.Path.{_≡_, refl, sym, ap, _∙_}
-use mathlib.Core.List.{List, [], _∷_, _++_, append-assoc}
-use Prim.Native.Nat.{ℕ, zero, suc, _+_, _*_, _≤_, _<_}
-use native.Mathlib.Decide.{decLt}
+-- Pieces one after the other; where they have one length, their total length and each piece at its place.
+use mathlib.Core.Path.{_≡_, refl, _∙_}
+use mathlib.Core.List.{List, [], _++_, append-assoc}
+use Prim.Native.Nat.{ℕ, zero, suc, _+_, _*_, _<_}
 use native.Mathlib.Nat.{le-refl, le-step, not-suc-le-zero}
 use native.Mathlib.Omega.{arith}
 use lib.ListN.{length, take, drop, length-append}
-use lib.Seq.{take-at, drop-at, drop-append-le, take-append-le}
-use Rattle.lists.specs.Tables.{gathered}
+use lib.Seq.{take-at, drop-at}
+use Rattle.lists.specs.Below.{below-suc}
+
+-- f 0 ++ f 1 ++ .. ++ f (n − 1)
+module _ {ℓ} {A : Type ℓ} where
+  abbrev pub gathered : ℕ → (ℕ → List A) → List A
+  gathered zero f = []
+  gathered (suc n) f = gathered n f ++ f n
 
 module _ {A : Type 0} where
   pub length-gathered : (n k : ℕ) (f : ℕ → List A) → ((i : ℕ) → i < n → length (f i) ≡ k) → length (gathered n f) ≡ k * n
@@ -23,14 +28,13 @@ module _ {A : Type 0} where
   pub gathered-at : (n k : ℕ) (f : ℕ → List A) (rest : List A) → ((i : ℕ) → i < n → length (f i) ≡ k) → (i : ℕ) → i < n
       → take k (drop (k * i) (gathered n f ++ rest)) ≡ f i
   gathered-at zero k f rest h i l = absurd (not-suc-le-zero l)
-  gathered-at (suc n) k f rest h i l = go (decLt i n) (λ (m : i < n). gathered-at n k f (f n ++ rest) (λ (j : ℕ) (q : j < n). h j (le-step q)) i m)
+  gathered-at (suc n) k f rest h i l =
+      below-suc (λ (j : ℕ). take k (drop (k * j) (gathered n f ++ f n ++ rest)) ≡ f j) n
+      (λ (j : ℕ) (m : j < n).
+      rw (append-assoc (gathered n f) (f n) rest) (gathered-at n k f (f n ++ rest) (λ (q : ℕ) (b : q < n). h q (le-step b)) j m)) last i l
     where
-      last : i ≡ n → take k (drop (k * i) (gathered n f ++ f n ++ rest)) ≡ f i
-      last e =
+      last : take k (drop (k * n) (gathered n f ++ f n ++ rest)) ≡ f n
+      last =
           let d : drop (k * n) (gathered n f ++ (f n ++ rest)) ≡ f n ++ rest =
           drop-at (gathered n f) (f n ++ rest) (k * n) (length-gathered n k f (λ (j : ℕ) (q : j < n). h j (le-step q))) in
-          rw (e, append-assoc (gathered n f) (f n) rest, d) (take-at (f n) rest k (h n (le-refl (suc n))))
-
-      go : Dec (i < n) → (i < n → take k (drop (k * i) (gathered n f ++ (f n ++ rest))) ≡ f i) → take k (drop (k * i) (gathered n f ++ f n ++ rest)) ≡ f i
-      go (yes m) before = rw (append-assoc (gathered n f) (f n) rest) (before m)
-      go (no m) before = last (omega arith)
+          rw (append-assoc (gathered n f) (f n) rest, d) (take-at (f n) rest k (h n (le-refl (suc n))))

@@ -18,7 +18,7 @@ module _ {ℓ} {A : Type ℓ} where
   pub lent-rest : (at : ℕ) (xs : List A) → lent at xs ≡ drop at xs
   lent-rest at xs = take-all (length xs - at) (drop at xs) (omega (arith, length-drop at xs))
 
-  pub back-rest : (at : ℕ) (xs ys : List A) → back at xs ys ≡ take at xs ++ ys
+  back-rest : (at : ℕ) (xs ys : List A) → back at xs ys ≡ take at xs ++ ys
   back-rest at xs ys =
       rw (drop-of-length-le (drop at xs) {i = length xs - at} (omega (arith, length-drop at xs)), append-nil ys)
 

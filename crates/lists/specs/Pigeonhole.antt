@@ -2,18 +2,15 @@
 -- of 0 .. n − 1 into itself that takes no two numbers to one takes some number to each.
 use mathlib.Core.Path.{_≡_, refl, sym, ap, subst, _∙_}
 use mathlib.Core.Logic.{inl, inr, _≢_}
-use mathlib.Core.Bool.{Bool, true, false, cond}
+use mathlib.Core.Bool.{Bool, true}
 use mathlib.Core.List.{List, [], _∷_}
 use Prim.Native.Nat.{ℕ, zero, suc, _≤_, _<_}
 use native.Mathlib.Decide.{ℕ-discrete}
 use native.Mathlib.Omega.{arith}
 use lib.ListN.{length}
 use Rattle.lists.specs.Members.{Mem, Distinct, mem?}
-
--- how many of 0 .. n − 1 the test picks
-abbrev pub picks : (ℕ → Bool) → ℕ → ℕ
-picks p zero = zero
-picks p (suc n) = cond (p n) (suc (picks p n)) (picks p n)
+use Rattle.lists.specs.Folds.{count}
+use Rattle.lists.specs.Counts.{count-true}
 
 -- v is picked among 0 .. n − 1
 pub record Picked (p : ℕ → Bool) (n v : ℕ) : Type 0 where
@@ -35,18 +32,7 @@ remove x (y ∷ l) d (inr m) =
     go k both z (inl e) = (inl e, λ h. d .0 (subst (λ (w : ℕ). Mem w l) (sym h ∙ e) m))
     go k both z (inr h) = (inr (both z h .0), both z h .1)
 
--- the test picks no fewer of one number more, and one more where it picks that number
-picks-up : (p : ℕ → Bool) (n : ℕ) → picks p n ≤ picks p (suc n)
-picks-up p n = go (p n)
-  where
-    go : (b : Bool) → picks p n ≤ cond b (suc (picks p n)) (picks p n)
-    go true = omega arith
-    go false = omega arith
-
-picks-one : (p : ℕ → Bool) (n : ℕ) → p n ≡ true → picks p (suc n) ≡ suc (picks p n)
-picks-one p n e = ap (λ (b : Bool). cond b (suc (picks p n)) (picks p n)) e
-
-pub pigeonhole : (p : ℕ → Bool) (n : ℕ) (l : List ℕ) → Distinct l → ((z : ℕ) → Mem z l → Picked p n z) → length l ≤ picks p n
+pub pigeonhole : (p : ℕ → Bool) (n : ℕ) (l : List ℕ) → Distinct l → ((z : ℕ) → Mem z l → Picked p n z) → length l ≤ count n p
 pigeonhole p zero [] d h = omega arith
 pigeonhole p zero (y ∷ l) d h = let k = h y (inl refl) .below in omega arith
 pigeonhole p (suc n) l d h = go (pigeonhole p n) (mem? n l)
@@ -54,65 +40,15 @@ pigeonhole p (suc n) l d h = go (pigeonhole p n) (mem? n l)
     lower : (z : ℕ) → Picked p (suc n) z → z ≢ n → Picked p n z
     lower z k e = let b = k .below in record { below = omega arith; passes = k .passes }
 
-    go : ((k : List ℕ) → Distinct k → ((z : ℕ) → Mem z k → Picked p n z) → length k ≤ picks p n) → Dec (Mem n l) → length l ≤ picks p (suc n)
+    go : ((k : List ℕ) → Distinct k → ((z : ℕ) → Mem z k → Picked p n z) → length k ≤ count n p) → Dec (Mem n l) → length l ≤ count (suc n) p
     go ih (yes m) =
         let r = remove n l d m in
         let a = ih (r .0) (r .2) (λ z k. lower z (h z (r .3 z k .0)) (r .3 z k .1)) in
-        omega (arith, r .1, picks-one p n (h n m .passes))
+        let e : p n ≡ true = h n m .passes in
+        rw e (omega (arith, r .1))
     go ih (no m) =
         let a = ih l d (λ z k. lower z (h z k) (λ e. m (subst (λ (w : ℕ). Mem w l) e k))) in
-        omega (arith, picks-up p n)
-
-picks-all : (n : ℕ) → picks (λ i. true) n ≡ n
-picks-all zero = refl
-picks-all (suc n) = ap suc (picks-all n)
-
-pub picks-le : (p : ℕ → Bool) (n : ℕ) → picks p n ≤ n
-picks-le p zero = omega arith
-picks-le p (suc n) = go (p n) (picks-le p n)
-  where
-    go : (b : Bool) → picks p n ≤ n → cond b (suc (picks p n)) (picks p n) ≤ suc n
-    go true h = omega arith
-    go false h = omega arith
-
--- a test that fails somewhere below n picks fewer
-pub picks-fewer : (p : ℕ → Bool) (n i : ℕ) → i < n → p i ≡ false → picks p n < n
-picks-fewer p zero i l e = absurd (omega arith)
-picks-fewer p (suc n) i l e = go (ℕ-discrete i n) (p n) refl (λ h. picks-fewer p n i h e)
-  where
-    go : Dec (i ≡ n) → (b : Bool) → p n ≡ b → (i < n → picks p n < n) → cond (p n) (suc (picks p n)) (picks p n) < suc n
-    go (yes h) b f below = let g : p n ≡ false = rw (← h) e in rw g (omega (arith, picks-le p n))
-    go (no h) true f below = rw f (omega (arith, below (omega arith)))
-    go (no h) false f below = rw f (omega (arith, picks-le p n))
-
--- tests that agree below n pick as many; tests that agree but at one number, one more
-pub picks-same : (p q : ℕ → Bool) (n : ℕ) → ((i : ℕ) → i < n → p i ≡ q i) → picks p n ≡ picks q n
-picks-same p q zero h = refl
-picks-same p q (suc n) h =
-    let e = picks-same p q n (λ i k. h i (omega arith)) in
-    let b : p n ≡ q n = h n (omega arith) in
-    rw (b, e) refl
-
-pub picks-more : (p q : ℕ → Bool) (n m : ℕ) → m < n → p m ≡ true → q m ≡ false → ((i : ℕ) → i < n → i ≢ m → p i ≡ q i)
-    → picks p n ≡ suc (picks q n)
-picks-more p q zero m l a b h = absurd (omega arith)
-picks-more p q (suc n) m l a b h = go (ℕ-discrete n m) (picks-more p q n m)
-  where
-    go : Dec (n ≡ m) → (m < n → p m ≡ true → q m ≡ false → ((i : ℕ) → i < n → i ≢ m → p i ≡ q i) → picks p n ≡ suc (picks q n))
-        → picks p (suc n) ≡ suc (picks q (suc n))
-    go (yes e) f =
-        let s : picks p n ≡ picks q n = picks-same p q n (λ i k. h i (omega arith) (omega arith)) in
-        let a′ : p n ≡ true = rw e a in
-        let b′ : q n ≡ false = rw e b in
-        rw (a′, b′, s) refl
-    go (no e) f =
-        let s : picks p n ≡ suc (picks q n) = f (omega arith) a b (λ i k. h i (omega arith)) in
-        let c : p n ≡ q n = h n (omega arith) e in
-        both (q n) c s
-      where
-        both : (t : Bool) → p n ≡ t → picks p n ≡ suc (picks q n) → cond (p n) (suc (picks p n)) (picks p n) ≡ suc (cond t (suc (picks q n)) (picks q n))
-        both true c s = rw (c, s) refl
-        both false c s = rw (c, s) refl
+        omega arith
 
 -- f (n − 1), .., f 0
 images : (ℕ → ℕ) → ℕ → List ℕ
@@ -164,7 +100,7 @@ onto f n into inj v b = go (find f v n)
   where
     go : Dec ((i : ℕ) × (i < n) × (f i ≡ v)) → (i : ℕ) × (i < n) × (f i ≡ v)
     go (yes k) = k
-    go (no k) = absurd (omega (arith, pigeonhole (λ i. true) n (v ∷ images f n) (fresh, distinct-images f n inj) all, length-images f n, picks-all n))
+    go (no k) = absurd (omega (arith, pigeonhole (λ i. true) n (v ∷ images f n) (fresh, distinct-images f n inj) all, length-images f n, count-true n))
       where
         fresh : Mem v (images f n) → ⊥
         fresh m = let r = mem-images f n v m in k (r .0, r .1, sym (r .2))

@@ -1,7 +1,7 @@
 -- A table after a round, as loops make it: entry by entry, or from another table; and how to tell one by its entries.
-use mathlib.Core.Path.{_≡_, refl, sym, ap, _∙_}
-use mathlib.Core.List.{List, [], _∷_}
-use Prim.Native.Nat.{ℕ, zero, suc, _+_, _*_, _≤_, _<_}
+use mathlib.Core.Path.{_≡_, refl, sym, _∙_}
+use mathlib.Core.List.{List}
+use Prim.Native.Nat.{ℕ, _+_, _*_, _≤_, _<_, min}
 use native.Mathlib.Nat.{le-antisymm}
 use native.Mathlib.Numerals.{add-one}
 use native.Mathlib.Decide.{decLt}
@@ -34,28 +34,21 @@ module _ {ℓ} {A : Type ℓ} where
       at : (i : ℕ) → i < length t → getD t i d ≡ getD (over n f old) i d
       at i l = go i (omega (arith, same)) (decLt i n)
 
-  -- what the entries below n were does not matter
-  pub over-over : (n : ℕ) (f g : ℕ → A) (old : List A) → over n f (over n g old) ≡ over n f old
-  over-over zero f g old = refl
-  over-over (suc n) f g [] = refl
-  over-over (suc n) f g (x ∷ old) = ap {B = List A} (λ (l : List A). f zero ∷ l) (over-over n (λ (k : ℕ). f (suc k)) (λ (k : ℕ). g (suc k)) old)
-
   -- equal where the table has entries
-  pub over-same : (d : A) (n : ℕ) (f g : ℕ → A) (old : List A) → ((i : ℕ) → i < n → i < length old → f i ≡ g i)
+  pub over-cong-in : (d : A) (n : ℕ) (f g : ℕ → A) (old : List A) → ((i : ℕ) → i < n → i < length old → f i ≡ g i)
       → over n f old ≡ over n g old
-  over-same d n f g old h =
+  over-cong-in d n f g old h =
       over-ext d n g old (over n f old) (length-over n f old)
       (λ (i : ℕ) (l : i < n) (m : i < length old). getD-over n f old i d l m ∙ h i l m)
       (λ (i : ℕ) (l : n ≤ i) (m : i < length old). getD-over-past n f old i d l)
 
-  -- a table over its own entries
-  pub over-self : (d : A) (n : ℕ) (old : List A) → over n (λ (i : ℕ). getD old i d) old ≡ old
-  over-self d zero old = refl
-  over-self d (suc n) [] = refl
-  over-self d (suc n) (x ∷ old) = ap {B = List A} (λ (l : List A). x ∷ l) (over-self d n old)
+  -- a round that gives each entry what it has
+  pub over-same : (d : A) (n : ℕ) (f : ℕ → A) (old : List A) → ((i : ℕ) → i < n → getD old i d ≡ f i) → old ≡ over n f old
+  over-same d n f old h =
+      over-ext d n f old old refl (λ (i : ℕ) (l : i < n) (m : i < length old). h i l) (λ (i : ℕ) (l : n ≤ i) (m : i < length old). refl)
 
   -- a turn of a loop that fills a table in order, right where the table has the entry
-  pub over-more-in : (n : ℕ) (f : ℕ → A) (old t new : List A) (x : A) → t ≡ over n f old → (n < length old → x ≡ f n) → new ≡ set t n x
+  over-more-in : (n : ℕ) (f : ℕ → A) (old t new : List A) (x : A) → t ≡ over n f old → (n < length old → x ≡ f n) → new ≡ set t n x
       → new ≡ over (n + 1) f old
   over-more-in n f old t new x was is put = go (decLt n (length old))
     where
@@ -71,3 +64,16 @@ module _ {ℓ} {A : Type ℓ} where
   over-pair v f old t new x y was is is′ put =
       let e : 2 * (v + 1) ≡ 2 * v + 1 + 1 = omega arith in
       rw e (over-more-in (2 * v + 1) f old (set t (2 * v) x) new y (over-more-in (2 * v) f old t (set t (2 * v) x) x was is refl) is′ put)
+
+-- a pass that stops at the table's end makes the whole round
+pub over-least : (n m : ℕ) (f : ℕ → ℕ) (old t : List ℕ) → length old ≤ m → t ≡ over (min n m) f old → t ≡ over n f old
+over-least n m f old t full was =
+    rw was
+    (over-ext 0 n f old (over (min n m) f old) (length-over (min n m) f old)
+    (λ (i : ℕ) (h : i < n) (l : i < length old). getD-over (min n m) f old i 0 (omega arith) l)
+    (λ (i : ℕ) (h : n ≤ i) (l : i < length old). getD-over-past (min n m) f old i 0 (omega arith)))
+
+-- the same for a pass by units over a table by arcs
+pub over-least-pairs : (n m : ℕ) (f : ℕ → ℕ) (old t : List ℕ) → length old ≤ 2 * m → t ≡ over (2 * min n m) f old → t ≡ over (2 * n) f old
+over-least-pairs n m f old t full was =
+    let e : 2 * min n m ≡ min (2 * n) (2 * m) = omega arith in over-least (2 * n) (2 * m) f old t full (rw e at was)

@@ -20,27 +20,26 @@ abbrev pub opOf : Bool → ℕ → ℕ → ℕ
 opOf true = max
 opOf false = min
 
-pub op-same : (b : Bool) (x : ℕ) → opOf b x x ≡ x
+op-same : (b : Bool) (x : ℕ) → opOf b x x ≡ x
 op-same true x = omega arith
 op-same false x = omega arith
 
-pub op-twice : (b : Bool) (x y : ℕ) → opOf b (opOf b x y) y ≡ opOf b x y
+op-twice : (b : Bool) (x y : ℕ) → opOf b (opOf b x y) y ≡ opOf b x y
 op-twice true x y = omega arith
 op-twice false x y = omega arith
 
-pub op-swap : (b : Bool) (x y z : ℕ) → opOf b (opOf b x y) z ≡ opOf b (opOf b x z) y
+op-swap : (b : Bool) (x y z : ℕ) → opOf b (opOf b x y) z ≡ opOf b (opOf b x z) y
 op-swap true x y z = omega arith
 op-swap false x y z = omega arith
 
--- a fold takes in its start once more without change
-pub fold-start : (b : Bool) (k : ℕ) (f : ℕ → ℕ) (x : ℕ) → opOf b (fold (opOf b) k f x) x ≡ fold (opOf b) k f x
-fold-start b zero f x = op-same b x
-fold-start b (suc k) f x = rw (op-swap b (fold (opOf b) k f x) (f k) x, fold-start b k f x)
+-- a fold takes in without change what its start has taken in
+pub fold-absorbs : (b : Bool) (k : ℕ) (f : ℕ → ℕ) (x y : ℕ) → opOf b x y ≡ x → opOf b (fold (opOf b) k f x) y ≡ fold (opOf b) k f x
+fold-absorbs b zero f x y h = h
+fold-absorbs b (suc k) f x y h = rw (op-swap b (fold (opOf b) k f x) (f k) y, fold-absorbs b k f x y h)
 
--- and what its start takes in
-pub fold-keeps : (b : Bool) (k : ℕ) (f : ℕ → ℕ) (x y : ℕ) → opOf b x y ≡ x → opOf b (fold (opOf b) k f x) y ≡ fold (opOf b) k f x
-fold-keeps b zero f x y h = h
-fold-keeps b (suc k) f x y h = rw (op-swap b (fold (opOf b) k f x) (f k) y, fold-keeps b k f x y h)
+-- and its start
+pub fold-again : (b : Bool) (k : ℕ) (f : ℕ → ℕ) (x : ℕ) → opOf b (fold (opOf b) k f x) x ≡ fold (opOf b) k f x
+fold-again b k f x = fold-absorbs b k f x x (op-same b x)
 
 -- entry a, below n, takes in x
 unfoldable pub takesIn : (ℕ → ℕ → ℕ) → ℕ → List ℕ → ℕ → ℕ → List ℕ
@@ -89,14 +88,6 @@ module _ (op : ℕ → ℕ → ℕ) (n : ℕ) (f : ℕ → ℕ) (old : List ℕ)
 
   pub takes-over : takesIn op n (over n f old) a x ≡ over n (λ (v : ℕ). cond (eqb a v) (op (f v) x) (f v)) old
   takes-over = takes-go (either (ltb a n))
-
-pub length-takesIn : (op : ℕ → ℕ → ℕ) (n : ℕ) (t : List ℕ) (a x : ℕ) → length (takesIn op n t a x) ≡ length t
-unfolding takesIn
-length-takesIn op n t a x = go (either (ltb a n))
-  where
-    go : (ltb a n ≡ true) ⊎ (ltb a n ≡ false) → length (cond (ltb a n) (set t a (op (getD t a 0) x)) t) ≡ length t
-    go (inl e) = rw e (length-set t a (op (getD t a 0) x))
-    go (inr e) = rw e
 
 -- an item with two targets, which take in x and y: the same where they are one target. `rest` is what the others hear, and have taken in already
 module _ (b : Bool) (v z a c x y rest : ℕ) (same : a ≡ c → x ≡ y) (own : opOf b z rest ≡ z) where

@@ -1,6 +1,6 @@
 -- Tables made over a range: entry i is f i. The head waits in a `let`, so that a table costs its length and not its square.
-use mathlib.Core.Path.{_≡_, refl, ap, ap₂}
-use mathlib.Core.List.{List, [], _∷_, _++_}
+use mathlib.Core.Path.{_≡_, refl, ap, ap₂, _∙_}
+use mathlib.Core.List.{List, [], _∷_}
 use Prim.Native.Nat.{ℕ, zero, suc, _≤_, _<_, zero-le, suc-le-suc}
 use native.Mathlib.Nat.{le-of-suc-le-suc, not-suc-le-zero}
 use lib.ListN.{length, getD, set}
@@ -11,20 +11,18 @@ module _ {ℓ} {A : Type ℓ} where
   tab zero f = []
   tab (suc n) f = let h = f zero in h ∷ tab n (λ (k : ℕ). f (suc k))
 
-  pub length-tab : (n : ℕ) (f : ℕ → A) → length (tab n f) ≡ n
-  length-tab zero f = refl
-  length-tab (suc n) f = ap suc (length-tab n (λ (k : ℕ). f (suc k)))
-
   pub getD-tab : (n : ℕ) (f : ℕ → A) (i : ℕ) (d : A) → i < n → getD (tab n f) i d ≡ f i
   getD-tab zero f i d h = absurd (not-suc-le-zero h)
   getD-tab (suc n) f zero d h = refl
   getD-tab (suc n) f (suc i) d h = getD-tab n (λ (k : ℕ). f (suc k)) i d (le-of-suc-le-suc h)
 
-  pub tab-cong : (n : ℕ) (f g : ℕ → A) → ((i : ℕ) → i < n → f i ≡ g i) → tab n f ≡ tab n g
-  tab-cong zero f g h = refl
-  tab-cong (suc n) f g h =
-      ap₂ (λ (x : A) (xs : List A). x ∷ xs) (h zero (suc-le-suc zero-le))
-      (tab-cong n (λ (k : ℕ). f (suc k)) (λ (k : ℕ). g (suc k)) (λ (i : ℕ) (l : i < n). h (suc i) (suc-le-suc l)))
+  listed : (l : List A) (d : A) → l ≡ tab (length l) (λ (i : ℕ). getD l i d)
+  listed [] d = refl
+  listed (x ∷ l) d = ap (λ (t : List A). x ∷ t) (listed l d)
+
+  -- a list of known length is the table of its elements, so that they can be written out
+  pub listed-as : (l : List A) (d : A) (n : ℕ) → length l ≡ n → l ≡ tab n (λ (i : ℕ). getD l i d)
+  listed-as l d n e = listed l d ∙ ap (λ (k : ℕ). tab k (λ (i : ℕ). getD l i d)) e
 
 -- A table after a round: its entries below n made anew, those from n on as they were.
 module _ {ℓ} {A : Type ℓ} where
@@ -60,7 +58,7 @@ module _ {ℓ} {A : Type ℓ} where
   set-over (suc n) f [] = refl
   set-over (suc n) f (x ∷ old) = ap {B = List A} (λ (l : List A). f zero ∷ l) (set-over n (λ (k : ℕ). f (suc k)) old)
 
-  -- made anew twice is made anew once
+  -- made anew twice is made anew once: what the entries below n were does not matter
   pub over-over : (n : ℕ) (f g : ℕ → A) (old : List A) → over n f (over n g old) ≡ over n f old
   over-over zero f g old = refl
   over-over (suc n) f g [] = refl
@@ -72,9 +70,3 @@ module _ {ℓ} {A : Type ℓ} where
   over-cong (suc n) f g (x ∷ old) h =
       ap₂ (λ (y : A) (l : List A). y ∷ l) (h zero (suc-le-suc zero-le))
       (over-cong n (λ (k : ℕ). f (suc k)) (λ (k : ℕ). g (suc k)) old (λ (i : ℕ) (l : i < n). h (suc i) (suc-le-suc l)))
-
--- f 0 ++ f 1 ++ .. ++ f (n − 1)
-module _ {ℓ} {A : Type ℓ} where
-  abbrev pub gathered : ℕ → (ℕ → List A) → List A
-  gathered zero f = []
-  gathered (suc n) f = gathered n f ++ f n

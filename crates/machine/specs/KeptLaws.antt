@@ -1,10 +1,10 @@
 -- Laws by which the code that judges a state goes.
 use mathlib.Core.Path.{_≡_, refl, sym, ap, _∙_}
-use mathlib.Core.Bool.{Bool, true, false, _&&_, and-true, and-assoc}
+use mathlib.Core.Bool.{Bool, true, false, _&&_, and-true}
 use mathlib.Core.List.{List, [], _∷_, _++_}
 use Prim.Native.Nat.{ℕ, _*_, _≤_, min}
 use native.Mathlib.Omega.{arith}
-use Rattle.lists.specs.All.{every-exact}
+use Rattle.lists.specs.All.{every-exact, every-append}
 use Rattle.lists.specs.Folds.{every}
 use Rattle.table.specs.Passes.{passes}
 use Rattle.rules.specs.Fits.{linksFit, within-fit}
@@ -23,11 +23,6 @@ kept-countdown s w =
     let few : units s ≤ 256 = passes (units s) (words s) (kept-exact s .0 w .passes) .fewUnits in
     let all : min (units s) 256 ≡ units s = omega (arith, few) in
     rw all refl
-
--- a test of every entry of two lists in a row
-every-append : {A : Type 0} (p : A → Bool) (s t : List A) → every p (s ++ t) ≡ (every p s && every p t)
-every-append p [] t = refl
-every-append p (x ∷ s) t = rw (every-append p s t) (sym (and-assoc (p x) (every p s) (every p t)))
 
 -- the tables of units after the ends, and the tables of numbers in three groups: what the code judges together
 abbrev otherUnitTables : State → List (List ℕ)

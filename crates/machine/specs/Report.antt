@@ -6,7 +6,7 @@ use Prim.Native.Nat.{ℕ, zero, suc, _+_, _*_}
 use lib.Dec.{leb}
 use lib.ListN.{length, drop}
 use Rattle.lists.specs.Folds.{count}
-use Rattle.lists.specs.Tables.{gathered}
+use Rattle.lists.specs.Gathered.{gathered}
 use Rattle.frames.specs.Frame.{wordBytes, lineOf}
 use Rattle.table.specs.Table.{maxUnits, maxLinks}
 use Rattle.rules.specs.Basics.{at}

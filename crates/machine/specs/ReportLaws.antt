@@ -5,8 +5,7 @@ use Prim.Native.Nat.{ℕ, _+_, _*_, _≤_, _<_}
 use native.Mathlib.Omega.{arith}
 use lib.ListN.{length, take, drop, length-append}
 use lib.Seq.{take-at, drop-at, drop-drop, take-append-le}
-use Rattle.lists.specs.Tables.{gathered}
-use Rattle.lists.specs.Gathered.{length-gathered, gathered-at}
+use Rattle.lists.specs.Gathered.{length-gathered, gathered-at, gathered}
 use Rattle.frames.specs.FrameLaws.{length-line}
 use Rattle.machine.specs.State.{State}
 use Rattle.machine.specs.State.{units, links}

@@ -10,12 +10,12 @@ use lib.Dec.{eqb, leb}
 use lib.ListN.{take}
 use borrow.Author.Tests.{eqb-true, eqb-false, ne-eqb, leb-false}
 use Rattle.lists.specs.All.{All, cond-keeps}
-use Rattle.lists.specs.Tests.{either}
-use Rattle.lists.specs.Bools.{or-false-right}
+use Rattle.lists.specs.Tests.{either, or-false-right}
 use Rattle.table.specs.Table.{tableRefusal}
 use Rattle.table.specs.Passes.{Passes, passes}
 use Rattle.rules.specs.Basics.{ABSENT, MAX-NUMBER}
-use Rattle.rules.specs.BoundLaws.{Names, Number, Distance, min-picks, max-picks}
+use Rattle.rules.specs.BoundLaws.{Names, Number, Distance}
+use Rattle.lists.specs.FoldLaws.{min-picks, max-picks}
 use Rattle.rules.specs.Ceilings.{ceiling}
 use Rattle.rules.specs.CeilingLaws.{ceiling-positive, ceiling-small}
 use Rattle.rules.specs.RoundBounds

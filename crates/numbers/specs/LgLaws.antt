@@ -51,7 +51,7 @@ unfolding lg
 lg-least x k h = from-least x zero x k (omega arith) h
 
 -- and nothing else is
-pub lg-unique : (x k : ℕ) → x ≤ 2 ^ k → ((j : ℕ) → x ≤ 2 ^ j → k ≤ j) → k ≡ lg x
+lg-unique : (x k : ℕ) → x ≤ 2 ^ k → ((j : ℕ) → x ≤ 2 ^ j → k ≤ j) → k ≡ lg x
 lg-unique x k reaches least = le-antisymm (least (lg x) (lg-reaches x)) (lg-least x k reaches)
 
 -- ---- as code computes it

@@ -1,38 +1,39 @@
 -- Stage 9: the classes are the components of the auxiliary graph, by propagation among the non-roots.
 use mathlib.Core.Path.{_≡_, refl, sym, ap, _∙_}
-use mathlib.Core.Bool.{Bool, true, false, cond, not, _&&_}
-use mathlib.Core.Logic.{_⊎_, inl, inr, _↔_, _≢_}
+use mathlib.Core.Bool.{Bool, true, false, not, _&&_}
+use mathlib.Core.Logic.{_⊎_, inl, inr, _↔_}
 use mathlib.Core.List.{List}
-use Prim.Native.Nat.{ℕ, zero, suc, _-_, _≤_, _<_, min}
-use native.Mathlib.Decide.{ℕ-discrete, decLt}
+use Prim.Native.Nat.{ℕ, zero, suc, _-_, _≤_, _<_}
+use native.Mathlib.Decide.{decLt}
 use native.Mathlib.Omega.{arith}
 use lib.Dec.{eqb, ltb}
 use lib.ListN.{length}
-use borrow.Author.Tests.{eqb-true, eqb-false, eq-eqb, ne-eqb, lt-ltb, not-true, not-false}
+use borrow.Author.Tests.{eqb-true, eq-eqb, ne-eqb, lt-ltb, not-true, not-false}
 use Rattle.lists.specs.Tests.{either, not-exact, and-left, and-right, and-true, cond-true, cond-false}
 use Rattle.lists.specs.Tables.{over, length-over, getD-over, over-over}
-use Rattle.lists.specs.Folds.{least, agree}
+use Rattle.lists.specs.Folds.{least, count}
 use Rattle.lists.specs.LeastLaws.{least-le, least-start, least-is}
 use Rattle.lists.specs.Agreement.{agree-at, agree-differ}
-use Rattle.lists.specs.Pigeonhole.{picks, Picked, picks-fewer}
+use Rattle.lists.specs.Pigeonhole.{Picked}
+use Rattle.lists.specs.Counts.{count-fewer}
 use Rattle.table.specs.Table.{endA, endB}
-use Rattle.rules.specs.Basics.{ABSENT, at, isRoot, heard}
+use Rattle.rules.specs.Basics.{ABSENT, at, isRoot}
 use Rattle.rules.specs.BoundLaws.{eq-exact}
-use Rattle.rules.specs.Aux.{joined, heardOver, leastJoined, auxSaid, auxRound, auxEnds}
-use Rattle.graph.specs.Rings.{Graph, SameLink}
-use Rattle.graph.specs.Forest.{Forest, Anc, OffTree, Aux, across, along, Classes}
+use Rattle.rules.specs.Aux.{joined, heardOver, leastJoined, auxRound, auxEnds}
+use Rattle.graph.specs.Rings.{SameLink}
+use Rattle.graph.specs.Forest.{Anc, OffTree, Aux, across, along, Classes}
 use Rattle.graph.specs.Ancestors.{root-anc}
 use Rattle.graph.specs.Propagation.{Rounds, Still, changed, still-on}
 use Rattle.graph.specs.Joins.{classes-by-rounds}
-use Rattle.reach.specs.Site.{Site, Link, link-below, site-graph}
-use Rattle.reach.specs.Rooted.{Rooted}
-use Rattle.reach.specs.OffTheTree.{nonroot-exact, root-exact, off-flip}
+use Rattle.reach.specs.Site.{Site, Link, site-graph}
+use Rattle.reach.specs.Rooted.{Rooted, nonroot-exact}
+use Rattle.reach.specs.OffTheTree.{off-flip}
 use Rattle.reach.specs.AuxEdges.{JoinsUp}
 
 -- ---- what a join lets v hear
 
 -- its own value, or over a join that counts the other end's
-pub over-cases : (parent value : List ℕ) (mark a b v : ℕ)
+over-cases : (parent value : List ℕ) (mark a b v : ℕ)
     → (heardOver parent value mark a b v ≡ at value v)
     ⊎ ((w : ℕ) × SameLink a b v w × (joined parent mark a b ≡ true) × (heardOver parent value mark a b v ≡ at value w))
 over-cases parent value mark a b v = go (either (joined parent mark a b)) (either (eqb a v)) (either (eqb b v))
@@ -45,7 +46,7 @@ over-cases parent value mark a b v = go (either (joined parent mark a b)) (eithe
     go (inl e) (inr f) (inl g) = inr (a, inr (refl, eqb-true b v g), e, rw (e, f, g) refl)
     go (inl e) (inr f) (inr g) = inl (rw (e, f, g) refl)
 
-pub over-other : (parent value : List ℕ) (mark a b v w : ℕ) → joined parent mark a b ≡ true → SameLink a b v w
+over-other : (parent value : List ℕ) (mark a b v w : ℕ) → joined parent mark a b ≡ true → SameLink a b v w
     → heardOver parent value mark a b v ≡ at value w
 over-other parent value mark a b v w e (inl s) = rw (e, eq-eqb a v (s .0), s .1) refl
 over-other parent value mark a b v w e (inr s) = go (either (eqb a v))
@@ -61,11 +62,11 @@ pub record Marked (n m : ℕ) (ends parent linkJoins parentJoins : List ℕ) (d 
   pub unrelated : (u v : ℕ) → OffTree (Link m ends) (at parent) d u v → (Anc (at parent) d u v → ⊥) × (Anc (at parent) d v u → ⊥)
 
 -- the tree links are named by the units that are no roots
-abbrev pub named : List ℕ → ℕ → Bool
+abbrev named : List ℕ → ℕ → Bool
 named parent v = not (isRoot parent v)
 
 -- v and w are joined, either way
-abbrev pub Reads : ℕ → List ℕ → List ℕ → (ℕ → ℕ) → ℕ → ℕ → Type 0
+abbrev Reads : ℕ → List ℕ → List ℕ → (ℕ → ℕ) → ℕ → ℕ → Type 0
 Reads m ends parent d v w =
     OffTree (Link m ends) (at parent) d v w
     ⊎ ((JoinsUp (Link m ends) (at parent) d v × (at parent v ≡ w)) ⊎ (JoinsUp (Link m ends) (at parent) d w × (at parent w ≡ v)))
@@ -77,7 +78,7 @@ auxAfter n m ends parent linkJoins parentJoins first (suc k) =
     over n (leastJoined n m ends parent linkJoins parentJoins (auxAfter n m ends parent linkJoins parentJoins first k))
     (auxAfter n m ends parent linkJoins parentJoins first k)
 
-pub aux-length : (n m : ℕ) (ends parent linkJoins parentJoins first : List ℕ) (k : ℕ)
+aux-length : (n m : ℕ) (ends parent linkJoins parentJoins first : List ℕ) (k : ℕ)
     → length (auxAfter n m ends parent linkJoins parentJoins first k) ≡ length first
 unfolding auxAfter
 aux-length n m ends parent lj pj first zero = length-over n (λ (v : ℕ). v) first
@@ -111,10 +112,10 @@ module _
     in-range k v h = omega (arith, long, aux-length n m ends parent linkJoins parentJoins first k)
 
     named-exact : (v : ℕ) → (0 < d v) ↔ Picked (named parent) n v
-    named-exact v = (λ h. inside h (decLt v n), λ h. nonroot-exact site rooted v (h .below) .0 (h .passes))
+    named-exact v = (λ h. inside h (decLt v n), λ h. nonroot-exact rooted v (h .below) .0 (h .passes))
       where
         inside : 0 < d v → Dec (v < n) → Picked (named parent) n v
-        inside h (yes l) = record { below = l; passes = nonroot-exact site rooted v l .1 h }
+        inside h (yes l) = record { below = l; passes = nonroot-exact rooted v l .1 h }
         inside h (no l) = absurd (omega (arith, rooted .outside v (omega arith)))
 
     -- a round's value of a named unit
@@ -132,8 +133,8 @@ module _
         → 0 < d (endA ends j) → 0 < d (endB ends j) → joined parent (at linkJoins j) (endA ends j) (endB ends j) ≡ true
     link-joined j l o a b =
         and-true _ _
-        (and-true _ _ (mark-true (at linkJoins j) (marked .linkMarks j l .1 o)) (nonroot-exact site rooted (endA ends j) (site .belowA j l) .1 a))
-        (nonroot-exact site rooted (endB ends j) (site .belowB j l) .1 b)
+        (and-true _ _ (mark-true (at linkJoins j) (marked .linkMarks j l .1 o)) (nonroot-exact rooted (endA ends j) (site .belowA j l) .1 a))
+        (nonroot-exact rooted (endB ends j) (site .belowB j l) .1 b)
       where
         mark-true : (x : ℕ) → (x ≡ 0 → ⊥) → not (eqb x 0) ≡ true
         mark-true x h = not-exact (eqb x 0) (eq-exact x 0) .1 h
@@ -141,8 +142,8 @@ module _
     parent-joined : (u : ℕ) → u < n → JoinsUp (Link m ends) (at parent) d u → joined parent (at parentJoins u) u (at parent u) ≡ true
     parent-joined u l j =
         and-true _ _
-        (and-true _ _ (not-exact (eqb (at parentJoins u) 0) (eq-exact (at parentJoins u) 0) .1 (marked .parentMarks u l .1 j)) (nonroot-exact site rooted u l .1 (j .child)))
-        (nonroot-exact site rooted (at parent u) (rooted .parentBelow u l (j .child)) .1 (j .inner))
+        (and-true _ _ (not-exact (eqb (at parentJoins u) 0) (eq-exact (at parentJoins u) 0) .1 (marked .parentMarks u l .1 j)) (nonroot-exact rooted u l .1 (j .child)))
+        (nonroot-exact rooted (at parent u) (rooted .parentBelow u l (j .child)) .1 (j .inner))
 
     joined-mark : (mark a b : ℕ) → joined parent mark a b ≡ true → (mark ≡ 0 → ⊥)
     joined-mark mark a b e = not-exact (eqb mark 0) (eq-exact mark 0) .0 (and-left _ (not (isRoot parent a)) (and-left _ (not (isRoot parent b)) e))
@@ -258,8 +259,8 @@ module _
     -- ---- how long the stage takes, and what it leaves
 
     -- the color unit of unit 0 is a root, so at most n − 1 units name tree links
-    named-few : picks (named parent) n < n
-    named-few = picks-fewer (named parent) n (at color 0) below (ap not (eq-eqb (at parent (at color 0)) ABSENT (rooted .absentRoot (at color 0) below .1 top)))
+    named-few : count n (named parent) < n
+    named-few = count-fewer n (named parent) (at color 0) below (ap not (eq-eqb (at parent (at color 0)) ABSENT (rooted .absentRoot (at color 0) below .1 top)))
       where
         below : at color 0 < n
         below = rooted .colorBelow 0 (site .someUnit)

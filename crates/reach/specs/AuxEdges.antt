@@ -1,15 +1,15 @@
 -- Stage 8: the marks are the auxiliary edges of the graph. A unit is marked exactly when some link off the tree leads from below it to outside its
 -- parent's descendants: such a place is below the parent's interval (low) or past it (high).
-use mathlib.Core.Path.{_≡_, refl, sym, _∙_}
-use mathlib.Core.Bool.{Bool, true, false, not, _&&_, _||_}
+use mathlib.Core.Path.{_≡_, refl}
+use mathlib.Core.Bool.{true, not, _||_}
 use mathlib.Core.Logic.{_⊎_, inl, inr, _↔_}
 use mathlib.Core.List.{List}
-use Prim.Native.Nat.{ℕ, suc, _+_, _≤_, _<_, min, max}
+use Prim.Native.Nat.{ℕ, _+_, _≤_, _<_, min, max}
 use native.Mathlib.Decide.{decLt}
-use native.Mathlib.Nat.{pos-of-ne-zero}
 use native.Mathlib.Omega.{arith}
-use lib.Dec.{eqb, ltb, leb}
+use lib.Dec.{ltb, leb}
 use borrow.Author.Tests.{ltb-true, lt-ltb, leb-true, le-leb}
+use Rattle.lists.specs.FoldLaws.{min-choice, max-choice}
 use Rattle.lists.specs.Tests.{and-exact, or-exact}
 use Rattle.rules.specs.Basics.{at, isRoot}
 use Rattle.rules.specs.Range.{localOf}
@@ -17,9 +17,9 @@ use Rattle.rules.specs.Aux.{joinsParent}
 use Rattle.graph.specs.Forest.{Anc, self, up, OffTree}
 use Rattle.graph.specs.Ancestors.{anc-trans}
 use Rattle.reach.specs.Site.{Site, Link, link-below}
-use Rattle.reach.specs.Rooted.{Rooted}
+use Rattle.reach.specs.Rooted.{Rooted, nonroot-exact}
 use Rattle.reach.specs.Ordered.{Ordered, Ranged}
-use Rattle.reach.specs.OffTheTree.{nonroot-exact, off-flip, Given, low-off, low-given, high-off, high-given}
+use Rattle.reach.specs.OffTheTree.{off-flip, Given, local-off, local-given}
 
 -- u joins its parent: that is no root, and a link off the tree leads from below u to outside the parent's descendants
 pub record JoinsUp (E : ℕ → ℕ → Type 0) (p d : ℕ → ℕ) (u : ℕ) : Type 0 where
@@ -52,7 +52,7 @@ module _
       by-low l = go (ranged .lowTaken u hu)
         where
           go : (w : ℕ) × (w < n) × Anc (at parent) d u w × (at low u ≡ localOf min m ends parent pre w) → JoinsUp (Link m ends) (at parent) d u
-          go (w, hw, a, e) = by (low-given site rooted pre w)
+          go (w, hw, a, e) = by (local-given site rooted pre min-choice w)
             where
               by : Given site rooted pre w (localOf min m ends parent pre w) → JoinsUp (Link m ends) (at parent) d u
               by (inl f) = absurd (omega (arith, in-parent w hw a, e, f))
@@ -71,7 +71,7 @@ module _
       by-high l = go (ranged .highTaken u hu)
         where
           go : (w : ℕ) × (w < n) × Anc (at parent) d u w × (at high u ≡ localOf max m ends parent pre w) → JoinsUp (Link m ends) (at parent) d u
-          go (w, hw, a, e) = by (high-given site rooted pre w)
+          go (w, hw, a, e) = by (local-given site rooted pre max-choice w)
             where
               by : Given site rooted pre w (localOf max m ends parent pre w) → JoinsUp (Link m ends) (at parent) d u
               by (inl f) = absurd (omega (arith, in-parent w hw a, e, f))
@@ -102,9 +102,9 @@ module _
 
           go : Dec (at pre x < at pre (at parent u)) → Dec (at pre x < at pre (at parent u) + at nd (at parent u))
               → (at low u < at pre (at parent u)) ⊎ (at pre (at parent u) + at nd (at parent u) ≤ at high u)
-          go (yes l) k = inl (omega (arith, ranged .lowLeast u y hu hy a, low-off site rooted pre y x o′))
+          go (yes l) k = inl (omega (arith, ranged .lowLeast u y hu hy a, local-off site rooted pre min-choice y x o′))
           go (no l) (yes k) = absurd (out (ordered .interval (at parent u) x hp hx .1 (omega arith, k)))
-          go (no l) (no k) = inr (omega (arith, ranged .highGreatest u y hu hy a, high-off site rooted pre y x o′))
+          go (no l) (no k) = inr (omega (arith, ranged .highGreatest u y hu hy a, local-off site rooted pre max-choice y x o′))
 
     -- the mark of case 3 is exact
     pub joins-exact : (u : ℕ) → u < n → (joinsParent parent nd pre low high u ≡ true) ↔ JoinsUp (Link m ends) (at parent) d u
@@ -134,12 +134,12 @@ module _
         there : joinsParent parent nd pre low high u ≡ true → JoinsUp (Link m ends) (at parent) d u
         there e =
             let q = parts .0 e in
-            let du : 0 < d u = nonroot-exact site rooted u hu .0 (q .0 .0) in
-            chosen du (nonroot-exact site rooted (at parent u) (rooted .parentBelow u hu du) .0 (q .0 .1)) (q .1)
+            let du : 0 < d u = nonroot-exact rooted u hu .0 (q .0 .0) in
+            chosen du (nonroot-exact rooted (at parent u) (rooted .parentBelow u hu du) .0 (q .0 .1)) (q .1)
 
         back : JoinsUp (Link m ends) (at parent) d u → joinsParent parent nd pre low high u ≡ true
         back j =
             parts .1 (
-              (nonroot-exact site rooted u hu .1 (j .child), nonroot-exact site rooted (at parent u) (rooted .parentBelow u hu (j .child)) .1 (j .inner)),
+              (nonroot-exact rooted u hu .1 (j .child), nonroot-exact rooted (at parent u) (rooted .parentBelow u hu (j .child)) .1 (j .inner)),
               leaves u hu (j .child) (j .inner) (j .x) (j .y) (j .off) (j .inside) (j .outside),
             )

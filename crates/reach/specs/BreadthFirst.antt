@@ -12,9 +12,10 @@ use lib.Dec.{eqb, ltb}
 use lib.ListN.{length}
 use borrow.Author.Tests.{eqb-true, eqb-false, eq-eqb, ne-eqb, lt-ltb, le-ltb, not-true, not-false}
 use Rattle.lists.specs.Folds.{some}
-use Rattle.lists.specs.LeastLaws.{some-exact, some-none}
+use Rattle.lists.specs.Some.{some-exact, some-none}
 use Rattle.lists.specs.Members.{Mem, Distinct}
-use Rattle.lists.specs.Pigeonhole.{Picked, pigeonhole, picks-le}
+use Rattle.lists.specs.Pigeonhole.{Picked, pigeonhole}
+use Rattle.lists.specs.Counts.{count-le}
 use Rattle.lists.specs.Tables.{over, length-over, getD-over}
 use Rattle.lists.specs.Tests.{either, not-both}
 use Rattle.table.specs.Table.{endA, endB}
@@ -219,7 +220,7 @@ module _ {n m : ℕ} {ends : List ℕ} (site : Site n m ends) {color : List ℕ}
         count : Chain n dist (at dist w) → k ≤ n → suc k ≤ n
         count c small =
             let fresh : Mem v (c .units) → ⊥ = λ x. omega (arith, c .within v x .1, fewUnits) in
-            omega (arith, c .long, pigeonhole (λ i. true) n (v ∷ c .units) (fresh, c .different) picked, picks-le (λ i. true) n)
+            omega (arith, c .long, pigeonhole (λ i. true) n (v ∷ c .units) (fresh, c .different) picked, count-le n (λ i. true))
           where
             picked : (z : ℕ) → Mem z (v ∷ c .units) → Picked (λ i. true) n z
             picked z (inl x) = record { below = rw x (link-below site v w r .0); passes = refl }

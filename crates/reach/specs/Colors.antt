@@ -12,8 +12,10 @@ use lib.ListN.{length}
 use borrow.Author.Tests.{eqb-true, eq-eqb, ne-eqb}
 use Rattle.lists.specs.Agreement.{agree-at, agree-differ}
 use Rattle.lists.specs.Folds.{least, agree}
-use Rattle.lists.specs.LeastLaws.{fold-cong, least-start, least-le, least-is}
-use Rattle.lists.specs.Pigeonhole.{Picked, picks-le}
+use Rattle.lists.specs.LeastLaws.{least-start, least-le, least-is}
+use Rattle.lists.specs.FoldLaws.{fold-cong}
+use Rattle.lists.specs.Pigeonhole.{Picked}
+use Rattle.lists.specs.Counts.{count-le}
 use Rattle.lists.specs.Tables.{over, length-over, getD-over}
 use Rattle.lists.specs.Tests.{either}
 use Rattle.table.specs.Table.{endA, endB}
@@ -165,7 +167,7 @@ module _ {n m : ℕ} {ends : List ℕ} (site : Site n m ends) where
         go : (v : ℕ) × (v < n) × (at color v ≡ at (colorRound n m k ends color) v → ⊥) → suc k < n
         go (v, l, differ) =
             let c = changed rounds k v (unit v l) (λ h. differ (at-k .values v l ∙ sym h ∙ sym (after .values v l))) in
-            omega (arith, picks-le all n)
+            omega (arith, count-le n all)
 
     still : colorEnds n k color (colorRound n m k ends color) ≡ true → Still all n (colorAfter m ends) k
     still e v h =

@@ -13,12 +13,13 @@ use lib.Pow.{pow-pos, pow-mono}
 use borrow.Author.Tests.{eqb-true, eq-eqb, ne-eqb, leb-true, le-leb, lt-leb, ltb-true, lt-ltb, le-ltb}
 use Rattle.lists.specs.Folds.{sum as total, count}
 use Rattle.lists.specs.Tests.{and-left, and-right, and-true, not-both}
-use Rattle.lists.specs.CountLaws.{sum-le, sum-further, count-cong, count-none, count-some, count-positive, count-both}
+use Rattle.lists.specs.Sums.{sum-le, sum-further}
+use Rattle.lists.specs.Counts.{count-cong, count-none, count-some, count-positive, count-apart}
 use Rattle.numbers.specs.Lg.{lg, lgFrom}
 use Rattle.numbers.specs.LgLaws.{lg-reaches, lg-least}
 use Rattle.rules.specs.Basics.{ABSENT, MAX-NUMBER, at, bounded}
 use Rattle.rules.specs.Ranking.{asks, sumRound, jumpRound, requestsOf, rankingEnds}
-use Rattle.rules.specs.RankingLaws.{length-jumps, length-sums, silent, asking, jump-kept, jump-taken, sum-kept, sum-taken, jumps-still, sums-still}
+use Rattle.rules.specs.RankingLaws.{length-jumps, length-sums, silent, asking, jump-kept, jump-taken, sum-kept, sum-taken, sums-still}
 
 -- what is assumed of the objects 0 .. K − 1: no sum leaves its bound, so none is clamped
 pub record Potential (K : ℕ) (R S : ℕ → ℕ) : Type 0 where
@@ -93,7 +94,7 @@ module _ {K : ℕ} {R S : ℕ → ℕ} (potential : Potential K R S) {jump sum :
   -- ---- requests
 
   -- an object makes a request exactly when it stands past 2 ^ k
-  pub asks-far : (a : ℕ) → a < K → asks jump a ≡ ltb (2 ^ k) (R a)
+  asks-far : (a : ℕ) → a < K → asks jump a ≡ ltb (2 ^ k) (R a)
   asks-far a l = go (ranked .object a l)
     where
       go : Reached R S jump sum k a ⊎ Ahead K R S jump sum k a → asks jump a ≡ ltb (2 ^ k) (R a)
@@ -112,7 +113,7 @@ module _ {K : ℕ} {R S : ℕ → ℕ} (potential : Potential K R S) {jump sum :
   -- ---- the end
 
   -- the stage ends when all objects stand within 2 ^ k
-  pub ends-within : rankingEnds K jump ≡ true → (a : ℕ) → a < K → R a ≤ 2 ^ k
+  ends-within : rankingEnds K jump ≡ true → (a : ℕ) → a < K → R a ≤ 2 ^ k
   unfolding rankingEnds
   ends-within e a l = go (decLe (R a) (2 ^ k))
     where
@@ -123,13 +124,13 @@ module _ {K : ℕ} {R S : ℕ → ℕ} (potential : Potential K R S) {jump sum :
           (omega
           (arith, requests, eqb-true (requestsOf K jump) 0 e, count-positive K (λ (b : ℕ). ltb (2 ^ k) (R b)) a l (lt-ltb (2 ^ k) (R a) (omega arith))))
 
-  pub within-ends : ((a : ℕ) → a < K → R a ≤ 2 ^ k) → rankingEnds K jump ≡ true
+  within-ends : ((a : ℕ) → a < K → R a ≤ 2 ^ k) → rankingEnds K jump ≡ true
   unfolding rankingEnds
   within-ends h =
       eq-eqb (requestsOf K jump) 0
       (requests ∙ count-none K (λ (a : ℕ). ltb (2 ^ k) (R a)) (λ (a : ℕ) (l : a < K). le-ltb (2 ^ k) (R a) (h a l)))
 
-  pub all-reached : rankingEnds K jump ≡ true → (a : ℕ) → a < K → Reached R S jump sum k a
+  all-reached : rankingEnds K jump ≡ true → (a : ℕ) → a < K → Reached R S jump sum k a
   all-reached e a l = go (ranked .object a l)
     where
       go : Reached R S jump sum k a ⊎ Ahead K R S jump sum k a → Reached R S jump sum k a
@@ -141,13 +142,10 @@ module _ {K : ℕ} {R S : ℕ → ℕ} (potential : Potential K R S) {jump sum :
   sums e a l = all-reached e a l .2
 
   -- no object has a working predecessor,
-  pub jumps-absent : rankingEnds K jump ≡ true → (a : ℕ) → a < K → at jump a ≡ ABSENT
+  jumps-absent : rankingEnds K jump ≡ true → (a : ℕ) → a < K → at jump a ≡ ABSENT
   jumps-absent e a l = all-reached e a l .0
 
-  -- and the round without requests changes nothing
-  pub jumps-rest : rankingEnds K jump ≡ true → jumpRound K jump ≡ jump
-  jumps-rest e = jumps-still K jump (jumps-absent e)
-
+  -- and the round without requests changes no sum
   pub sums-rest : rankingEnds K jump ≡ true → sumRound K jump sum ≡ sum
   sums-rest e = sums-still K jump sum (jumps-absent e)
 
@@ -198,7 +196,7 @@ most-le k = go (most-total k)
     go (inr e) = omega arith
 
 -- where one object stands past x at least x do not: then a ranking makes at most 4,079 requests
-pub asked-le : (K A : ℕ) (R : ℕ → ℕ) → A ≤ 510
+asked-le : (K A : ℕ) (R : ℕ → ℕ) → A ≤ 510
     → ((x : ℕ) → 1 ≤ x → (a : ℕ) → a < K → x < R a → count K (λ (b : ℕ). ltb x (R b)) + x ≤ A)
     → (k : ℕ) → asked K R k ≤ 4079
 asked-le K A R h within k = omega (arith, most-le k, sum-le k past most (λ (i : ℕ) (l : i < k). each i (count-some K (λ (a : ℕ). ltb (2 ^ i) (R a)))))
@@ -232,18 +230,18 @@ module _ (K : ℕ) (R : ℕ → ℕ) (p : ℕ → Bool)
         arith,
         within-count x (λ (y : ℕ) (h : 1 ≤ y) (l : y ≤ x). each y h (omega arith)),
         at-level (each (suc x) (omega arith) (omega arith)),
-        count-both K (λ (b : ℕ). p b && leb (R b) x) (λ (b : ℕ). p b && eqb (R b) (suc x)) (λ (b : ℕ). p b && leb (R b) (suc x)) below level,
+        count-apart K (λ (b : ℕ). p b && leb (R b) x) (λ (b : ℕ). p b && eqb (R b) (suc x)) (λ (b : ℕ). p b && leb (R b) (suc x)) below level,
       )
     where
       at-level : (b : ℕ) × (b < K) × (p b ≡ true) × (R b ≡ suc x) → 1 ≤ count K (λ (b : ℕ). p b && eqb (R b) (suc x))
       at-level (b, l, e, q) =
           count-positive K (λ (b : ℕ). p b && eqb (R b) (suc x)) b l (and-true (p b) (eqb (R b) (suc x)) e (eq-eqb (R b) (suc x) q))
 
-      below : (b : ℕ) → b < K → (p b && leb (R b) x) ≡ true → ((p b && eqb (R b) (suc x)) ≡ false) × ((p b && leb (R b) (suc x)) ≡ true)
+      below : (b : ℕ) → b < K → (p b && leb (R b) x) ≡ true → ((p b && leb (R b) (suc x)) ≡ true) × ((p b && eqb (R b) (suc x)) ≡ false)
       below b l e =
           let picked : p b ≡ true = and-left (p b) (leb (R b) x) e in
           let near : R b ≤ x = leb-true (R b) x (and-right (p b) (leb (R b) x) e) in
-          (rw (picked, ne-eqb (R b) (suc x) (omega arith)), rw (picked, le-leb (R b) (suc x) (omega arith)))
+          (rw (picked, le-leb (R b) (suc x) (omega arith)), rw (picked, ne-eqb (R b) (suc x) (omega arith)))
 
       level : (b : ℕ) → b < K → (p b && eqb (R b) (suc x)) ≡ true → (p b && leb (R b) (suc x)) ≡ true
       level b l e =
@@ -251,22 +249,22 @@ module _ (K : ℕ) (R : ℕ → ℕ) (p : ℕ → Bool)
           let same : R b ≡ suc x = eqb-true (R b) (suc x) (and-right (p b) (eqb (R b) (suc x)) e) in
           rw (picked, le-leb (R b) (suc x) (omega arith))
 
-  pub past-count : (x : ℕ) → 1 ≤ x → (a : ℕ) → a < K → x < R a → count K (λ (b : ℕ). ltb x (R b)) + x ≤ count K p
+  past-count : (x : ℕ) → 1 ≤ x → (a : ℕ) → a < K → x < R a → count K (λ (b : ℕ). ltb x (R b)) + x ≤ count K p
   past-count x h a l past =
       omega (
         arith,
         within-count x each,
-        count-both K (λ (b : ℕ). ltb x (R b)) (λ (b : ℕ). p b && leb (R b) x) p far (λ (b : ℕ) (k : b < K). and-left (p b) (leb (R b) x)),
+        count-apart K (λ (b : ℕ). ltb x (R b)) (λ (b : ℕ). p b && leb (R b) x) p far (λ (b : ℕ) (k : b < K). and-left (p b) (leb (R b) x)),
       )
     where
       each : (y : ℕ) → 1 ≤ y → y ≤ x → (b : ℕ) × (b < K) × (p b ≡ true) × (R b ≡ y)
       each y k m = attained y (R a - y) a k l (behind a l (omega arith) .0) (omega arith)
 
-      far : (b : ℕ) → b < K → ltb x (R b) ≡ true → ((p b && leb (R b) x) ≡ false) × (p b ≡ true)
+      far : (b : ℕ) → b < K → ltb x (R b) ≡ true → (p b ≡ true) × ((p b && leb (R b) x) ≡ false)
       far b k e =
           let beyond : x < R b = ltb-true x (R b) e in
           let picked : p b ≡ true = behind b k (omega arith) .0 in
-          (rw (picked, lt-leb (R b) x beyond), picked)
+          (picked, rw (picked, lt-leb (R b) x beyond))
 
   -- so with at most 510 objects, the arcs of 256 units, a ranking makes at most 4,079 requests
   pub asked-few : count K p ≤ 510 → (k : ℕ) → asked K R k ≤ 4079

@@ -112,7 +112,7 @@ pub into : {x : Value} {a : ℕ} → x ≡ some a → ExactRules.isInto? x ≡ s
 unfolding ExactRules.isInto?
 into e = both eqb (both _%_ e refl) refl
 
-pub arc-unit : (a : ℕ) → ExactRules.arcUnit? (some a) ≡ some (arcUnit a)
+arc-unit : (a : ℕ) → ExactRules.arcUnit? (some a) ≡ some (arcUnit a)
 unfolding ExactRules.arcUnit?
 arc-unit a = half (a / 2) (ifs (into refl) (λ q. refl) (λ q. minus refl refl (some-odd q))) (exact (either (isInto a)))
   where

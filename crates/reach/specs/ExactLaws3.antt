@@ -21,7 +21,7 @@ use Rattle.reach.specs.ExactLaws1.{end-a, end-b, root, marked, off, hear
 
 -- ---- stage 7, the first round
 
-pub unit-at : (n : ℕ) (pre : List ℕ) {x : Value} {q : ℕ} → x ≡ some q → ExactRules.unitAt? n pre x ≡ some (unitAt n pre q)
+unit-at : (n : ℕ) (pre : List ℕ) {x : Value} {q : ℕ} → x ≡ some q → ExactRules.unitAt? n pre x ≡ some (unitAt n pre q)
 unfolding ExactRules.unitAt? unitAt
 unit-at n pre {x} {q} e =
     folds min n _ (λ (v : ℕ). cond (eqb (at pre v) q) v ABSENT) (λ v k. ifs (both eqb (read n pre refl k) e) (λ r. refl) (λ r. refl)) refl

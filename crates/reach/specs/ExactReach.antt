@@ -144,7 +144,7 @@ round-exact s h x g l =
 
 module _ (input : Input) (accepted : loadRefusal input ≡ 0) where
   -- the exact round of every state before the end is defined, and is the round
-  pub step-exact : (k : ℕ) → k < total (loaded input) → stepExact (Step.steps k (loaded input)) ≡ some (Step.step (Step.steps k (loaded input)))
+  step-exact : (k : ℕ) → k < total (loaded input) → stepExact (Step.steps k (loaded input)) ≡ some (Step.step (Step.steps k (loaded input)))
   step-exact k l =
       let goes : Goes (Step.steps k (loaded input)) = goes-on input accepted k l in
       let going : Step.steps k (loaded input) .clock .stage ≡ FINISHED → ⊥ = total-least (loaded input) (loaded-wellFormed input accepted) .least k l in

@@ -17,17 +17,16 @@ use Rattle.rules.specs.Components.{colorRound}
 use Rattle.rules.specs.Tour.{arcUnit, isArc}
 use Rattle.rules.specs.Ranking.{asks, rankingEnds}
 use Rattle.rules.specs.Range.{unitAt, localAt, globalFirst, rangeFirst, movesLittle, movesBig, odd}
-use Rattle.rules.specs.ChoiceLaws.{AtLeast}
+use Rattle.lists.specs.FoldLaws.{AtLeast}
 use Rattle.rules.specs.RangeEntries.{unit-at}
 use Rattle.rules.specs.Order.{placeOf}
 use Rattle.machine.specs.State.{State}
 use Rattle.machine.specs.State.{units, links}
 use Rattle.machine.specs.Step
-use Rattle.reach.specs.Rooted.{Rooted}
+use Rattle.reach.specs.Rooted.{Rooted, root-exact}
 use Rattle.reach.specs.Potentials.{arc-exact, rank-into, rank-out}
 use Rattle.reach.specs.SizeAndOrder.{nd}
 use Rattle.reach.specs.Places.{place-exact, place-below}
-use Rattle.reach.specs.OffTheTree.{root-exact}
 use Rattle.reach.specs.Doubling
 use Rattle.reach.specs.Doubling.{Potential, Ranked}
 use Rattle.reach.specs.Segments.{SegmentsAt, Spans, lastPlace, place-spans}
@@ -161,7 +160,7 @@ module _ (s : State) (b : Base s) (t : Treed s) where
       (nd (units s) (s .tree .parent) (t .depth) v, omega (arith, rank-into (t .rooted) v h, rank-out (t .rooted) v h))
     where
       deep : Dec (t .depth v ≡ 0) → 0 < t .depth v
-      deep (yes z) = absurd (not-both (isRoot (s .tree .parent) v) (root-exact (b .site) (t .rooted) v l .1 z) q)
+      deep (yes z) = absurd (not-both (isRoot (s .tree .parent) v) (root-exact (t .rooted) v l .1 z) q)
       deep (no z) = omega arith
 
   pub marks-exact : ((a : ℕ) → a < 2 * units s → isArc (s .tree .parent) a ≡ true → at (s .ranking .sum) a ≡ Invariant.rank s t a)

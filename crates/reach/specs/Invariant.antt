@@ -1,12 +1,12 @@
 -- What holds of every state that a load reaches, stage by stage: what the stages before have left, and how far this one has come.
 use mathlib.Core.Path.{_≡_}
-use mathlib.Core.Bool.{Bool, true, cond}
+use mathlib.Core.Bool.{true, cond}
 use mathlib.Core.Logic.{_⊎_}
 use mathlib.Core.List.{List}
 use Prim.Native.Nat.{ℕ, _+_, _*_, _-_, _≤_, _<_, min, max}
 use Rattle.numbers.specs.Lg.{lg}
 use Rattle.rules.specs.Basics.{ABSENT, at}
-use Rattle.rules.specs.ChoiceLaws.{AtLeast}
+use Rattle.lists.specs.FoldLaws.{AtLeast}
 use Rattle.rules.specs.Tour.{isInto, isArc, follower, predecessor}
 use Rattle.rules.specs.Range.{localAt}
 use Rattle.rules.specs.Labels.{namingUnit}
@@ -41,11 +41,11 @@ pub record Treed (s : State) : Type 0 where
       → (Anc (at (s .tree .parent)) depth u v → ⊥) × (Anc (at (s .tree .parent)) depth v u → ⊥)
 
 -- round one of stage 3
-abbrev pub Followers : State → Type 0
+abbrev Followers : State → Type 0
 Followers s = (a : ℕ) → a < 2 * units s → at (s .tour .next) a ≡ follower (units s) (s .tree .parent) a
 
 -- round two of stage 3
-abbrev pub Predecessors : State → Type 0
+abbrev Predecessors : State → Type 0
 Predecessors s = (a : ℕ) → a < 2 * units s → at (s .tour .pred) a ≡ predecessor (units s) (s .tree .parent) (s .tour .next) a
 
 -- the tour as stage 3 leaves it

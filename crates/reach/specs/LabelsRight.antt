@@ -1,23 +1,24 @@
 -- Stage 10, and what the labels say of the graph: equal labels are a common ring, a lone link is on none, and a single point is an articulation point.
 use mathlib.Core.Path.{_≡_, refl, sym, ap, _∙_}
-use mathlib.Core.Bool.{Bool, true, false, cond, not, _&&_, _||_}
-use mathlib.Core.Logic.{_⊎_, inl, inr, _↔_, _≢_}
+use mathlib.Core.Bool.{Bool, true, false, cond, not, _&&_}
+use mathlib.Core.Logic.{_⊎_, inl, inr, _↔_}
 use mathlib.Core.List.{List}
-use Prim.Native.Nat.{ℕ, suc, _≤_, _<_, min}
+use Prim.Native.Nat.{ℕ, suc, _≤_, _<_}
 use native.Mathlib.Decide.{ℕ-discrete}
 use native.Mathlib.Omega.{arith}
 use lib.Dec.{eqb, ltb}
-use borrow.Author.Tests.{eqb-true, eqb-false, eq-eqb, ne-eqb, ltb-true, ltb-false}
+use borrow.Author.Tests.{eqb-true, eq-eqb, ltb-true, ltb-false}
 use Rattle.lists.specs.Tests.{either, or-exact, not-exact, and-left, and-right, and-true, cond-true, cond-false}
 use Rattle.lists.specs.Folds.{least, count, some}
-use Rattle.lists.specs.LeastLaws.{least-le, least-is, some-exact}
-use Rattle.lists.specs.CountOne.{count-one}
+use Rattle.lists.specs.LeastLaws.{least-le, least-is}
+use Rattle.lists.specs.Some.{some-exact}
+use Rattle.lists.specs.Counts.{count-one}
 use Rattle.table.specs.Table.{endA, endB}
 use Rattle.rules.specs.Basics.{ABSENT, at}
 use Rattle.rules.specs.BoundLaws.{eq-exact}
 use Rattle.rules.specs.Labels.{namingUnit, labelOf, lone, touches, single}
 use Rattle.graph.specs.Rings.{Ring, Holds, OnRing, SameLink, Articulation}
-use Rattle.graph.specs.Forest.{Anc, OffTree, Classes, ClassOf, lower, upper, first, second}
+use Rattle.graph.specs.Forest.{OffTree, Classes, ClassOf, lower, upper, first, second}
 use Rattle.graph.specs.Sides.{class-link, class-same, class-flip}
 use Rattle.graph.specs.Blocks.{Alone, blocks-other, bridge}
 use Rattle.graph.specs.Cuts.{Meet, articulation}

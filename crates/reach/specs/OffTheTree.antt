@@ -1,19 +1,18 @@
 -- The rules' test for a link off the tree, and their local values, in the words of the graph.
 use mathlib.Core.Path.{_≡_, refl, sym, _∙_}
-use mathlib.Core.Bool.{Bool, true, false, cond, not, _&&_}
+use mathlib.Core.Bool.{true, false, not}
 use mathlib.Core.Logic.{_⊎_, inl, inr, _↔_}
 use mathlib.Core.List.{List}
-use Prim.Native.Nat.{ℕ, suc, _≤_, _<_, min, max}
+use Prim.Native.Nat.{ℕ, _<_}
 use native.Mathlib.Nat.{pos-of-ne-zero}
 use native.Mathlib.Omega.{arith}
 use lib.Dec.{eqb}
-use borrow.Author.Tests.{eqb-true, eqb-false, eq-eqb, ne-eqb}
+use borrow.Author.Tests.{eqb-true, eq-eqb, ne-eqb}
 use Rattle.lists.specs.Tests.{either, and-exact, not-exact}
-use Rattle.lists.specs.LeastLaws.{least-le, least-start, least-is, greatest-ge, greatest-start, greatest-is}
+use Rattle.lists.specs.FoldLaws.{Choice, fold-before, fold-is}
 use Rattle.table.specs.Table.{endA, endB}
-use Rattle.rules.specs.Basics.{ABSENT, at, isRoot, offTree, heard}
+use Rattle.rules.specs.Basics.{ABSENT, at, offTree}
 use Rattle.rules.specs.Range.{placeHeard, localOf}
-use Rattle.graph.specs.Rings.{SameLink}
 use Rattle.graph.specs.Forest.{TreeLink, OffTree}
 use Rattle.rules.specs.BoundLaws.{eq-exact}
 use Rattle.reach.specs.Site.{Site, Link, link-below, site-graph}
@@ -21,21 +20,12 @@ use Rattle.reach.specs.Rooted.{Rooted}
 
 module _ {n m : ℕ} {ends color parent : List ℕ} {d : ℕ → ℕ} (site : Site n m ends) (rooted : Rooted n m ends color parent d) where
   -- a unit below n is not the mark
-  pub unit-present : (v : ℕ) → v < n → v ≡ ABSENT → ⊥
+  unit-present : (v : ℕ) → v < n → v ≡ ABSENT → ⊥
   unit-present v h e = omega (arith, site .fewUnits)
 
   -- a unit with a parent that exists is no root
   pub has-parent : (u v : ℕ) → u < n → v < n → at parent u ≡ v → 0 < d u
   has-parent u v hu hv e = pos-of-ne-zero (λ z. unit-present v hv (sym e ∙ rooted .absentRoot u hu .1 z))
-
-  pub root-exact : (v : ℕ) → v < n → (isRoot parent v ≡ true) ↔ (d v ≡ 0)
-  root-exact v h = (λ e. rooted .absentRoot v h .0 (eqb-true (at parent v) ABSENT e), λ z. eq-eqb (at parent v) ABSENT (rooted .absentRoot v h .1 z))
-
-  pub nonroot-exact : (v : ℕ) → v < n → (not (isRoot parent v) ≡ true) ↔ (0 < d v)
-  nonroot-exact v h = (
-    λ e. pos-of-ne-zero (λ z. not-exact (isRoot parent v) (root-exact v h) .0 e z),
-    λ l. not-exact (isRoot parent v) (root-exact v h) .1 (λ z. omega arith),
-  )
 
   -- a link that the test finds off the tree is off it
   pub off-exact : (u v : ℕ) → Link m ends u v → (offTree parent u v ≡ true) ↔ OffTree (Link m ends) (at parent) d u v
@@ -96,38 +86,18 @@ module _ {n m : ℕ} {ends color parent : List ℕ} {d : ℕ → ℕ} (site : Si
             let f : eqb (endA ends j) w ≡ false = ne-eqb (endA ends j) w (λ q. site .differ j l (q ∙ sym (e .1))) in
             (j, l, rw (t, f, eq-eqb (endB ends j) w (e .1), e .0) refl)
 
-    -- ---- the least and the greatest local value
+    -- ---- the local value, the least or the greatest
 
-    pub low-own : (w : ℕ) → localOf min m ends parent pre w ≤ at pre w
-    unfolding localOf
-    low-own w = least-start m (placeHeard ends parent pre w) (at pre w)
+    module _ {op : ℕ → ℕ → ℕ} {le : ℕ → ℕ → Type 0} (choice : Choice op le) where
+      pub local-off : (w x : ℕ) → OffTree (Link m ends) (at parent) d w x → le (localOf op m ends parent pre w) (at pre x)
+      unfolding localOf
+      local-off w x o = let h = heard-off w x o in rw (h .2) at (fold-before choice m (placeHeard ends parent pre w) (at pre w) (h .0) (h .1))
 
-    pub low-off : (w x : ℕ) → OffTree (Link m ends) (at parent) d w x → localOf min m ends parent pre w ≤ at pre x
-    unfolding localOf
-    low-off w x o = let h = heard-off w x o in rw (h .2) at (least-le m (placeHeard ends parent pre w) (at pre w) (h .0) (h .1))
-
-    pub low-given : (w : ℕ) → Given w (localOf min m ends parent pre w)
-    unfolding localOf
-    low-given w = go (least-is m (placeHeard ends parent pre w) (at pre w))
-      where
-        go : (localOf min m ends parent pre w ≡ at pre w) ⊎ ((j : ℕ) × (j < m) × (localOf min m ends parent pre w ≡ placeHeard ends parent pre w j))
-            → Given w (localOf min m ends parent pre w)
-        go (inl e) = inl e
-        go (inr h) = rw (h .2) (heard-given w (h .0) (h .1))
-
-    pub high-own : (w : ℕ) → at pre w ≤ localOf max m ends parent pre w
-    unfolding localOf
-    high-own w = greatest-start m (placeHeard ends parent pre w) (at pre w)
-
-    pub high-off : (w x : ℕ) → OffTree (Link m ends) (at parent) d w x → at pre x ≤ localOf max m ends parent pre w
-    unfolding localOf
-    high-off w x o = let h = heard-off w x o in rw (h .2) at (greatest-ge m (placeHeard ends parent pre w) (at pre w) (h .0) (h .1))
-
-    pub high-given : (w : ℕ) → Given w (localOf max m ends parent pre w)
-    unfolding localOf
-    high-given w = go (greatest-is m (placeHeard ends parent pre w) (at pre w))
-      where
-        go : (localOf max m ends parent pre w ≡ at pre w) ⊎ ((j : ℕ) × (j < m) × (localOf max m ends parent pre w ≡ placeHeard ends parent pre w j))
-            → Given w (localOf max m ends parent pre w)
-        go (inl e) = inl e
-        go (inr h) = rw (h .2) (heard-given w (h .0) (h .1))
+      pub local-given : (w : ℕ) → Given w (localOf op m ends parent pre w)
+      unfolding localOf
+      local-given w = go (fold-is choice m (placeHeard ends parent pre w) (at pre w))
+        where
+          go : (localOf op m ends parent pre w ≡ at pre w) ⊎ ((j : ℕ) × (j < m) × (localOf op m ends parent pre w ≡ placeHeard ends parent pre w j))
+              → Given w (localOf op m ends parent pre w)
+          go (inl e) = inl e
+          go (inr h) = rw (h .2) (heard-given w (h .0) (h .1))

@@ -1,7 +1,7 @@
 -- Stages 5 and 6 from the potentials: forward arcs, descendants and places; and what places are: a numbering of the units from 0 in which the
 -- descendants of each unit are an interval.
 use mathlib.Core.Path.{_≡_, refl, sym, ap, _∙_}
-use mathlib.Core.Bool.{Bool, true, false, cond, not, _&&_}
+use mathlib.Core.Bool.{true, false}
 use mathlib.Core.Logic.{_↔_, _⊎_, inl, inr}
 use mathlib.Core.List.{List}
 use Prim.Native.Nat.{ℕ, _+_, _*_, _-_, _≤_, _<_}
@@ -10,39 +10,35 @@ use native.Mathlib.Omega.{arith}
 use lib.Dec.{eqb, ltb}
 use borrow.Author.Tests.{eqb-true, eq-eqb, ne-eqb, lt-ltb, le-ltb, ltb-true}
 use Rattle.lists.specs.Folds.{count}
-use Rattle.lists.specs.Sums.{count-cong, count-apart, count-all}
+use Rattle.lists.specs.Counts.{count-cong, count-apart, count-true}
 use Rattle.lists.specs.Pigeonhole.{onto}
-use Rattle.lists.specs.Tests.{either, cond-true, not-both, refuted}
+use Rattle.lists.specs.Tests.{either, cond-true, not-both, same-test}
 use Rattle.rules.specs.Basics.{at, isRoot}
 use Rattle.rules.specs.Tour.{arcUnit, isInto, isArc}
 use Rattle.rules.specs.Order.{reverseArc, descendants, placeOf}
 use Rattle.table.specs.Table.{maxUnits}
 use Rattle.graph.specs.Forest.{Anc}
 use Rattle.graph.specs.Ancestors.{anc?, anc-depth, anc-level, root-along, root-anc, top-anc}
-use Rattle.reach.specs.Rooted.{Rooted, rootOf}
+use Rattle.reach.specs.Rooted.{Rooted, rootOf, root-exact}
 use Rattle.reach.specs.SizeAndOrder.{nd, pre, isAbove, above-exact, nd-positive, pre-root, anc-within, pre-apart}
-use Rattle.reach.specs.Potentials.{rankOf, forwardSum, arc-cases, root-exact, arc-exact, forward-into, pre-size, rank-less, rank-size}
+use Rattle.reach.specs.Potentials.{rankOf, forwardSum, arc-cases, arc-exact, forward-into, pre-size, rank-less, rank-size}
 
 -- how many units have a smaller color, and how many this one
-abbrev pub offset : ℕ → List ℕ → ℕ → ℕ
+abbrev offset : ℕ → List ℕ → ℕ → ℕ
 offset n color c = count n (λ (w : ℕ). ltb (at color w) c)
 
-abbrev pub size : ℕ → List ℕ → ℕ → ℕ
+abbrev size : ℕ → List ℕ → ℕ → ℕ
 size n color c = count n (λ (w : ℕ). eqb (at color w) c)
 
 -- the preorder number of v, components in the order of their colors
 unfoldable pub place : ℕ → List ℕ → List ℕ → (ℕ → ℕ) → ℕ → ℕ
 place n color parent d v = pre n parent d v + offset n color (at color v)
 
-same-test : (a b : Bool) → (a ≡ true → b ≡ true) → (b ≡ true → a ≡ true) → a ≡ b
-same-test true b f g = sym (f refl)
-same-test false b f g = sym (refuted b (λ (e : b ≡ true). not-both false (g e) refl))
-
 offset-size : (n : ℕ) (color : List ℕ) (c : ℕ) → offset n color c + size n color c ≤ n
 offset-size n color c =
     omega (
       arith,
-      count-all n,
+      count-true n,
       count-apart n (λ (w : ℕ). ltb (at color w) c) (λ (w : ℕ). eqb (at color w) c) (λ (w : ℕ). true)
           (λ (w : ℕ) (l : w < n) (t : ltb (at color w) c ≡ true). let k = ltb-true (at color w) c t in (refl, ne-eqb (at color w) c (omega arith)))
           (λ (w : ℕ) (l : w < n) (t : eqb (at color w) c ≡ true). refl),
@@ -58,11 +54,11 @@ offset-next n color c e h =
 module _ {n m : ℕ} {ends color parent : List ℕ} {d : ℕ → ℕ} (rooted : Rooted n m ends color parent d) where
   -- ---- components
 
-  pub root-color : (v : ℕ) → v < n → rootOf n color v ≡ at color v
+  root-color : (v : ℕ) → v < n → rootOf n color v ≡ at color v
   root-color v l = cond-true (ltb v n) (at color v) v (lt-ltb v n l)
 
   -- the descendants of a root are its component
-  pub root-size : (v : ℕ) → v < n → d v ≡ 0 → size n color (at color v) ≡ nd n parent d v
+  root-size : (v : ℕ) → v < n → d v ≡ 0 → size n color (at color v) ≡ nd n parent d v
   unfolding nd
   root-size v l z =
       count-cong n (λ (w : ℕ). eqb (at color w) (at color v)) (isAbove parent d v)
@@ -144,7 +140,7 @@ module _ {n m : ℕ} {ends color parent : List ℕ} {d : ℕ → ℕ} (rooted : 
   -- ---- the rules of stages 5 and 6, on tables that hold the potentials
 
   -- a table holds the ranks of the arcs
-  abbrev pub Held : List ℕ → Type 0
+  abbrev Held : List ℕ → Type 0
   Held rank = (a : ℕ) → a < 2 * n → isArc parent a ≡ true → at rank a ≡ rankOf n parent d a
 
   -- forward arcs are those into a unit

@@ -8,12 +8,10 @@ use Prim.Native.Nat.{ℕ, suc, _+_, _*_, _-_, _/_, _%_, _≤_, _<_, max}
 use native.Mathlib.Decide.{ℕ-discrete, decLt}
 use native.Mathlib.Omega.{arith}
 use lib.Dec.{ltb}
-use borrow.Author.Tests.{eqb-true, eq-eqb, ne-eqb, lt-ltb, le-ltb}
-use Rattle.lists.specs.Tests.{not-exact}
-use Rattle.rules.specs.Basics.{ABSENT, at, isRoot}
+use borrow.Author.Tests.{eq-eqb, ne-eqb, lt-ltb, le-ltb}
 use Rattle.rules.specs.Tour.{arcUnit, isInto, isArc}
 use Rattle.graph.specs.Ancestors.{root-anc}
-use Rattle.reach.specs.Rooted.{Rooted, rootOf}
+use Rattle.reach.specs.Rooted.{Rooted, rootOf, nonroot-exact}
 use Rattle.reach.specs.SizeAndOrder.{nd, pre, earlier, key, Child, inside, deeper, nd-le, nd-positive, pre-root, pre-child, pre-deep, earlier-child, earlier-parent, anc-within}
 
 -- where an arc stands in its tour, from 1; what is no arc has rank 1 and forward sum 0
@@ -50,18 +48,8 @@ arc-cases a = go (ℕ-discrete (a % 2) 0)
     go (no e) = inr (omega arith, ne-eqb (a % 2) 0 e)
 
 module _ {n m : ℕ} {ends color parent : List ℕ} {d : ℕ → ℕ} (rooted : Rooted n m ends color parent d) where
-  -- the rules' test
-  pub root-exact : (v : ℕ) → v < n → (isRoot parent v ≡ true) ↔ (d v ≡ 0)
-  root-exact v l = (λ t. rooted .absentRoot v l .0 (eqb-true (at parent v) ABSENT t), λ h. eq-eqb (at parent v) ABSENT (rooted .absentRoot v l .1 h))
-
   pub arc-exact : (a : ℕ) → a < 2 * n → (isArc parent a ≡ true) ↔ (0 < d (arcUnit a))
-  arc-exact a l =
-      let r = not-exact (isRoot parent (arcUnit a)) (root-exact (arcUnit a) (omega arith)) in
-      (λ (t : isArc parent a ≡ true). let z = r .0 t in some (ℕ-discrete (d (arcUnit a)) 0) z, λ (h : 0 < d (arcUnit a)). r .1 (λ (e : d (arcUnit a) ≡ 0). omega arith))
-    where
-      some : Dec (d (arcUnit a) ≡ 0) → (d (arcUnit a) ≡ 0 → ⊥) → 0 < d (arcUnit a)
-      some (yes e) h = absurd (h e)
-      some (no e) h = omega arith
+  arc-exact a l = nonroot-exact rooted (arcUnit a) (omega arith)
 
   -- ---- the potentials of the two arcs of a unit
 
@@ -83,7 +71,7 @@ module _ {n m : ℕ} {ends color parent : List ℕ} {d : ℕ → ℕ} (rooted : 
       let u : arcUnit (2 * v) ≡ v = omega arith in
       rw (u, into-even v, lt-ltb 0 (d v) h) (omega arith)
 
-  pub forward-out : (v : ℕ) → 0 < d v → forwardSum n parent d (2 * v + 1) + 1 ≡ pre n parent d v + nd n parent d v
+  forward-out : (v : ℕ) → 0 < d v → forwardSum n parent d (2 * v + 1) + 1 ≡ pre n parent d v + nd n parent d v
   unfolding forwardSum
   forward-out v h =
       let u : arcUnit (2 * v + 1) ≡ v = omega arith in
@@ -101,7 +89,7 @@ module _ {n m : ℕ} {ends color parent : List ℕ} {d : ℕ → ℕ} (rooted : 
       let w = anc-within rooted (r .0) in
       omega (arith, pre-root rooted (rootOf n color v) (r .1))
 
-  pub pre-fits : (v : ℕ) → pre n parent d v + nd n parent d v ≤ n
+  pre-fits : (v : ℕ) → pre n parent d v + nd n parent d v ≤ n
   pre-fits v = omega (arith, pre-size v, nd-le rooted (rootOf n color v))
 
   pub rank-less : (v : ℕ) → 0 < d v → rankOf n parent d (2 * v) < rankOf n parent d (2 * v + 1)
@@ -131,7 +119,7 @@ module _ {n m : ℕ} {ends color parent : List ℕ} {d : ℕ → ℕ} (rooted : 
       let g = pre-deep rooted v in
       ((omega arith, omega arith, omega arith), (omega arith, omega arith, omega arith)))
 
-  pub rank-le : (a : ℕ) → 0 < d (arcUnit a) → rankOf n parent d a ≤ 2 * n - 2
+  rank-le : (a : ℕ) → 0 < d (arcUnit a) → rankOf n parent d a ≤ 2 * n - 2
   rank-le a h = let b = bounds a h .1 in omega arith
 
   -- of every place below 2n, arc or not

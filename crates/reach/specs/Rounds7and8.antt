@@ -3,8 +3,7 @@ use mathlib.Core.Path.{_≡_, refl, sym, ap, subst, _∙_}
 use mathlib.Core.Bool.{Bool, true, false, cond, false≢true}
 use mathlib.Core.Logic.{_⊎_, inl, inr, _↔_}
 use mathlib.Core.List.{List}
-use Prim.Native.Nat.{ℕ, suc, _+_, _*_, _-_, _≤_, _<_, min, max}
-use native.Mathlib.Numerals.{add-one}
+use Prim.Native.Nat.{ℕ, suc, _+_, _-_, _≤_, _<_, min, max}
 use native.Mathlib.Omega.{arith}
 use lib.Dec.{eqb}
 use lib.ListN.{length}
@@ -14,24 +13,22 @@ use Rattle.lists.specs.Tables.{getD-over}
 use Rattle.numbers.specs.Lg.{lg}
 use Rattle.table.specs.Table.{endA, endB}
 use Rattle.rules.specs.Basics.{at, offTree}
-use Rattle.rules.specs.ChoiceLaws.{AtLeast, min-choice, max-choice}
+use Rattle.lists.specs.FoldLaws.{AtLeast, min-choice, max-choice}
 use Rattle.rules.specs.Range.{localAt, localOf, globalFirst, rangeFirst, littleFirst, bigFirst, rangeLater, littleLater, bigLater, globalLater, rangeEnds}
 use Rattle.rules.specs.Aux.{linkJoinsRound, joinsParent, parentJoinsRound}
-use Rattle.graph.specs.Forest.{Anc, OffTree}
 use Rattle.machine.specs.State.{State}
 use Rattle.state.specs.declared.groups.Range.{Range}
 use Rattle.state.specs.declared.groups.Global.{Global}
 use Rattle.machine.specs.State.{MAX-REQUESTS, units, links, withRange, withGlobal}
 use Rattle.machine.specs.Step
 use Rattle.machine.specs.StageLaws.{ticked, range-first, range-later, step-7, ends-7, requests-7, step-8, ends-8, requests-8}
-use Rattle.reach.specs.Site.{Link}
 use Rattle.reach.specs.Segments
 use Rattle.reach.specs.Segments.{SegmentsAt, Spans, lastPlace, place-spans, first-round, over-descendants}
 use Rattle.reach.specs.Ordered.{Ordered, Ranged}
 use Rattle.reach.specs.OffTheTree.{off-exact}
-use Rattle.reach.specs.AuxEdges.{JoinsUp, joins-exact}
+use Rattle.reach.specs.AuxEdges.{joins-exact}
 use Rattle.reach.specs.AuxColors.{Marked}
-use Rattle.reach.specs.Invariant.{Base, Treed, Numbered, In7, In8, In9, Reached, in7, in8, in9}
+use Rattle.reach.specs.Invariant.{Base, Numbered, In7, In8, Reached, in7, in8, in9}
 use Rattle.reach.specs.Ticks.{Goes, uncut, stage-on, made-on, stage-over, made-over, requests-next}
 
 -- low and high over all descendants, from the last segments

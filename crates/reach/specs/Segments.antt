@@ -13,22 +13,22 @@ use Rattle.lists.specs.Multiples.{Multiple, multiple-one, multiple-up, multiple
 use Rattle.numbers.specs.Lg.{lg}
 use Rattle.numbers.specs.LgLaws.{lg-reaches}
 use Rattle.rules.specs.Basics.{MAX-NUMBER, at, bounded}
-use Rattle.rules.specs.ChoiceLaws.{Choice}
+use Rattle.lists.specs.FoldLaws.{Choice}
 use Rattle.rules.specs.Range.{odd, localOf, localAt, movesLittle, movesBig, withLittle, withBig, globalFirst, rangeFirst, littleFirst, bigFirst, rangeLater, littleLater, bigLater, globalLater}
 use Rattle.rules.specs.RangeEntries.{unit-at, local-at, global-first, range-first, little-first, big-first, even-multiple, odd-remainder, little-rests, big-rests, little-moves, big-moves, little-entry, big-entry, range-entry, little-takes, little-passes, big-takes, big-passes, global-doubles, global-stays, length-global-first, length-range-first, length-little-first, length-big-first, length-global-later, length-range-later, length-little-later, length-big-later}
 
 -- ---- the extreme of the local values over some places
 
 -- x is before every local value over the places of P, and is one of them
-abbrev pub Extreme : (ℕ → ℕ → Type 0) → (ℕ → ℕ) → (ℕ → Type 0) → ℕ → Type 0
+abbrev Extreme : (ℕ → ℕ → Type 0) → (ℕ → ℕ) → (ℕ → Type 0) → ℕ → Type 0
 Extreme le local P x = ((q : ℕ) → P q → le x (local q)) × ((q : ℕ) × P q × (x ≡ local q))
 
 -- the w places from q on that exist
-abbrev pub Within : ℕ → ℕ → ℕ → ℕ → Type 0
+abbrev Within : ℕ → ℕ → ℕ → ℕ → Type 0
 Within n q w p = (q ≤ p) × (p < q + w) × (p < n)
 
 -- the places from first to last outside little .. big
-abbrev pub Taken : ℕ → ℕ → ℕ → ℕ → ℕ → Type 0
+abbrev Taken : ℕ → ℕ → ℕ → ℕ → ℕ → Type 0
 Taken first little big last p = ((first ≤ p) × (p < little)) ⊎ ((big ≤ p) × (p ≤ last))
 
 extreme-over : (le : ℕ → ℕ → Type 0) (local : ℕ → ℕ) (P T : ℕ → Type 0) (x : ℕ) → ((q : ℕ) → T q → P q) → ((q : ℕ) → P q → T q)
@@ -71,7 +71,7 @@ pub record SegmentsAt (le : ℕ → ℕ → Type 0) (n : ℕ) (local first last 
   pub rangeOf : (v : ℕ) → v < n → Extreme le local (Taken (first v) (at little v) (at big v) (last v)) (at range v)
 
 -- after the first round of the stage
-pub start : {op : ℕ → ℕ → ℕ} {le : ℕ → ℕ → Type 0} → Choice op le → {n : ℕ} {first last : ℕ → ℕ} → Spans n first last
+start : {op : ℕ → ℕ → ℕ} {le : ℕ → ℕ → Type 0} → Choice op le → {n : ℕ} {first last : ℕ → ℕ} → Spans n first last
     → (local : ℕ → ℕ) (global range little big : List ℕ) → n ≤ length global → n ≤ length range → n ≤ length little → n ≤ length big
     → ((q : ℕ) → q < n → at global q ≡ local q) → ((v : ℕ) → v < n → at range v ≡ local (last v))
     → ((v : ℕ) → v < n → at little v ≡ first v) → ((v : ℕ) → v < n → at big v ≡ last v)
@@ -323,7 +323,7 @@ module _ {op : ℕ → ℕ → ℕ} {le : ℕ → ℕ → Type 0} (choice : Choi
 -- ---- the end
 
 -- after lg(n) rounds little has met big,
-pub met : {le : ℕ → ℕ → Type 0} {n : ℕ} {local first last : ℕ → ℕ} {global range little big : List ℕ} → Spans n first last
+met : {le : ℕ → ℕ → Type 0} {n : ℕ} {local first last : ℕ → ℕ} {global range little big : List ℕ} → Spans n first last
     → SegmentsAt le n local first last global range little big (lg n) → (v : ℕ) → v < n → at little v ≡ at big v
 met {n = n} {little = little} {big = big} spans now v l = go (now .aligned v l)
   where
@@ -335,7 +335,7 @@ met {n = n} {little = little} {big = big} spans now v l = go (now .aligned v l)
         omega (arith, now .littleBig v l)
 
 -- and the value of each unit is the extreme over all places of its descendants
-pub done : {le : ℕ → ℕ → Type 0} {n : ℕ} {local first last : ℕ → ℕ} {global range little big : List ℕ} → Spans n first last
+done : {le : ℕ → ℕ → Type 0} {n : ℕ} {local first last : ℕ → ℕ} {global range little big : List ℕ} → Spans n first last
     → SegmentsAt le n local first last global range little big (lg n) → (v : ℕ) → v < n
     → ((q : ℕ) → first v ≤ q → q ≤ last v → le (at range v) (local q))
     × ((q : ℕ) × (first v ≤ q) × (q ≤ last v) × (at range v ≡ local q))

@@ -10,7 +10,7 @@ use native.Mathlib.Omega.{arith}
 use lib.Dec.{eqb, ltb}
 use borrow.Author.Tests.{eqb-true, eq-eqb, ne-eqb, ltb-true, lt-ltb, le-ltb}
 use Rattle.lists.specs.Folds.{sum, count}
-use Rattle.lists.specs.LeastLaws.{count-le}
+use Rattle.lists.specs.Counts.{count-le}
 use Rattle.lists.specs.Sums.{sum-cong, sum-zero, sum-add, sum-swap, sum-le, sum-more, sum-one}
 use Rattle.lists.specs.Tests.{either, or-cases, or-left, or-right, and-left, and-right, and-true, cond-true, cond-false, refuted}
 use Rattle.rules.specs.Basics.{at}
@@ -219,7 +219,7 @@ module _ {n m : ℕ} {ends color parent : List ℕ} {d : ℕ → ℕ} (rooted : 
       here c (inl t) = rw (same c (child-of v c t) (decLt (key n parent d v c) a) (decLt (key n parent d v c) b)) refl
       here c (inr f) = rw f refl
 
-  pub earlier-mono : (v a b : ℕ) → a ≤ b → earlier n parent d v a ≤ earlier n parent d v b
+  earlier-mono : (v a b : ℕ) → a ≤ b → earlier n parent d v a ≤ earlier n parent d v b
   unfolding earlier
   earlier-mono v a b l = sum-le n _ _ (λ (c : ℕ) (k : c < n). here c (isChild parent d v c) (decLt (key n parent d v c) a))
     where
@@ -261,7 +261,7 @@ module _ {n m : ℕ} {ends color parent : List ℕ} {d : ℕ → ℕ} (rooted : 
           (decLt (key n parent d v x) (key n parent d v c))) refl
 
   -- all of them
-  pub earlier-all : (v k : ℕ) → v < n → n + n ≤ k → suc (earlier n parent d v k) ≡ nd n parent d v
+  earlier-all : (v k : ℕ) → v < n → n + n ≤ k → suc (earlier n parent d v k) ≡ nd n parent d v
   unfolding earlier
   earlier-all v k l b = omega (arith, nd-children v l, sum-cong n _ _ (λ (c : ℕ) (i : c < n). here c i (isChild parent d v c)))
     where
@@ -307,7 +307,7 @@ module _ {n m : ℕ} {ends color parent : List ℕ} {d : ℕ → ℕ} (rooted : 
           omega (arith, pre-child (at parent y) y (h, refl), go k (at parent y) (omega arith))
 
   -- a child's interval lies within its parent's, past its start
-  pub child-within : (v c : ℕ) → Child parent d v c
+  child-within : (v c : ℕ) → Child parent d v c
       → (pre n parent d v < pre n parent d c) × (pre n parent d c + nd n parent d c ≤ pre n parent d v + nd n parent d v)
   child-within v c h =
       let a = earlier-mono v (suc (key n parent d v c)) (n + n) (turned-below n (pivot parent d v) c (inside c (h .0))) in
@@ -317,7 +317,7 @@ module _ {n m : ℕ} {ends color parent : List ℕ} {d : ℕ → ℕ} (rooted : 
       (omega arith, omega arith)
 
   -- of two children the one with the lesser key ends before the other starts
-  pub child-apart : (v c x : ℕ) → Child parent d v c → Child parent d v x → key n parent d v c < key n parent d v x
+  child-apart : (v c x : ℕ) → Child parent d v c → Child parent d v x → key n parent d v c < key n parent d v x
       → pre n parent d c + nd n parent d c ≤ pre n parent d x
   child-apart v c x h g l =
       omega (arith, earlier-mono v (suc (key n parent d v c)) (key n parent d v x) l, earlier-child v c h, pre-child v c h, pre-child v x g)

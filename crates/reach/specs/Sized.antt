@@ -1,5 +1,5 @@
 -- The tables of a state have the lengths of their arrays, and a step keeps them.
-use mathlib.Core.Path.{_≡_, refl, _∙_}
+use mathlib.Core.Path.{_≡_}
 use mathlib.Core.Bool.{Bool, cond}
 use mathlib.Core.List.{List, [], _∷_}
 use Prim.Native.Nat.{ℕ, _-_}
@@ -21,7 +21,7 @@ use Rattle.machine.specs.Load.{Input, loadRefusal, absents, zeros, begun, loade
 use Rattle.machine.specs.Step
 
 -- the tables by what indexes them
-abbrev pub unitIndexed : State → List (List ℕ)
+abbrev unitIndexed : State → List (List ℕ)
 unitIndexed s =
     s .components .color
     ∷ s .tree .parent
@@ -38,13 +38,13 @@ unitIndexed s =
     ∷ s .aux .color
     ∷ []
 
-abbrev pub arcIndexed : State → List (List ℕ)
+abbrev arcIndexed : State → List (List ℕ)
 arcIndexed s = s .tour .next ∷ s .tour .pred ∷ s .ranking .jump ∷ s .ranking .sum ∷ s .order .forward ∷ []
 
-abbrev pub linkIndexed : State → List (List ℕ)
+abbrev linkIndexed : State → List (List ℕ)
 linkIndexed s = s .aux .links ∷ s .labels .class ∷ s .labels .label ∷ []
 
-abbrev pub Long : ℕ → List ℕ → Type 0
+abbrev Long : ℕ → List ℕ → Type 0
 Long k t = length t ≡ k
 
 pub record Sized (s : State) : Type 0 where

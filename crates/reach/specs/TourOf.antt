@@ -4,22 +4,22 @@ use mathlib.Core.Path.{_≡_, refl, sym, ap, subst, _∙_}
 use mathlib.Core.Bool.{Bool, true, false, cond, not, _&&_}
 use mathlib.Core.Logic.{_↔_, _⊎_, inl, inr}
 use mathlib.Core.List.{List}
-use Prim.Native.Nat.{ℕ, zero, suc, _+_, _*_, _-_, _≤_, _<_}
+use Prim.Native.Nat.{ℕ, suc, _+_, _*_, _-_, _≤_, _<_}
 use native.Mathlib.Decide.{ℕ-discrete, decLt}
 use native.Mathlib.Omega.{arith}
-use lib.Dec.{eqb, ltb}
-use borrow.Author.Tests.{eqb-true, eq-eqb, ne-eqb, lt-ltb, le-ltb, ltb-true}
+use lib.Dec.{eqb}
+use borrow.Author.Tests.{eqb-true, eq-eqb, ne-eqb, lt-ltb}
 use Rattle.lists.specs.Folds.{count}
-use Rattle.lists.specs.Sums.{count-mono, count-less, count-all}
-use Rattle.lists.specs.Tests.{either, and-left, and-right, and-true, or-cases, or-left, or-right, or-exact, cond-true, cond-false, not-both, refuted}
+use Rattle.lists.specs.Counts.{count-less, count-fewer}
+use Rattle.lists.specs.Tests.{either, and-left, and-right, or-cases, or-left, or-right, or-exact, cond-true, cond-false, not-both, refuted}
 use Rattle.rules.specs.Basics.{ABSENT, at, isRoot}
 use Rattle.rules.specs.Tour.{arcUnit, isInto, isArc, treeNeighbor, leastNeighbor, neighborAfter, arcFrom, arcAfter, follower, isStart, predecessor}
 use Rattle.rules.specs.CyclicOrder.{leastPassing, passing-least, passing-found, Next, greater, wrapped, next-onto, after-next, after-is, turned-high, turned-first, turned-next}
 use Rattle.graph.specs.Ancestors.{root-anc}
 use Rattle.reach.specs.Site.{Site}
-use Rattle.reach.specs.Rooted.{Rooted, rootOf}
+use Rattle.reach.specs.Rooted.{Rooted, rootOf, root-exact}
 use Rattle.reach.specs.SizeAndOrder.{pre, earlier, key, pivot, Child, inside, deeper, parent-unit, pivot-parent, pivot-root, earlier-gap, earlier-none, pre-root}
-use Rattle.reach.specs.Potentials.{rankOf, forwardSum, Arc, Step, into-even, out-odd, arc-cases, root-exact, arc-exact, rank-into, forward-into, rank-none, rank-from, rank-to}
+use Rattle.reach.specs.Potentials.{rankOf, forwardSum, Arc, Step, into-even, out-odd, arc-cases, arc-exact, rank-into, forward-into, rank-none, rank-from, rank-to}
 
 -- what precedes a: nothing where it is no arc or starts a tour, else an arc b that it comes one after
 pub data Preceded (n : ℕ) (parent : List ℕ) (d : ℕ → ℕ) (a b : ℕ) : Type 0 where
@@ -76,7 +76,7 @@ module _ {n m : ℕ} {ends color parent : List ℕ} {d : ℕ → ℕ} (site : Si
       go (inr c) = inl (c, arc-from (2 * v + 1) v w (inl (c, refl)))
 
   -- an arc's two ends
-  pub ends-of : (a : ℕ) → 0 < d (arcUnit a) → (u : ℕ) × (v : ℕ) × Arc parent d a u v
+  ends-of : (a : ℕ) → 0 < d (arcUnit a) → (u : ℕ) × (v : ℕ) × Arc parent d a u v
   ends-of a h = go (arc-cases a)
     where
       go : ((a ≡ 2 * arcUnit a) × (isInto a ≡ true)) ⊎ ((a ≡ 2 * arcUnit a + 1) × (isInto a ≡ false)) → (u : ℕ) × (v : ℕ) × Arc parent d a u v
@@ -144,7 +144,7 @@ module _ {n m : ℕ} {ends color parent : List ℕ} {d : ℕ → ℕ} (site : Si
       let k = f (leastPassing n nb) (g .0) (g .1) in
       rw (into-even w, e, c .1, root-exact rooted v (parent-unit rooted v w c) .1 z, eq-eqb (leastPassing n nb) w (omega arith)) refl
 
-  pub start-one : (a : ℕ) → 0 < d (arcUnit a) → isStart n parent a ≡ true → (rankOf n parent d a ≡ 1) × (forwardSum n parent d a ≡ 1)
+  start-one : (a : ℕ) → 0 < d (arcUnit a) → isStart n parent a ≡ true → (rankOf n parent d a ≡ 1) × (forwardSum n parent d a ≡ 1)
   unfolding isStart leastNeighbor
   start-one a h t = go (arc-cases a)
     where
@@ -234,7 +234,7 @@ module _ {n m : ℕ} {ends color parent : List ℕ} {d : ℕ → ℕ} (site : Si
 
   -- ---- followers
 
-  pub follower-step : (a : ℕ) → a < 2 * n → isArc parent a ≡ true
+  follower-step : (a : ℕ) → a < 2 * n → isArc parent a ≡ true
       → (follower n parent a < 2 * n) × (isArc parent (follower n parent a) ≡ true)
       × ((isStart n parent (follower n parent a) ≡ true) ⊎ Step n parent d a (follower n parent a))
   follower-step a l t = go (ends-of a (arc-exact rooted a l .0 t))
@@ -322,37 +322,13 @@ module _ {n m : ℕ} {ends color parent : List ℕ} {d : ℕ → ℕ} (site : Si
           let r = comes-after a found l s (q .0) (sym (f found (q .0)) ∙ eqb-true (at next found) a (q .1)) in
           rw (t, s) (after t s (q .0) (r .0) (r .1))
 
-  -- ---- ranks that are taken
-
-  -- every rank from 1 up to that of an arc is that of an arc
-  pub rank-taken : (a x : ℕ) → a < 2 * n → isArc parent a ≡ true → 1 ≤ x → x ≤ rankOf n parent d a
-      → (b : ℕ) × (b < 2 * n) × (isArc parent b ≡ true) × (rankOf n parent d b ≡ x)
-  rank-taken a x l t h k = go (rankOf n parent d a - x) a l t (omega arith)
-    where
-      Taken : Type 0
-      Taken = (b : ℕ) × (b < 2 * n) × (isArc parent b ≡ true) × (rankOf n parent d b ≡ x)
-
-      back : (j b : ℕ) → b < 2 * n → isArc parent b ≡ true → rankOf n parent d b ≡ x + suc j → (isStart n parent b ≡ true) ⊎ (isStart n parent b ≡ false)
-          → ((c : ℕ) → c < 2 * n → isArc parent c ≡ true → rankOf n parent d c ≡ x + j → Taken) → Taken
-      back j b i s e (inl q) f = absurd (omega (arith, start-one b (arc-exact rooted b i .0 s) q .0))
-      back j b i s e (inr q) f =
-          let (c, o, g) = follows b i s in
-          let r = comes-after b c i q o g in
-          let z = r .1 .rank in
-          f c o (r .0) (omega arith)
-
-      go : (j b : ℕ) → b < 2 * n → isArc parent b ≡ true → rankOf n parent d b ≡ x + j → Taken
-      go zero b i s e = (b, i, s, omega arith)
-      go (suc j) b i s e = back j b i s e (either (isStart n parent b)) (go j)
-
   -- at most 2n − 2 arcs
   pub arcs-le : count (2 * n) (isArc parent) ≤ 2 * n - 2
   arcs-le =
       let a = count-less (2 * n) (isArc parent) other (2 * r + 1) (omega (arith, below)) (no-arc (2 * r + 1) (omega arith)) (other-true (2 * r + 1) (omega arith))
       (λ (i : ℕ) (l : i < 2 * n) (t : isArc parent i ≡ true).
       other-true i (λ (e : i ≡ 2 * r). not-both (isArc parent i) t (no-arc i (omega arith)))) in
-      let b = count-less (2 * n) other (λ (i : ℕ). true) (2 * r) (omega (arith, below)) (rw (eq-eqb (2 * r) (2 * r) refl) refl) refl (λ (i : ℕ) (l : i < 2 * n) t. refl) in
-      omega (arith, count-all (2 * n))
+      omega (arith, count-fewer (2 * n) other (2 * r) (omega (arith, below)) (rw (eq-eqb (2 * r) (2 * r) refl) refl))
     where
       r : ℕ
       r = rootOf n color 0
@@ -368,29 +344,3 @@ module _ {n m : ℕ} {ends color parent : List ℕ} {d : ℕ → ℕ} (site : Si
 
       other-true : (i : ℕ) → (i ≡ 2 * r → ⊥) → other i ≡ true
       other-true i h = rw (ne-eqb i (2 * r) h) refl
-
-  -- the arcs with a rank above x, where there is one
-  pub ranks-above : (x a : ℕ) → a < 2 * n → isArc parent a ≡ true → x < rankOf n parent d a
-      → count (2 * n) (λ (b : ℕ). isArc parent b && ltb x (rankOf n parent d b)) + x ≤ 2 * n - 2
-  ranks-above zero a l t h =
-      omega (
-        arith,
-        arcs-le,
-        count-mono (2 * n) (λ (b : ℕ). isArc parent b && ltb 0 (rankOf n parent d b)) (isArc parent)
-            (λ (i : ℕ) (k : i < 2 * n) (s : (isArc parent i && ltb 0 (rankOf n parent d i)) ≡ true). and-left (isArc parent i) (ltb 0 (rankOf n parent d i)) s),
-      )
-  ranks-above (suc x) a l t h =
-      let (b, k, s, e) = rank-taken a (suc x) l t (omega arith) (omega arith) in
-      omega (
-        arith,
-        ranks-above x a l t (omega arith),
-        count-less (2 * n) (λ (c : ℕ). isArc parent c && ltb (suc x) (rankOf n parent d c)) (λ (c : ℕ). isArc parent c && ltb x (rankOf n parent d c)) b k
-            (rw (s, le-ltb (suc x) (rankOf n parent d b) (omega arith)) refl)
-            (rw (s, lt-ltb x (rankOf n parent d b) (omega arith)) refl)
-            (λ (i : ℕ) (j : i < 2 * n) (q : (isArc parent i && ltb (suc x) (rankOf n parent d i)) ≡ true).
-            and-true (isArc parent i) (ltb x (rankOf n parent d i)) (and-left (isArc parent i) (ltb (suc x) (rankOf n parent d i)) q)
-            (less i (ltb-true (suc x) (rankOf n parent d i) (and-right (isArc parent i) (ltb (suc x) (rankOf n parent d i)) q)))),
-      )
-    where
-      less : (i : ℕ) → suc x < rankOf n parent d i → ltb x (rankOf n parent d i) ≡ true
-      less i k = lt-ltb x (rankOf n parent d i) (omega arith)

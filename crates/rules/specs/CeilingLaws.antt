@@ -1,12 +1,11 @@
 -- Laws of the ceilings and the countdown: it falls with each round, is zero only past stage 10, and is at most 804.
-use mathlib.Core.Path.{_≡_, refl, sym, ap, _∙_}
-use mathlib.Core.List.{List, [], _∷_}
-use Prim.Native.Nat.{ℕ, zero, suc, _+_, _*_, _-_, _^_, _≤_, _<_, max}
-use native.Mathlib.Nat.{le-of-suc-le-suc, not-suc-le-zero}
+use mathlib.Core.Path.{_≡_}
+use mathlib.Core.List.{List}
+use Prim.Native.Nat.{ℕ, zero, suc, _+_, _*_, _-_, _≤_, _<_, max}
 use native.Mathlib.Omega.{arith}
 use lib.ListN.{length, getD, drop}
 use lib.Seq.{drop-cons}
-use Rattle.numbers.specs.Lg.{lg, lgFrom}
+use Rattle.numbers.specs.Lg.{lg}
 use Rattle.numbers.specs.LgLaws.{lg-least}
 use Rattle.rules.specs.Ceilings.{rankingCeiling, ceilings, ceiling, total, countdown}
 
@@ -73,11 +72,6 @@ countdown-finished n made = omega arith
 
 -- ---- the first countdown
 
--- the ceilings at n = 256 add up to 804
-pub total-largest : total (ceilings 256) ≡ 804
-unfolding lg lgFrom
-total-largest = refl
-
--- and for fewer units to no more
+-- the ceilings of at most 256 units add up to at most 804
 pub total-small : (n : ℕ) → n ≤ 256 → total (ceilings n) ≤ 804
 total-small n h = omega (arith, lg-least (2 * n - 2) 9 (omega arith), lg-least n 8 h)

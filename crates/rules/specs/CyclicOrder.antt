@@ -24,7 +24,7 @@ leastPassing n p = least n (λ (w : ℕ). cond (p w) w ABSENT) ABSENT
 pub passing-least : (n : ℕ) (p : ℕ → Bool) (x : ℕ) → x < n → p x ≡ true → leastPassing n p ≤ x
 passing-least n p x l t = rw (cond-true (p x) x ABSENT t) at (least-le n (λ (w : ℕ). cond (p w) w ABSENT) ABSENT x l)
 
-pub passing : (n : ℕ) (p : ℕ → Bool) → (leastPassing n p ≡ ABSENT) ⊎ ((leastPassing n p < n) × (p (leastPassing n p) ≡ true))
+passing : (n : ℕ) (p : ℕ → Bool) → (leastPassing n p ≡ ABSENT) ⊎ ((leastPassing n p < n) × (p (leastPassing n p) ≡ true))
 passing n p = go (least-is n (λ (w : ℕ). cond (p w) w ABSENT) ABSENT)
   where
     at-one : (i : ℕ) → i < n → leastPassing n p ≡ cond (p i) i ABSENT → (p i ≡ true) ⊎ (p i ≡ false)
@@ -46,7 +46,7 @@ passing-found n p x small l t = go (passing n p)
     go (inr w) = w
 
 -- the greatest number below b that passes, or none does
-pub last-passing : (p : ℕ → Bool) (b : ℕ)
+last-passing : (p : ℕ → Bool) (b : ℕ)
     → ((u : ℕ) × (u < b) × (p u ≡ true) × ((x : ℕ) → x < b → p x ≡ true → x ≤ u)) ⊎ ((x : ℕ) → x < b → p x ≡ true → ⊥)
 last-passing p zero = inr (λ (x : ℕ) (l : x < 0) (t : p x ≡ true). omega arith)
 last-passing p (suc b) = go (either (p b)) (last-passing p b)
@@ -73,7 +73,7 @@ pub data Next (nb : ℕ → Bool) (n u w : ℕ) : Type 0 where
   greater : u < w → ((x : ℕ) → x < n → nb x ≡ true → u < x → w ≤ x) → Next nb n u w
   wrapped : ((x : ℕ) → x < n → nb x ≡ true → x ≤ u) → ((x : ℕ) → x < n → nb x ≡ true → w ≤ x) → Next nb n u w
 
-pub next-unique : {nb : ℕ → Bool} {n u w z : ℕ} → w < n → nb w ≡ true → z < n → nb z ≡ true → Next nb n u w → Next nb n u z → w ≡ z
+next-unique : {nb : ℕ → Bool} {n u w z : ℕ} → w < n → nb w ≡ true → z < n → nb z ≡ true → Next nb n u w → Next nb n u z → w ≡ z
 next-unique {u = u} {w = w} {z = z} lw tw lz tz (greater a f) (greater b g) = omega (arith, f z lz tz b, g w lw tw a)
 next-unique {u = u} {w = w} {z = z} lw tw lz tz (greater a f) (wrapped b g) = absurd (omega (arith, b w lw tw))
 next-unique {u = u} {w = w} {z = z} lw tw lz tz (wrapped a f) (greater b g) = absurd (omega (arith, a z lz tz))
@@ -179,7 +179,7 @@ turned-one n pivot w x l k h =
     (λ a e. turned-cases n pivot x (λ b g. omega arith) (λ b g. omega arith))
 
 -- w is the next after u, by key
-abbrev pub NextBy : (ℕ → ℕ) → (ℕ → Bool) → ℕ → ℕ → ℕ → Type 0
+abbrev NextBy : (ℕ → ℕ) → (ℕ → Bool) → ℕ → ℕ → ℕ → Type 0
 NextBy key nb n u w = (key u < key w) × ((x : ℕ) → x < n → nb x ≡ true → key u < key x → key w ≤ key x)
 
 module _ {nb : ℕ → Bool} {n u w : ℕ} (lw : w < n) (tw : nb w ≡ true) where

@@ -1,5 +1,5 @@
 -- The first item with a key, by buckets: stages 3 (the arc that an arc follows), 7 (the unit at a place) and 10 (a class's least position).
-use mathlib.Core.Path.{_≡_, refl}
+use mathlib.Core.Path.{_≡_}
 use mathlib.Core.Bool.{true, false, cond}
 use mathlib.Core.Logic.{_⊎_, inl, inr}
 use mathlib.Core.List.{List}
@@ -12,9 +12,9 @@ use lib.Dec.{eqb}
 use lib.ListN.{length, getD}
 use Rattle.lists.specs.Tests.{either}
 use Rattle.lists.specs.Folds.{least}
-use Rattle.lists.specs.FoldLaws.{least-le-start}
-use Rattle.lists.specs.Rounds.{over-ext}
-use Rattle.lists.specs.Scatter.{takesIn, single-over, fold-start}
+use Rattle.lists.specs.LeastLaws.{least-start}
+use Rattle.lists.specs.Rounds.{over-same}
+use Rattle.lists.specs.Scatter.{takesIn, single-over, fold-again}
 use Rattle.rules.specs.Basics.{ABSENT, at}
 use Rattle.rules.specs.Buckets.{BUCKETS, bucketTable, bucket-at}
 
@@ -28,8 +28,7 @@ module _ (key : List ℕ) where
   pub first-none : (old : List ℕ) → ((i : ℕ) → i < BUCKETS → getD old i 0 ≡ ABSENT) → old ≡ bucketTable (firstAt 0 key) old
   unfolding bucketTable firstAt
   first-none old blank =
-      over-ext 0 BUCKETS (firstAt 0 key) old old refl (λ (i : ℕ) (h : i < BUCKETS) (l : i < length old). blank i h)
-      (λ (i : ℕ) (h : BUCKETS ≤ i) (l : i < length old). refl)
+      over-same 0 BUCKETS (firstAt 0 key) old blank
 
   pub first-more : (k : ℕ) (old t new : List ℕ) → t ≡ bucketTable (firstAt k key) old → new ≡ takesIn min BUCKETS t (at key k) k
       → new ≡ bucketTable (firstAt (k + 1) key) old
@@ -37,7 +36,7 @@ module _ (key : List ℕ) where
   first-more k old t new was put =
       rw (put, was, add-one k)
       (single-over false BUCKETS (firstAt k key) (λ (q : ℕ). ABSENT) old (at key k) k
-      (λ (q : ℕ). fold-start false k (λ (i : ℕ). cond (eqb (at key i) q) i ABSENT) ABSENT))
+      (λ (q : ℕ). fold-again false k (λ (i : ℕ). cond (eqb (at key i) q) i ABSENT) ABSENT))
 
   pub first-all : (m k : ℕ) (old t : List ℕ) → length old ≡ BUCKETS → t ≡ bucketTable (firstAt k key) old → k ≤ m → m ≤ k
       → (q : ℕ) → q < BUCKETS → getD t q 0 ≡ firstAt m key q
@@ -54,7 +53,7 @@ module _ (key : List ℕ) where
 -- items past the greatest word cannot be first
 first-small : (m : ℕ) (key : List ℕ) (q : ℕ) → firstAt m key q ≤ ABSENT
 unfolding firstAt
-first-small m key q = least-le-start m (λ (k : ℕ). cond (eqb (at key k) q) k ABSENT) ABSENT
+first-small m key q = least-start m (λ (k : ℕ). cond (eqb (at key k) q) k ABSENT) ABSENT
 
 first-past : (k : ℕ) (key : List ℕ) (q : ℕ) → ABSENT ≤ k → firstAt (suc k) key q ≡ firstAt k key q
 unfolding firstAt

@@ -8,7 +8,7 @@ use lib.Dec.{leb, ltb}
 use lib.ListN.{length, getD, take, length-take}
 use lib.Seq.{getD-take}
 use borrow.Author.Tests.{leb-true, le-leb, ltb-true, lt-ltb}
-use Rattle.lists.specs.All.{All, all-in, all-of, every-exact}
+use Rattle.lists.specs.All.{all-of, every-at, every-exact}
 use Rattle.lists.specs.Folds.{every}
 use Rattle.lists.specs.Tests.{and-left, and-right, and-true}
 use Rattle.table.specs.Table.{maxLinks}
@@ -22,9 +22,6 @@ abbrev pub EndsWithin : ℕ → ℕ → List ℕ → Type 0
 EndsWithin n m ends = (2 * m ≤ length ends) × ((i : ℕ) → i < 2 * m → getD ends i 0 < n)
 
 module _ (n m : ℕ) (ends : List ℕ) where
-  all-below : (t : List ℕ) → (every (λ (x : ℕ). ltb x n) t ≡ true) → All (λ (x : ℕ). x < n) t
-  all-below t e = every-exact (λ (x : ℕ). ltb x n) (λ (x : ℕ). x < n) (λ x. (ltb-true x n, lt-ltb x n)) t .0 e
-
   pub fit-few : linksFit n m ends ≡ true → m ≤ maxLinks
   unfolding linksFit
   fit-few e = leb-true m maxLinks (and-left (leb m maxLinks) _ e)
@@ -40,8 +37,8 @@ module _ (n m : ℕ) (ends : List ℕ) where
       below : (i : ℕ) → i < 2 * m → getD ends i 0 < n
       below i h =
           let t = take (2 * m) ends in
-          let all : All (λ (x : ℕ). x < n) t = all-below t (and-right (leb m maxLinks) _ e) in
-          rw (getD-take (2 * m) ends i 0 h) at (all-in (λ (x : ℕ). x < n) t i 0 (rw (length-take (2 * m) ends) (omega (arith, h, fits))) all)
+          let in-t : i < length t = rw (length-take (2 * m) ends) (omega (arith, h, fits)) in
+          rw (getD-take (2 * m) ends i 0 h) at (ltb-true (getD t i 0) n (every-at (λ (x : ℕ). ltb x n) t i 0 (and-right (leb m maxLinks) _ e) in-t))
 
   -- it holds where every end exists
   pub within-fit : m ≤ maxLinks → ((i : ℕ) → i < length (take (2 * m) ends) → getD (take (2 * m) ends) i 0 < n) → linksFit n m ends ≡ true

@@ -1,21 +1,15 @@
 -- A link or join of a and b as a loop meets it: each end takes in the other's value. Stages 1, 7 and 9.
-use mathlib.Core.Path.{_≡_, sym, ap, _∙_}
+use mathlib.Core.Path.{_≡_, sym, ap}
 use mathlib.Core.Bool.{Bool, true, false, cond}
 use mathlib.Core.List.{List}
 use Prim.Native.Nat.{ℕ, _<_}
-use lib.ListN.{length}
 use Rattle.lists.specs.Tables.{over, over-cong}
-use Rattle.lists.specs.Scatter.{opOf, takesIn, length-takesIn, pair-over}
+use Rattle.lists.specs.Scatter.{opOf, takesIn, pair-over}
 use Rattle.rules.specs.Basics.{at, heard}
 
 -- both ends, below n, take in the other's value
 unfoldable pub hears : Bool → ℕ → List ℕ → ℕ → ℕ → List ℕ → List ℕ
 hears g n value a b t = takesIn (opOf g) n (takesIn (opOf g) n t a (at value b)) b (at value a)
-
-pub length-hears : (g : Bool) (n : ℕ) (value : List ℕ) (a b : ℕ) (t : List ℕ) → length (hears g n value a b t) ≡ length t
-unfolding hears
-length-hears g n value a b t =
-    length-takesIn (opOf g) n (takesIn (opOf g) n t a (at value b)) b (at value a) ∙ length-takesIn (opOf g) n t a (at value b)
 
 -- a table whose entries have taken in their own values
 pub hears-over : (g : Bool) (n : ℕ) (value : List ℕ) (a b : ℕ) (f : ℕ → ℕ) (old : List ℕ)

@@ -13,7 +13,6 @@ pub mod RankingLaws
 pub mod Order
 pub mod Range
 pub mod RangeEntries
-pub mod ChoiceLaws
 pub mod Aux
 pub mod Labels
 pub mod RoundBounds

@@ -11,10 +11,10 @@ use Rattle.rules.specs.Range.{segment, withLittle, withBig, rangeLater, 
 abbrev pub oddBy : ℕ → ℕ → Bool
 oddBy period x = not (eqb (x % period) 0)
 
-abbrev pub movesLittleBy : ℕ → List ℕ → List ℕ → ℕ → Bool
+abbrev movesLittleBy : ℕ → List ℕ → List ℕ → ℕ → Bool
 movesLittleBy period little big v = ltb (at little v) (at big v) && oddBy period (at little v)
 
-abbrev pub movesBigBy : ℕ → List ℕ → List ℕ → ℕ → Bool
+abbrev movesBigBy : ℕ → List ℕ → List ℕ → ℕ → Bool
 movesBigBy period little big v = ltb (at little v) (at big v) && oddBy period (at big v)
 
 abbrev pub littleBy : ℕ → ℕ → List ℕ → List ℕ → ℕ → ℕ
@@ -26,10 +26,10 @@ bigBy span period little big v = cond (movesBigBy period little big v) (at big v
 abbrev pub segmentBeforeBy : ℕ → ℕ → List ℕ → ℕ → ℕ
 segmentBeforeBy span n global q = cond (leb span q) (segment n global (q - span)) 0
 
-abbrev pub withLittleBy : (ℕ → ℕ → ℕ) → ℕ → ℕ → List ℕ → List ℕ → List ℕ → ℕ → ℕ → ℕ
+abbrev withLittleBy : (ℕ → ℕ → ℕ) → ℕ → ℕ → List ℕ → List ℕ → List ℕ → ℕ → ℕ → ℕ
 withLittleBy op period n global little big v x = cond (movesLittleBy period little big v) (op x (segment n global (at little v))) x
 
-abbrev pub withBigBy : (ℕ → ℕ → ℕ) → ℕ → ℕ → ℕ → List ℕ → List ℕ → List ℕ → ℕ → ℕ → ℕ
+abbrev withBigBy : (ℕ → ℕ → ℕ) → ℕ → ℕ → ℕ → List ℕ → List ℕ → List ℕ → ℕ → ℕ → ℕ
 withBigBy op span period n global little big v x =
     cond (movesBigBy period little big v) (op x (segmentBeforeBy span n global (at big v))) x
 

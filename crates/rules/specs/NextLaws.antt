@@ -1,6 +1,6 @@
 -- Followers fit a word wherever units and parents exist: what stage 3's code stores is then the rule's.
 use mathlib.Core.Path.{_≡_, refl}
-use mathlib.Core.Bool.{Bool, true, false, cond, _&&_}
+use mathlib.Core.Bool.{Bool, true, false, cond, _&&_, or-true}
 use mathlib.Core.Logic.{_⊎_, inl, inr}
 use mathlib.Core.List.{List}
 use Prim.Native.Nat.{ℕ, _+_, _*_, _≤_, _<_}
@@ -10,10 +10,10 @@ use lib.Dec.{eqb, ltb}
 use lib.ListN.{length, List·getD-eq-default}
 use borrow.Author.Tests.{ltb-true, eqb-true, eq-eqb, ne-eqb}
 use Rattle.lists.specs.Tests.{either, or-cases}
-use Rattle.lists.specs.Bools.{or-all}
 use Rattle.lists.specs.Tables.{over-cong}
 use Rattle.lists.specs.Folds.{every}
-use Rattle.lists.specs.FoldLaws.{least-le, least-found, every-at}
+use Rattle.lists.specs.LeastLaws.{least-le, least-found}
+use Rattle.lists.specs.All.{every-at}
 use Rattle.table.specs.Table.{maxUnits}
 use Rattle.rules.specs.Basics.{ABSENT, at}
 use Rattle.rules.specs.Bounds.{nameOk}
@@ -31,7 +31,7 @@ module _ (n : ℕ) (parent : List ℕ) (small : n ≤ maxUnits) (ok : every (nam
       go (inr q) = inr (eqb-true x ABSENT q)
 
   parent-go : (i : ℕ) → 0 < n → Dec (i < length parent) → (at parent i < n) ⊎ (at parent i ≡ ABSENT)
-  parent-go i some (yes h) = named (at parent i) (every-at (nameOk n) parent i ok h)
+  parent-go i some (yes h) = named (at parent i) (every-at (nameOk n) parent i 0 ok h)
   parent-go i some (no h) = inl (rw (List·getD-eq-default parent 0 {n = i} (omega arith)) some)
 
   parent-named : (i : ℕ) → 0 < n → (at parent i < n) ⊎ (at parent i ≡ ABSENT)
@@ -73,7 +73,7 @@ module _ (n : ℕ) (parent : List ℕ) (small : n ≤ maxUnits) (ok : every (nam
 
   -- the parent of v is its tree neighbour, and v its parent's
   up : (v p : ℕ) → at parent v ≡ p → treeNeighbor parent v p ≡ true
-  up v p e = rw (eq-eqb (at parent v) p e) (or-all (eqb (at parent p) v))
+  up v p e = rw (eq-eqb (at parent v) p e) (or-true (eqb (at parent p) v))
 
   down : (v p : ℕ) → at parent v ≡ p → treeNeighbor parent p v ≡ true
   down v p e = rw (eq-eqb (at parent v) p e)

@@ -17,7 +17,7 @@ use Rattle.rules.specs.Basics.{ABSENT, at}
 use Rattle.rules.specs.Tree.{visitedBefore, candidate, chosenParent, visits}
 
 -- link j joins v and w
-abbrev pub Joins : List ℕ → ℕ → ℕ → ℕ → Type 0
+abbrev Joins : List ℕ → ℕ → ℕ → ℕ → Type 0
 Joins ends j v w = ((endA ends j ≡ v) × (endB ends j ≡ w)) ⊎ ((endA ends j ≡ w) × (endB ends j ≡ v))
 
 -- c is a neighbour of v one nearer, or absent where v has none

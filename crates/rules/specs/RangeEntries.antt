@@ -81,7 +81,7 @@ even-multiple i x e = eqb-true (x % 2 ^ suc i) 0 (not-false (eqb (x % 2 ^ suc i)
 pub odd-remainder : (i x : ℕ) → odd i x ≡ true → x % 2 ^ suc i ≡ 0 → ⊥
 odd-remainder i x e = eqb-false (x % 2 ^ suc i) 0 (not-true (eqb (x % 2 ^ suc i) 0) e)
 
-pub remainder-even : (i x : ℕ) → x % 2 ^ suc i ≡ 0 → odd i x ≡ false
+remainder-even : (i x : ℕ) → x % 2 ^ suc i ≡ 0 → odd i x ≡ false
 remainder-even i x e = rw (eq-eqb (x % 2 ^ suc i) 0 e)
 
 -- where little has met big neither moves

@@ -1,5 +1,5 @@
 -- Stage 7 as code makes it: local values by one pass over the links, places by buckets, and a round's moves by the segments' length.
-use mathlib.Core.Path.{_≡_, refl, sym}
+use mathlib.Core.Path.{_≡_, refl}
 use mathlib.Core.Bool.{Bool, true, false, cond, _&&_}
 use mathlib.Core.Logic.{_⊎_, inl, inr}
 use mathlib.Core.List.{List}
@@ -12,9 +12,9 @@ use lib.ListN.{length, getD}
 use borrow.Author.Tests.{leb-true, eq-eqb}
 use Rattle.lists.specs.Tests.{and-right}
 use Rattle.lists.specs.Tables.{over, over-cong, getD-over}
-use Rattle.lists.specs.FoldLaws.{least-found}
-use Rattle.lists.specs.Rounds.{over-self}
-use Rattle.lists.specs.Scatter.{opOf, fold-start}
+use Rattle.lists.specs.LeastLaws.{least-found}
+use Rattle.lists.specs.Rounds.{over-same}
+use Rattle.lists.specs.Scatter.{opOf, fold-again}
 use Rattle.table.specs.Table.{maxUnits, endA, endB}
 use Rattle.rules.specs.Basics.{ABSENT, at, offTree}
 use Rattle.rules.specs.Buckets.{BUCKETS}
@@ -31,7 +31,7 @@ localTable g j ends parent pre = over maxUnits (Range.localOf (opOf g) j ends pa
 module _ (g : Bool) (ends parent pre : List ℕ) where
   pub local-none : pre ≡ localTable g 0 ends parent pre
   unfolding localTable Range.localOf
-  local-none = sym (over-self 0 maxUnits pre)
+  local-none = over-same 0 maxUnits _ pre (λ (v : ℕ) (l : v < maxUnits). refl)
 
   pub local-more : (j : ℕ) (t new : List ℕ) → t ≡ localTable g j ends parent pre
       → new ≡ cond (offTree parent (endA ends j) (endB ends j)) (hears g maxUnits pre (endA ends j) (endB ends j) t) t
@@ -41,7 +41,7 @@ module _ (g : Bool) (ends parent pre : List ℕ) where
       rw (put, was, add-one j)
       (hears-over-if (offTree parent (endA ends j) (endB ends j)) g maxUnits pre (endA ends j) (endB ends j)
       (Range.localOf (opOf g) j ends parent pre) pre
-      (λ (v : ℕ). fold-start g j (Range.placeHeard ends parent pre v) (at pre v)))
+      (λ (v : ℕ). fold-again g j (Range.placeHeard ends parent pre v) (at pre v)))
 
   pub local-all : (j m : ℕ) (t : List ℕ) → length pre ≡ maxUnits → t ≡ localTable g j ends parent pre → j ≤ m → m ≤ j
       → (v : ℕ) → v < maxUnits → getD t v 0 ≡ Range.localOf (opOf g) m ends parent pre v

@@ -1,5 +1,5 @@
 -- Stages 4 and 6, what a round of a ranking leaves at each object.
-use mathlib.Core.Path.{_≡_, _∙_}
+use mathlib.Core.Path.{_≡_, sym, _∙_}
 use mathlib.Core.Bool.{true, false}
 use mathlib.Core.List.{List}
 use Prim.Native.Nat.{ℕ, _+_, _≤_, _<_}
@@ -7,7 +7,7 @@ use native.Mathlib.Omega.{arith}
 use lib.ListN.{length}
 use borrow.Author.Tests.{eq-eqb, ne-eqb}
 use Rattle.lists.specs.Tables.{length-over, getD-over}
-use Rattle.lists.specs.CountLaws.{over-same}
+use Rattle.lists.specs.Rounds.{over-same}
 use Rattle.rules.specs.Basics.{ABSENT, at, bounded}
 use Rattle.rules.specs.Ranking.{asks, sumRound, jumpRound}
 
@@ -43,11 +43,7 @@ pub sum-taken : (k : ℕ) (jump sum : List ℕ) (a : ℕ) → a < k → k ≤ le
 unfolding sumRound
 sum-taken k jump sum a l h e = getD-over k _ sum a 0 l (omega arith) ∙ rw (asking jump a e)
 
--- where no object has a predecessor a round changes nothing
-pub jumps-still : (k : ℕ) (jump : List ℕ) → ((a : ℕ) → a < k → at jump a ≡ ABSENT) → jumpRound k jump ≡ jump
-unfolding jumpRound
-jumps-still k jump none = over-same k _ jump 0 (λ (a : ℕ) (l : a < k). rw (silent jump a (none a l)))
-
+-- where no object has a predecessor a round changes no sum
 pub sums-still : (k : ℕ) (jump sum : List ℕ) → ((a : ℕ) → a < k → at jump a ≡ ABSENT) → sumRound k jump sum ≡ sum
 unfolding sumRound
-sums-still k jump sum none = over-same k _ sum 0 (λ (a : ℕ) (l : a < k). rw (silent jump a (none a l)))
+sums-still k jump sum none = sym (over-same 0 k _ sum (λ (a : ℕ) (l : a < k). rw (silent jump a (none a l))))

@@ -1,23 +1,25 @@
 -- A round leaves every entry within its bounds: for each rule, from the bounds of the tables that it reads.
 use mathlib.Core.Path.{_≡_, refl}
-use mathlib.Core.Bool.{Bool, true, false, cond, not, _&&_, _||_}
+use mathlib.Core.Bool.{Bool, true, false, cond, not, _&&_}
 use mathlib.Core.Logic.{_⊎_, inl, inr}
 use mathlib.Core.List.{List}
-use Prim.Native.Nat.{ℕ, suc, _+_, _*_, _-_, _/_, _%_, _^_, _≤_, _<_, min}
+use Prim.Native.Nat.{ℕ, _+_, _*_, _-_, _/_, _^_, _≤_, _<_, min}
 use native.Mathlib.Omega.{arith}
 use lib.Dec.{eqb, leb, ltb}
-use borrow.Author.Tests.{eqb-false, eqb-true, eq-eqb}
+use borrow.Author.Tests.{eqb-false, eq-eqb}
 use Rattle.lists.specs.All.{All, all-at, all-over, cond-keeps}
-use Rattle.lists.specs.Folds.{fold, least, count}
-use Rattle.lists.specs.LeastLaws.{least-le, count-le}
+use Rattle.lists.specs.Folds.{least, count}
+use Rattle.lists.specs.LeastLaws.{least-le}
+use Rattle.lists.specs.Counts.{count-le}
 use Rattle.lists.specs.Tables.{over}
 use Rattle.lists.specs.Tests.{either, or-left, or-right, cond-true, cond-false}
 use Rattle.table.specs.Table.{endA, endB}
 use Rattle.rules.specs.Basics.{ABSENT, MAX-NUMBER, at, bounded, isRoot, heard, offTree}
-use Rattle.rules.specs.BoundLaws.{Names, Number, Distance, names-at, number-at, bounded-number, Picks, min-picks, picks-keep, fold-picks}
+use Rattle.rules.specs.BoundLaws.{Names, Number, Distance, names-at, number-at, bounded-number}
+use Rattle.lists.specs.FoldLaws.{Picks, min-picks, picks-keep, fold-picks}
 use Rattle.rules.specs.Components.{leastHeard, colorSaid, colorRound}
 use Rattle.rules.specs.Tree.{visitedBefore, candidate, chosenParent, visits, parentRound, distRound}
-use Rattle.rules.specs.Tour.{arcUnit, isInto, isArc, treeNeighbor, leastNeighbor, greaterNeighbor, neighborAfter, arcFrom, arcAfter, follower, isStart, predecessor, nextRound, predRound, firstSums, firstJumps}
+use Rattle.rules.specs.Tour.{arcUnit, isInto, isArc, treeNeighbor, leastNeighbor, greaterNeighbor, neighborAfter, arcAfter, follower, isStart, predecessor, nextRound, predRound, firstSums, firstJumps}
 use Rattle.rules.specs.Ranking.{asks, sumRound, jumpRound}
 use Rattle.rules.specs.Order.{reverseArc, forwardRound, descendants, ndRound, secondSums, secondJumps, placeOf, preRound}
 use Rattle.rules.specs.Range.{placeHeard, localOf, unitAt, localAt, endPlace, globalFirst, rangeFirst, littleFirst, bigFirst, odd, movesLittle, movesBig, segment, segmentBefore, withLittle, withBig, rangeLater, littleLater, bigLater, globalLater}
@@ -133,7 +135,7 @@ next-names n parent next small p w =
     all-over (Names (2 * n)) (2 * n) (follower n parent) next (λ (a : ℕ) (l : a < 2 * n). follower-names n parent a small p l) w
 
 -- predecessors, in the tour and as the first ranking's working ones
-pub predecessor-names : (n : ℕ) (parent next table : List ℕ) → All (Names (2 * n)) table
+predecessor-names : (n : ℕ) (parent next table : List ℕ) → All (Names (2 * n)) table
     → All (Names (2 * n)) (over (2 * n) (predecessor n parent next) table)
 unfolding predecessor
 predecessor-names n parent next table w =
@@ -152,7 +154,7 @@ unfolding firstJumps
 first-jump-names n parent next jump w = predecessor-names n parent next jump w
 
 -- a table of marks, 1 or 0
-pub mark-numbers : (n : ℕ) (p : ℕ → Bool) (table : List ℕ) → All Number table → All Number (over n (λ (i : ℕ). cond (p i) 1 0) table)
+mark-numbers : (n : ℕ) (p : ℕ → Bool) (table : List ℕ) → All Number table → All Number (over n (λ (i : ℕ). cond (p i) 1 0) table)
 mark-numbers n p table w =
     all-over Number n (λ (i : ℕ). cond (p i) 1 0) table (λ (i : ℕ) (l : i < n). cond-keeps Number (p i) 1 0 (omega arith) (omega arith)) w
 

@@ -1,6 +1,6 @@
 -- Stage 3 as code makes it: both arcs of a unit in one turn, predecessors and starts by buckets.
 use mathlib.Core.Path.{_≡_, refl, sym, ap, _∙_}
-use mathlib.Core.Bool.{Bool, true, false, not, cond, _&&_}
+use mathlib.Core.Bool.{Bool, true, false, not, cond, _&&_, and-true, or-false}
 use mathlib.Core.List.{List}
 use Prim.Native.Nat.{ℕ, _+_, _*_, _/_, _%_, _≤_, _<_, min}
 use native.Mathlib.Omega.{arith}
@@ -8,17 +8,12 @@ use lib.Dec.{eqb}
 use lib.ListN.{getD}
 use borrow.Author.Tests.{eqb-true, eq-eqb, ne-eqb}
 use Rattle.lists.specs.Tables.{over}
-use Rattle.lists.specs.Bools.{or-none}
 use Rattle.lists.specs.Folds.{least}
 use Rattle.lists.specs.FoldLaws.{fold-cong}
 use Rattle.rules.specs.Basics.{ABSENT, at, isRoot}
 use Rattle.rules.specs.Buckets.{BUCKETS, lookup, lookup-right}
 use Rattle.rules.specs.FirstLaws.{firstAt, first-clamp}
 use Rattle.rules.specs.Tour
-
-and-all : (b : Bool) → (b && true) ≡ b
-and-all true = refl
-and-all false = refl
 
 -- ---- the two arcs of v
 
@@ -68,9 +63,9 @@ root-one : (n : ℕ) (parent : List ℕ) (p w : ℕ) → n ≤ ABSENT → at par
     → cond (Tour.treeNeighbor parent p w) w ABSENT ≡ cond (eqb (at parent w) p) w ABSENT
 root-one n parent p w small root h =
     let ne : at parent p ≡ w → ⊥ = λ q. omega (arith, q, root) in
-    rw (ne-eqb (at parent p) w ne, or-none (eqb (at parent w) p))
+    rw (ne-eqb (at parent p) w ne, or-false (eqb (at parent w) p))
 
-pub root-least : (n : ℕ) (parent : List ℕ) (p : ℕ) → n ≤ ABSENT → at parent p ≡ ABSENT → Tour.leastNeighbor n parent p ≡ firstAt n parent p
+root-least : (n : ℕ) (parent : List ℕ) (p : ℕ) → n ≤ ABSENT → at parent p ≡ ABSENT → Tour.leastNeighbor n parent p ≡ firstAt n parent p
 unfolding Tour.leastNeighbor firstAt
 root-least n parent p small root =
     fold-cong min n (λ (w : ℕ). cond (Tour.treeNeighbor parent p w) w ABSENT) (λ (w : ℕ). cond (eqb (at parent w) p) w ABSENT) ABSENT
@@ -110,4 +105,4 @@ module _ (n : ℕ) (parent next child first : List ℕ) (lost : ℕ) (small : n 
 
   pub pred-out : (v : ℕ) → 2 * v + 1 < BUCKETS → predOut parent first v ≡ Tour.predecessor n parent next (2 * v + 1)
   unfolding Tour.predecessor Tour.isStart
-  pred-out v h = rw (unit-out v, odd-out v, first-same (2 * v + 1) h) (ap (λ (b : Bool). cond b (least (2 * n) (λ (b : ℕ). cond (eqb (at next b) (2 * v + 1)) b ABSENT) ABSENT) ABSENT) (sym (and-all (not (isRoot parent v)))))
+  pred-out v h = rw (unit-out v, odd-out v, first-same (2 * v + 1) h) (ap (λ (b : Bool). cond b (least (2 * n) (λ (b : ℕ). cond (eqb (at next b) (2 * v + 1)) b ABSENT) ABSENT) ABSENT) (sym (and-true (not (isRoot parent v)))))

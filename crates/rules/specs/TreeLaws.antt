@@ -12,8 +12,8 @@ use lib.ListN.{length, getD, List·getD-eq-default}
 use borrow.Author.Tests.{eq-eqb, ne-eqb}
 use Rattle.lists.specs.Tables.{over, getD-over, over-cong}
 use Rattle.lists.specs.Folds.{some}
-use Rattle.lists.specs.Rounds.{over-ext, over-same}
-use Rattle.lists.specs.Scatter.{takesIn, pair-over, fold-start}
+use Rattle.lists.specs.Rounds.{over-same, over-cong-in}
+use Rattle.lists.specs.Scatter.{takesIn, pair-over, fold-again}
 use Rattle.table.specs.Table.{maxUnits, endA, endB}
 use Rattle.rules.specs.Basics.{ABSENT, at}
 use Rattle.rules.specs.Tree.{visitedBefore, candidate, chosenParent, visits, parentRound, distRound, treeEnds}
@@ -48,9 +48,7 @@ module _ (made : ℕ) (ends dist : List ℕ) where
       → cand ≡ chosenTable 0 made ends dist cand
   unfolding chosenParent chosenTable
   chosen-none cand blank =
-      over-ext 0 maxUnits (chosenParent 0 made ends dist) cand cand refl
-      (λ (i : ℕ) (h : i < maxUnits) (l : i < length cand). blank i h)
-      (λ (i : ℕ) (h : maxUnits ≤ i) (l : i < length cand). refl)
+      over-same 0 maxUnits (chosenParent 0 made ends dist) cand blank
 
   -- one link more
   pub chosen-more : (j : ℕ) (old t new : List ℕ) → t ≡ chosenTable j made ends dist old
@@ -62,7 +60,7 @@ module _ (made : ℕ) (ends dist : List ℕ) where
       rw (put, was, add-one j)
       (pair-over false maxUnits (chosenParent j made ends dist) (λ (v : ℕ). ABSENT) old a b (offered made dist b) (offered made dist a)
       (λ (e : a ≡ b). ap (offered made dist) (sym e))
-      (λ (v : ℕ). fold-start false j (candidate made ends dist v) ABSENT)
+      (λ (v : ℕ). fold-again false j (candidate made ends dist v) ABSENT)
       ∙ over-cong maxUnits
       (λ (v : ℕ). min (chosenParent j made ends dist v) (cond (eqb a v) (offered made dist b) (cond (eqb b v) (offered made dist a) ABSENT)))
       (λ (v : ℕ). min (chosenParent j made ends dist v) (candidate made ends dist v j)) old
@@ -104,7 +102,7 @@ module _ (m made : ℕ) (ends color dist cand : List ℕ) (full : length dist �
       → over n (parentBy made color dist cand parent) parent ≡ parentRound n m made ends color dist parent
   unfolding parentRound
   parent-round n parent small =
-      over-same 0 n (parentBy made color dist cand parent)
+      over-cong-in 0 n (parentBy made color dist cand parent)
       (λ (v : ℕ). cond (visits m made ends color dist v) (cond (eqb made 0) ABSENT (chosenParent m made ends dist v)) (at parent v)) parent
       (λ (v : ℕ) (h : v < n) (l : v < length parent). rw (visits-same v, chosen v (omega arith)))
 

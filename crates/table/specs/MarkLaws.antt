@@ -1,6 +1,6 @@
 -- The search by marks finds exactly the repeated links, where every end is below 256 and the marks start blank.
 use mathlib.Core.Path.{_≡_, refl, sym, ap, _∙_}
-use mathlib.Core.Bool.{Bool, true, false, not, _||_}
+use mathlib.Core.Bool.{Bool, true, false, not, _||_, or-false, or-true, or-assoc}
 use mathlib.Core.Logic.{_⊎_, inl, inr}
 use mathlib.Core.List.{List, [], _∷_}
 use Prim.Native.Nat.{ℕ, zero, suc, _+_, _*_, _/_, _%_, _^_, _≤_, _<_}
@@ -12,8 +12,7 @@ use lib.Dec.{eqb, leb}
 use lib.ListN.{length, getD, drop, replicate, length-drop, length-set, length-replicate}
 use lib.Seq.{getD-set-same, getD-set-other}
 use borrow.Author.Tests.{leb-false}
-use Rattle.lists.specs.Tests.{either, not-both}
-use Rattle.lists.specs.Bools.{or-false-left, or-false-right, or-none, or-all, or-assoc, or-swap}
+use Rattle.lists.specs.Tests.{either, not-both, or-false-left, or-false-right, or-swap}
 use Rattle.lists.specs.Rests.{rest-two}
 use Rattle.table.specs.BitLaws.{bit, set-same, set-other}
 use Rattle.table.specs.Table.{endMissing, sameEnds, joinedIn, repeatedLink}
@@ -116,11 +115,11 @@ module _ (m : List ℕ) (full : length m ≡ 8192) (a b : ℕ) (ha : a < 256) (h
           → marked (mark m (pairAt a b)) (pairAt c d) ≡ (marked m (pairAt c d) || sameEnds a b c d)
       go (inl e) =
           let q : pairAt c d ≡ pairAt a b = sym (place-same a b c d (sameEnds-exact a b c d .0 e)) in
-          rw (e, or-all, q) (mark-same m full (pairAt a b) small)
+          rw (e, or-true, q) (mark-same m full (pairAt a b) small)
       go (inr e) =
           let n : pairAt c d ≡ pairAt a b → ⊥ =
           λ q. not-both (sameEnds a b c d) (sameEnds-exact a b c d .1 (same-place a b c d ha hb hc hd (sym q))) e in
-          rw (e, or-none) (mark-other m full (pairAt a b) small (pairAt c d) n)
+          rw (e, or-false) (mark-other m full (pairAt a b) small (pairAt c d) n)
 
   -- a table after the mark: some link was marked before, or joins the same two units
   mark-all : (t : List ℕ) → endMissing 256 t ≡ false → markedIn (mark m (pairAt a b)) t ≡ (markedIn m t || joinedIn a b t)

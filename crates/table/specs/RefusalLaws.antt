@@ -74,7 +74,7 @@ passed-test false n m h e = (refl, e)
 -- ---- tests after others
 
 -- no test has the number 0
-abbrev pub Counted : List (ℕ × Bool) → Type 0
+abbrev Counted : List (ℕ × Bool) → Type 0
 Counted [] = Unit
 Counted (t ∷ ts) = (t .0 ≡ 0 → ⊥) × Counted ts
 

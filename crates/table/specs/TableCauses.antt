@@ -18,26 +18,26 @@ use Rattle.table.specs.Table.{maxUnits, maxLinks, linkCount, endA, endB,
 
 -- ---- the causes
 
-abbrev pub BadUnitCount : ℕ → Type 0
+abbrev BadUnitCount : ℕ → Type 0
 BadUnitCount n = (n ≡ 0) ⊎ (maxUnits < n)
 
-abbrev pub OddWords : List ℕ → Type 0
+abbrev OddWords : List ℕ → Type 0
 OddWords t = (k : ℕ) × (length t ≡ 2 * k + 1)
 
-abbrev pub TooManyLinks : List ℕ → Type 0
+abbrev TooManyLinks : List ℕ → Type 0
 TooManyLinks t = maxLinks < linkCount t
 
-abbrev pub EndMissing : ℕ → List ℕ → Type 0
+abbrev EndMissing : ℕ → List ℕ → Type 0
 EndMissing n t = (i : ℕ) × (i < length t) × (n ≤ getD t i 0)
 
-abbrev pub EqualEnds : List ℕ → Type 0
+abbrev EqualEnds : List ℕ → Type 0
 EqualEnds t = (j : ℕ) × (j < linkCount t) × (endA t j ≡ endB t j)
 
 -- the links (a, b) and (c, d) join the same two units, in either order
 abbrev pub SameEnds : ℕ → ℕ → ℕ → ℕ → Type 0
 SameEnds a b c d = ((a ≡ c) × (b ≡ d)) ⊎ ((a ≡ d) × (b ≡ c))
 
-abbrev pub RepeatedLink : List ℕ → Type 0
+abbrev RepeatedLink : List ℕ → Type 0
 RepeatedLink t =
     (j : ℕ) × (k : ℕ) × (j ≡ k → ⊥) × (j < linkCount t) × (k < linkCount t) × SameEnds (endA t j) (endB t j) (endA t k) (endB t k)
 
@@ -134,7 +134,7 @@ SameEnds-sym a b c d (inl p) = inl (sym (p .0), sym (p .1))
 SameEnds-sym a b c d (inr p) = inr (sym (p .1), sym (p .0))
 
 -- some link of the table joins a and b
-abbrev pub JoinedIn : ℕ → ℕ → List ℕ → Type 0
+abbrev JoinedIn : ℕ → ℕ → List ℕ → Type 0
 JoinedIn a b t = (k : ℕ) × (k < linkCount t) × SameEnds a b (endA t k) (endB t k)
 
 joined-forth : (a b : ℕ) (t : List ℕ) → joinedIn a b t ≡ true → JoinedIn a b t

@@ -1,6 +1,6 @@
 -- The tests of a table from a place on, as a loop along the table meets them.
 use mathlib.Core.Path.{_≡_, refl, sym}
-use mathlib.Core.Bool.{Bool, true, false, _||_}
+use mathlib.Core.Bool.{Bool, true, false, _||_, or-true, or-assoc}
 use mathlib.Core.Logic.{_⊎_, inl, inr}
 use mathlib.Core.List.{List, [], _∷_}
 use Prim.Native.Nat.{ℕ, suc, _+_, _*_, _≤_, _<_}
@@ -9,7 +9,7 @@ use lib.Dec.{leb, eqb}
 use lib.ListN.{length, getD, drop, drop-of-length-le, length-drop}
 use borrow.Author.Tests.{lt-leb, leb-false, lt-ltb, le-ltb, eq-eqb, ne-eqb}
 use Rattle.lists.specs.Rests.{rest-one, rest-two}
-use Rattle.lists.specs.Bools.{or-all, or-assoc, or-false-left, or-false-right}
+use Rattle.lists.specs.Tests.{or-false-left, or-false-right}
 use Rattle.table.specs.Table.{maxUnits, endA, endB, badUnitCount, oddWords, tooManyLinks, endMissing, equalEnds, repeatedLink, tableRefusal}
 
 -- ---- a link more at the front
@@ -54,7 +54,7 @@ equalEnds-end t i h = equalEnds-short (drop i t) (omega (arith, length-drop i t)
 
 pub unitCount-bad : (n : ℕ) → (n ≡ 0) ⊎ (maxUnits < n) → badUnitCount n ≡ true
 unitCount-bad n (inl e) = rw (eq-eqb n 0 e)
-unitCount-bad n (inr l) = rw (lt-ltb maxUnits n l) (or-all (eqb n 0))
+unitCount-bad n (inr l) = rw (lt-ltb maxUnits n l) (or-true (eqb n 0))
 
 pub unitCount-good : (n : ℕ) → (n ≡ 0 → ⊥) → n ≤ maxUnits → badUnitCount n ≡ false
 unitCount-good n z l = rw (ne-eqb n 0 z, le-ltb maxUnits n l)

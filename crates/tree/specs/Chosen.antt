@@ -7,10 +7,9 @@ use Prim.Native.Nat.{ℕ, _+_, _<_, min}
 use native.Mathlib.Numerals.{add-one}
 use native.Mathlib.Omega.{arith}
 use lib.Dec.{eqb}
-use Rattle.lists.specs.Bools.{or-false-left, or-false-right}
 use Rattle.lists.specs.LeastLaws.{least-start}
 use Rattle.lists.specs.Tables.{over-cong}
-use Rattle.lists.specs.Tests.{either}
+use Rattle.lists.specs.Tests.{either, or-false-left, or-false-right}
 use Rattle.table.specs.Table.{maxUnits, endA, endB}
 use Rattle.rules.specs.Basics.{ABSENT}
 use Rattle.rules.specs.Tree.{visitedBefore, candidate, chosenParent}

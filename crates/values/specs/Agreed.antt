@@ -1,6 +1,6 @@
 -- The test whether two lists agree, one entry more at a time, and the entries that count.
-use mathlib.Core.Path.{_≡_, refl, ap}
-use mathlib.Core.Bool.{Bool, true, false, _&&_}
+use mathlib.Core.Path.{_≡_, sym, ap}
+use mathlib.Core.Bool.{Bool, _&&_, and-true, and-assoc}
 use mathlib.Core.List.{List, [], _∷_}
 use Prim.Native.Nat.{ℕ, zero, suc, _+_, _<_, min}
 use native.Mathlib.Nat.{le-of-suc-le-suc, not-suc-le-zero}
@@ -10,21 +10,13 @@ use lib.Dec.{eqb}
 use lib.ListN.{length, getD}
 use Rattle.lists.specs.Folds.{agree}
 
-and-all : (b : Bool) → (b && true) ≡ b
-and-all true = refl
-and-all false = refl
-
-and-assoc : (a b c : Bool) → (a && (b && c)) ≡ ((a && b) && c)
-and-assoc true b c = refl
-and-assoc false b c = refl
-
 agree-suc : (i : ℕ) (s t : List ℕ) → i < length s → i < length t → agree (suc i) s t ≡ (agree i s t && eqb (getD s i 0) (getD t i 0))
 agree-suc i [] t h l = absurd (not-suc-le-zero h)
 agree-suc i (x ∷ s) [] h l = absurd (not-suc-le-zero l)
-agree-suc zero (x ∷ s) (y ∷ t) h l = and-all (eqb x y)
+agree-suc zero (x ∷ s) (y ∷ t) h l = and-true (eqb x y)
 agree-suc (suc i) (x ∷ s) (y ∷ t) h l =
     rw (agree-suc i s t (le-of-suc-le-suc h) (le-of-suc-le-suc l))
-    (and-assoc (eqb x y) (agree i s t) (eqb (getD s i 0) (getD t i 0)))
+    (sym (and-assoc (eqb x y) (agree i s t) (eqb (getD s i 0) (getD t i 0))))
 
 -- a turn of a loop along both
 pub agree-more : (i : ℕ) (s t : List ℕ) (same new : Bool) → i < length s → i < length t → same ≡ agree i s t

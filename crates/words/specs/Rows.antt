@@ -1,10 +1,11 @@
 -- Tables that stand in a row are judged together: the entries of a state, by its words.
 use mathlib.Core.Path.{_≡_, refl, sym, ap, _∙_}
-use mathlib.Core.Bool.{Bool, _&&_, and-true, and-assoc}
+use mathlib.Core.Bool.{Bool, _&&_, and-true}
 use mathlib.Core.List.{List, [], _∷_, _++_}
 use Prim.Native.Nat.{ℕ, _+_, _*_}
 use lib.ListN.{getD, take, drop}
 use lib.Seq.{take-add, drop-drop}
+use Rattle.lists.specs.All.{every-append}
 use Rattle.lists.specs.Folds.{every}
 use Rattle.rules.specs.Bounds.{nameOk, numberOk, distOk}
 use Rattle.machine.specs.WellFormed.{entriesOk}
@@ -13,10 +14,6 @@ use Rattle.words.specs.Layout.{extent, place, part, field, stateOf}
 two-parts : (at n m : ℕ) (ws : List ℕ) → part at (n + m) ws ≡ part at n ws ++ part (at + n) m ws
 unfolding part
 two-parts at n m ws = take-add n m (drop at ws) ∙ ap (λ (l : List ℕ). take n (drop at ws) ++ take m l) (drop-drop n at ws)
-
-every-append : {A : Type 0} (p : A → Bool) (s t : List A) → every p (s ++ t) ≡ (every p s && every p t)
-every-append p [] t = refl
-every-append p (x ∷ s) t = rw (every-append p s t) (sym (and-assoc (p x) (every p s) (every p t)))
 
 -- tables in a row, from a place on
 abbrev row : ℕ → List ℕ → List ℕ → List (List ℕ)

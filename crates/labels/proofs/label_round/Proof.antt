@@ -3,7 +3,7 @@ use mathlib.Core.Path.{_≡_, refl, _∙_}
 use Prim.Native.Nat.{_≤_, _-_}
 use lib.ListN.{length}
 use Rattle.lists.specs.Tables.{over}
-use Rattle.lists.specs.Rounds.{over-more, over-all}
+use Rattle.lists.specs.Rounds.{over-more, over-all, over-least}
 use Rattle.rules.specs.LabelsLaws.{labelBy, label-round}
 use borrow.Author.Needs.{needs}
 use Rattle.labels.proofs.label_round.Statement.{statement}

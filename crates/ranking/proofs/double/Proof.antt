@@ -4,8 +4,7 @@ use Prim.Native.Nat.{_≤_, _-_, min}
 use native.Mathlib.Omega.{arith}
 use lib.ListN.{length, getD}
 use Rattle.lists.specs.Tables.{over}
-use Rattle.lists.specs.Rounds.{over-more}
-use Rattle.lists.specs.Limits.{over-least}
+use Rattle.lists.specs.Rounds.{over-more, over-least}
 use Rattle.rules.specs.Ranking.{jumpAfter, jumpRound, sumAfter, sumRound}
 use Rattle.ranking.specs.Asking.{jump-taken, sum-taken, jump-past, sum-past, jump-stays, sum-stays}
 use borrow.Author.Needs.{needs}

@@ -1,9 +1,8 @@
 -- What the ends passed say, or the test from `i` on, is the test of the whole table.
 use mathlib.Core.Path.{_≡_, refl, sym, ap, _∙_}
-use mathlib.Core.Bool.{_||_}
+use mathlib.Core.Bool.{_||_, or-false}
 use Prim.Native.Nat.{_≤_, _-_}
 use lib.ListN.{length, drop}
-use Rattle.lists.specs.Bools.{or-none}
 use Rattle.table.specs.Table.{endMissing}
 use Rattle.table.specs.TableLaws.{endMissing-next, endMissing-end}
 use borrow.Author.Needs.{needs}
@@ -47,7 +46,7 @@ returns c =
     sym
     (s .loop .inv .1
     ∙ ap (λ (x : _). s .loop .missing || x) (endMissing-end (a .units) (a .table .now) (s .loop .i) (c .loop-test .left))
-    ∙ or-none (s .loop .missing))
+    ∙ or-false (s .loop .missing))
 
 pub end-missing-spec : {M : Type 1} → statement M
 end-missing-spec =

@@ -1,9 +1,8 @@
 -- What the links passed say, or the test from `i` on, is the test of the whole table.
 use mathlib.Core.Path.{_≡_, refl, sym, ap, _∙_}
-use mathlib.Core.Bool.{_||_}
+use mathlib.Core.Bool.{_||_, or-false}
 use Prim.Native.Nat.{_≤_, _-_}
 use lib.ListN.{length, drop}
-use Rattle.lists.specs.Bools.{or-none}
 use Rattle.table.specs.Table.{equalEnds}
 use Rattle.table.specs.TableLaws.{equalEnds-next, equalEnds-end}
 use borrow.Author.Needs.{needs}
@@ -59,7 +58,7 @@ returns c =
     sym
     (s .loop .inv .1
     ∙ ap (λ (x : _). s .loop .equal || x) (equalEnds-end (a .table .now) (s .loop .i) (c .loop-test .left))
-    ∙ or-none (s .loop .equal))
+    ∙ or-false (s .loop .equal))
 
 pub equal-ends-spec : {M : Type 1} → statement M
 equal-ends-spec =

@@ -6,7 +6,7 @@ use Rattle.table.specs.Table.{maxUnits}
 use Rattle.rules.specs.Basics.{at}
 use Rattle.rules.specs.Range.{littleFirst, bigBegin, bigFirst}
 use Rattle.rules.specs.RangeLaws.{global-first, range-first}
-use Rattle.lists.specs.Limits.{over-least}
+use Rattle.lists.specs.Rounds.{over-least}
 use borrow.Author.Needs.{needs}
 use Rattle.ranges.proofs.range.range_first.Statement.{statement}
 use Rattle.ranges.proofs.range.range_first.Tie as tie
