@@ -2,6 +2,7 @@
 mod answer;
 mod kept;
 mod load;
+mod running;
 mod status;
 mod whole;
 
