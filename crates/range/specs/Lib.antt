@@ -1,0 +1,5 @@
+pub mod Passes
+pub mod Turns
+pub mod Strides
+pub mod Begins
+pub mod Rounds

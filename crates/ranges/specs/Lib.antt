@@ -1,4 +1,0 @@
-pub mod Passes
-pub mod Turns
-pub mod Strides
-pub mod Begins
