@@ -13,7 +13,7 @@ use lib.Dec.{eqb}
 use lib.ListN.{length, getD, set}
 use borrow.Author.Tests.{not-false, eqb-true, eq-eqb, ne-eqb, lt-ltb}
 use Rattle.lists.specs.All.{All, every-exact}
-use Rattle.lists.specs.Bools.{or-false-left, or-false-right}
+use Rattle.lists.specs.Tests.{or-false-left, or-false-right}
 use Rattle.lists.specs.Tests.{either, cond-true, cond-false}
 use Rattle.lists.specs.Tables.{over, over-cong, getD-over, length-over}
 use Rattle.lists.specs.Folds.{least, every}

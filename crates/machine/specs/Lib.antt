@@ -13,6 +13,7 @@ pub mod Run
 pub mod Going
 pub mod StageRun
 pub mod StageSteps
+pub mod Through
 pub mod RunLaws
 pub mod Report
 pub mod ReportLaws

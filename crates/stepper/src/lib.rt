@@ -1,0 +1,2 @@
+// Rounds on the words of a state, stage after stage.
+mod front;
