@@ -8,7 +8,7 @@ ghost use Rattle.frames.specs.Frame.{wordBytes, lineOver};
 ghost use Rattle.frames.specs.Kinds.{LINK};
 ghost use Rattle.files.specs.File.{linkLines, fileOf, fileLength, writeRefusal};
 use frames::digits;
-use frames::front;
+use frames::kinds;
 use frames::line;
 
 // The number of the first cause among 4 to 9, 14; 0 where there is none.
@@ -38,7 +38,7 @@ fn link_line(a: u16, b: u16, out: &mut [u8])
     ensures { λ _. ⌜ now (out .exit) ≡ lineOver (LINK ∷ wordBytes a ++ wordBytes b) (now (out .entry)) ⌝ }
 {
     let body = [
-        front::LINK,
+        kinds::LINK,
         digits::high_byte(a),
         digits::low_byte(a),
         digits::high_byte(b),
@@ -69,7 +69,7 @@ pub(crate) fn lines(units: u16, words: &[u16], out: &mut [u8])
 {
     let links = words.len() / 2;
     let end = 9 + 13 * links;
-    number_line(front::UNITS, units, out);
+    number_line(kinds::UNITS, units, out);
     link_lines(words, &mut out[9..]);
-    number_line(front::END, links as u16, &mut out[end..]);
+    number_line(kinds::END, links as u16, &mut out[end..]);
 }

@@ -1,7 +1,7 @@
 -- Each arm is the kind's row of the table.
 use borrow.Author.Tests.{ne-eqb}
-use Rattle.frames.proofs.front.frame_bytes.Statement.{statement}
-use Rattle.frames.proofs.front.frame_bytes.Tie as tie
+use Rattle.frames.proofs.kinds.frame_bytes.Statement.{statement}
+use Rattle.frames.proofs.kinds.frame_bytes.Tie as tie
 
 returns : tie.Need-returns
 returns c = rw (c .match .keys1)
