@@ -13,9 +13,8 @@ use borrow.Author.Tests.{eq-eqb, ne-eqb}
 use Rattle.lists.specs.Lent.{lent, lent-rest}
 use Rattle.lists.specs.Puts.{put-two}
 use Rattle.frames.specs.Frame.{byteAt, wordAt}
-use Rattle.frames.specs.Kinds.{UNITS, LINK, END, frameBytes, kindFront, fileFront, frontOf}
-use Rattle.frames.specs.FrontLaws.{front-is-frame, front-is-refused}
-use Rattle.frames.specs.declared.kinds.Front.the-variants.{Frame, Refused}
+use Rattle.frames.specs.Kinds.{UNITS, LINK, END, frameBytes, kindFront, fileFront, lineKind}
+use Rattle.frames.specs.FrontLaws.{none-front, some-front}
 use Rattle.files.specs.File.{Line, linesOf, kindOf, numberAt, faultyLine, inOrderAfter, inOrder, linkFrames, statedCount, endsIn}
 use Rattle.files.specs.LineLaws.{none-lines, no-lines, front-says, front-lines, front-kind, front-word, faulty-here, faulty-later, sound-front, frontLine, pastLine}
 use Rattle.files.specs.LineSteps.{frames-more, ends-link, ends-other, after-link, no-order}
@@ -120,7 +119,7 @@ wordAt-drop s n i =
     let e : n + i + 2 ≡ n + (i + 2) = omega arith in
     rw (e, byteAt-drop s n i, byteAt-drop s n (i + 2))
 
-pub kind-at : (s : List ℕ) (at : ℕ) → kindFront (drop at s) ≡ byteAt s at
+kind-at : (s : List ℕ) (at : ℕ) → kindFront (drop at s) ≡ byteAt s at
 kind-at s at = byteAt-drop s at 0 ∙ ap (byteAt s) (add-zero at)
 
 known-long : (kind : ℕ) → (frameBytes kind ≡ 0 → ⊥) → 4 ≤ frameBytes kind
@@ -132,39 +131,46 @@ known-long kind n = go (ℕ-discrete kind UNITS) (ℕ-discrete kind LINK) (ℕ-d
     go (no a) (no b) (yes e) = rw e (omega arith)
     go (no a) (no b) (no c) = absurd (n (rw (ne-eqb kind UNITS a, ne-eqb kind LINK b, ne-eqb kind END c)))
 
--- the line at a place: it is whole, its frame has this kind, and so many bytes
-pub record LineAt (s : List ℕ) (at kind bytes : ℕ) : Type 0 where
+-- where the line at a place ends, by its kind
+abbrev pub pastAt : ℕ → ℕ → ℕ
+pastAt at kind = at + (2 * frameBytes kind + 1)
+
+-- the line at a place is whole, and its frame has this kind
+pub record LineAt (s : List ℕ) (at kind : ℕ) : Type 0 where
   pub front : fileFront (drop at s) ≡ true
   pub known : kindFront (drop at s) ≡ kind
-  pub size : frameBytes (kindFront (drop at s)) ≡ bytes
 
-module _ (s : List ℕ) (at kind bytes : ℕ) (l : LineAt s at kind bytes) where
-  past : pastLine (drop at s) ≡ drop (at + (2 * bytes + 1)) s
-  past = drop-drop (2 * frameBytes (kindFront (drop at s)) + 1) at s ∙ ap (λ (k : ℕ). drop (at + (2 * k + 1)) s) (l .size)
+module _ (s : List ℕ) (at kind : ℕ) (l : LineAt s at kind) where
+  size : frameBytes (kindFront (drop at s)) ≡ frameBytes kind
+  size = ap frameBytes (l .known)
 
-  pub line-fits : at + (2 * bytes + 1) ≤ length s
-  line-fits = omega (arith, l .size, front-says (drop at s) (l .front) .short, length-drop at s)
+  past : pastLine (drop at s) ≡ drop (pastAt at kind) s
+  past = drop-drop (2 * frameBytes (kindFront (drop at s)) + 1) at s ∙ ap (λ (b : ℕ). drop (at + (2 * b + 1)) s) size
 
-  pub line-faults : faultyLine (linesOf (drop at s)) ≡ faultyLine (linesOf (drop (at + (2 * bytes + 1)) s))
+  pub line-fits : pastAt at kind ≤ length s
+  line-fits = omega (arith, size, front-says (drop at s) (l .front) .short, length-drop at s)
+
+  line-faults : faultyLine (linesOf (drop at s)) ≡ faultyLine (linesOf (drop (pastAt at kind) s))
   line-faults = faulty-later (drop at s) (l .front) ∙ ap (λ (r : List ℕ). faultyLine (linesOf r)) past
 
-  pub line-lines : linesOf (drop at s) ≡ frontLine (drop at s) ∷ linesOf (drop (at + (2 * bytes + 1)) s)
+  line-lines : linesOf (drop at s) ≡ frontLine (drop at s) ∷ linesOf (drop (pastAt at kind) s)
   line-lines = front-lines (drop at s) (l .front) ∙ ap (λ (r : List ℕ). frontLine (drop at s) ∷ linesOf r) past
 
-  pub line-kind : kindOf (frontLine (drop at s)) ≡ kind
+  line-kind : kindOf (frontLine (drop at s)) ≡ kind
   line-kind = front-kind (drop at s) (l .front) ∙ l .known
 
-  pub line-word : (i : ℕ) → i + 1 < bytes → numberAt (frontLine (drop at s)) i ≡ wordAt s (at + 2 * i)
-  line-word i h = front-word (drop at s) (l .front) i (omega (arith, l .size)) ∙ wordAt-drop s at (2 * i)
+  line-word : (i : ℕ) → i + 1 < frameBytes kind → numberAt (frontLine (drop at s)) i ≡ wordAt s (at + 2 * i)
+  line-word i h = front-word (drop at s) (l .front) i (omega (arith, size)) ∙ wordAt-drop s at (2 * i)
 
   -- no frame of a file is shorter than one number's
-  pub line-long : 4 ≤ bytes
-  line-long = rw (l .size) at (known-long (kindFront (drop at s)) (front-says (drop at s) (l .front) .body .known))
+  line-long : 4 ≤ frameBytes kind
+  line-long = known-long kind (λ e. front-says (drop at s) (l .front) .body .known (size ∙ e))
 
-pub told-line : (s : List ℕ) (at kind bytes : ℕ) → frontOf (lent at s) ≡ Frame kind bytes → LineAt s at kind bytes
-told-line s at kind bytes e =
-    let f = front-is-frame (drop at s) kind bytes (ap frontOf (sym (lent-rest at s)) ∙ e) in
-    record { front = f .0; known = sym (f .1); size = sym (f .2) }
+pub told-line : (s : List ℕ) (at kind : ℕ) → kind ≡ lineKind (lent at s) → (kind ≡ 0 → ⊥) → LineAt s at kind
+told-line s at kind e n =
+    let k : kind ≡ lineKind (drop at s) = e ∙ ap lineKind (lent-rest at s) in
+    let f = some-front (drop at s) (λ z. n (k ∙ z)) in
+    record { front = f .0; known = f .1 ∙ sym k }
 
 -- ---- the walk that judges
 
@@ -193,33 +199,32 @@ walk-start s =
 
 module _ (s : List ℕ) (at order links last : ℕ) (w : Walked s at order links last) where
   -- a line that is none
-  pub walk-fault : at < length s → frontOf (lent at s) ≡ Refused → faultyLine (linesOf s) ≡ true
+  pub walk-fault : at < length s → lineKind (lent at s) ≡ 0 → faultyLine (linesOf s) ≡ true
   walk-fault h e =
-      w .faults
-      ∙ faulty-here (drop at s) (omega (arith, length-drop at s)) (front-is-refused (drop at s) (ap frontOf (sym (lent-rest at s)) ∙ e))
+      w .faults ∙ faulty-here (drop at s) (omega (arith, length-drop at s)) (none-front (drop at s) (ap lineKind (sym (lent-rest at s)) ∙ e))
 
   -- one line more
-  pub walk-on : (kind bytes one : ℕ) → one ≡ cond (eqb kind LINK) 1 0 → one ≤ 1 → LineAt s at kind bytes
-      → Walked s (at + (2 * bytes + 1)) (nextOrder order kind) (links + one) at
-  walk-on kind bytes one c o l =
-      let rest = linesOf (drop (at + (2 * bytes + 1)) s) in
+  pub walk-on : (kind one : ℕ) → one ≡ cond (eqb kind LINK) 1 0 → one ≤ 1 → LineAt s at kind
+      → Walked s (pastAt at kind) (nextOrder order kind) (links + one) at
+  walk-on kind one c o l =
+      let rest = linesOf (drop (pastAt at kind) s) in
       let first = frontLine (drop at s) in
-      let k : kindOf first ≡ kind = line-kind s at kind bytes l in
-      let lines : linesOf (drop at s) ≡ first ∷ rest = line-lines s at kind bytes l in
+      let k : kindOf first ≡ kind = line-kind s at kind l in
+      let lines : linesOf (drop at s) ≡ first ∷ rest = line-lines s at kind l in
       let more : linkFrames (linesOf (drop at s)) ≡ one + linkFrames rest =
       ap linkFrames lines ∙ frames-more first rest ∙ rw (k, c) in
       record {
-        inside = line-fits s at kind bytes l;
-        faults = w .faults ∙ line-faults s at kind bytes l;
+        inside = line-fits s at kind l;
+        faults = w .faults ∙ line-faults s at kind l;
         kept = w .kept ∙ ap (orderFrom order) lines ∙ order-next order first rest ∙ rw k;
         count = w .count ∙ omega (arith, more);
         stated = λ (some : 0 < length s).
             w .stated some
             ∙ ap (statedFrom (wordAt s (last + 2))) lines
             ∙ stated-next (wordAt s (last + 2)) first rest
-            ∙ ap (λ (x : ℕ). statedFrom x rest) (line-word s at kind bytes l 1 (omega (arith, line-long s at kind bytes l)));
+            ∙ ap (λ (x : ℕ). statedFrom x rest) (line-word s at kind l 1 (omega (arith, line-long s at kind l)));
         few = omega (arith, w .few);
-        long = λ _. omega (arith, line-long s at kind bytes l);
+        long = λ _. omega (arith, line-long s at kind l);
       }
 
   -- past the last line
@@ -276,69 +281,67 @@ module _ (s old words : List ℕ) (at n : ℕ) (f : Filled s old words at n) whe
   fill-front : at < length s → fileFront (drop at s) ≡ true
   fill-front h = sound-front (drop at s) (f .sound) (omega (arith, length-drop at s))
 
-  pub fill-line : at < length s → (kind bytes : ℕ) → kind ≡ byteAt s at → bytes ≡ frameBytes kind → LineAt s at kind bytes
-  fill-line h kind bytes k b =
-      let e : kindFront (drop at s) ≡ kind = kind-at s at ∙ sym k in
-      record { front = fill-front h; known = e; size = ap frameBytes e ∙ sym b }
+  pub fill-line : at < length s → (kind : ℕ) → kind ≡ byteAt s at → LineAt s at kind
+  fill-line h kind k = record { front = fill-front h; known = kind-at s at ∙ sym k }
 
   -- its kind can be read
   pub fill-reads : at < length s → at + 9 ≤ length s
   fill-reads h =
       let k = byteAt s at in
-      let l = fill-line h k (frameBytes k) refl refl in
-      omega (arith, line-fits s at k (frameBytes k) l, line-long s at k (frameBytes k) l)
+      let l = fill-line h k refl in
+      omega (arith, line-fits s at k l, line-long s at k l)
 
-  module _ (kind bytes : ℕ) (l : LineAt s at kind bytes) where
+  module _ (kind : ℕ) (l : LineAt s at kind) where
     rest : List Line
-    rest = linesOf (drop (at + (2 * bytes + 1)) s)
+    rest = linesOf (drop (pastAt at kind) s)
 
     first : Line
     first = frontLine (drop at s)
 
     left-ends : drop n (endsIn (linesOf s)) ≡ endsIn (first ∷ rest)
     unfolding first rest
-    left-ends = f .left ∙ ap endsIn (line-lines s at kind bytes l)
+    left-ends = f .left ∙ ap endsIn (line-lines s at kind l)
 
-    later-sound : faultyLine (linesOf (drop (at + (2 * bytes + 1)) s)) ≡ false
-    later-sound = sym (line-faults s at kind bytes l) ∙ f .sound
+    later-sound : faultyLine (linesOf (drop (pastAt at kind) s)) ≡ false
+    later-sound = sym (line-faults s at kind l) ∙ f .sound
 
-    pub fill-other : (kind ≡ LINK → ⊥) → Filled s old words (at + (2 * bytes + 1)) n
+    pub fill-other : (kind ≡ LINK → ⊥) → Filled s old words (pastAt at kind) n
     unfolding first rest
     fill-other o =
         record {
-          inside = line-fits s at kind bytes l;
+          inside = line-fits s at kind l;
           sound = later-sound;
-          left = left-ends ∙ ends-other first rest (λ e. o (sym (line-kind s at kind bytes l) ∙ e));
+          left = left-ends ∙ ends-other first rest (λ e. o (sym (line-kind s at kind l) ∙ e));
           some = f .some;
           same = f .same;
           laid = f .laid;
         }
 
     module _ (k : kind ≡ LINK) where
-      six : bytes ≡ 6
-      six = sym (l .size) ∙ ap frameBytes (l .known ∙ k)
+      six : frameBytes kind ≡ 6
+      six = ap frameBytes k
 
       pub link-stands : at + 13 ≤ length s
-      link-stands = omega (arith, six, line-fits s at kind bytes l)
+      link-stands = omega (arith, six, line-fits s at kind l)
 
       two-left : drop n (endsIn (linesOf s)) ≡ wordAt s (at + 2) ∷ wordAt s (at + 6) ∷ endsIn rest
       unfolding first rest
       two-left =
           left-ends
-          ∙ ends-link first rest (line-kind s at kind bytes l ∙ k)
-          ∙ rw (line-word s at kind bytes l 1 (omega (arith, six)), line-word s at kind bytes l 3 (omega (arith, six)))
+          ∙ ends-link first rest (line-kind s at kind l ∙ k)
+          ∙ rw (line-word s at kind l 1 (omega (arith, six)), line-word s at kind l 3 (omega (arith, six)))
 
       pub two-more : n + 2 ≤ length (endsIn (linesOf s))
       two-more = omega (arith, ap length two-left, length-drop n (endsIn (linesOf s)))
 
       pub fill-link : (a b : ℕ) → a ≡ wordAt s (at + 2) → b ≡ wordAt s (at + 6) → length (endsIn (linesOf s)) ≤ length old
-          → Filled s old (set (set words n a) (n + 1) b) (at + (2 * bytes + 1)) (n + 2)
+          → Filled s old (set (set words n a) (n + 1) b) (pastAt at kind) (n + 2)
       unfolding rest
       fill-link a b p q fits =
           let ends = endsIn (linesOf s) in
           let more : take (n + 2) ends ≡ take n ends ++ a ∷ b ∷ [] = take-add n 2 ends ∙ rw (two-left, p, q) in
           record {
-            inside = line-fits s at kind bytes l;
+            inside = line-fits s at kind l;
             sound = later-sound;
             left = sym (drop-drop 2 n ends) ∙ rw two-left;
             some = two-more;

@@ -5,14 +5,13 @@ ghost use mathlib.Core.List.{_++_};
 ghost use Prim.Native.Nat.{_+_, _*_, _≤_};
 ghost use lib.Dec.{eqb};
 ghost use lib.ListN.{length, drop};
-ghost use Rattle.frames.specs.Kinds.{LINK};
+ghost use Rattle.frames.specs.Kinds.{LINK, frameBytes};
 ghost use Rattle.files.specs.File.{linesOf, faultyLine, linkFrames, endsIn, readRefusal};
 ghost use Rattle.files.specs.Marks.{Marks};
 ghost use Rattle.files.specs.Walk.{nextOrder};
 use super::lines;
 use super::marks;
 use frames::kinds;
-use frames::kinds::Front;
 
 // How far the order of the frames has come: at the start, past the unit count, past the number of links, or broken.
 const START: u8 = 0;
@@ -47,11 +46,11 @@ fn links_in(kind: u8) -> usize
     if kind == kinds::LINK { 1 } else { 0 }
 }
 
-// The characters of the line of so many bytes.
-fn line_length(bytes: u8) -> usize
-    ensures { λ r. ⌜ r ≡ 2 * bytes + 1 ⌝ }
+// The characters of a line of this kind.
+fn line_length(kind: u8) -> usize
+    ensures { λ r. ⌜ r ≡ 2 * frameBytes kind + 1 ⌝ }
 {
-    2 * (bytes as usize) + 1
+    2 * (kinds::frame_bytes(kind) as usize) + 1
 }
 
 // The number of the first cause among 1, 2, 3, 6, 14; 0 where there is none. The walk goes on past a broken order: a faulty line comes first.
@@ -64,14 +63,14 @@ pub(crate) fn refusal(t: &[u8], file: &[u8], places: usize) -> u8
     let mut links = 0;
     let mut last = 0;
     while at < file.len() {
-        let line = lines::recognise(t, &file[at..]);
-        let Front::Frame { kind, bytes } = line else {
+        let kind = lines::kind(t, &file[at..]);
+        if kind == 0 {
             return 1;
-        };
+        }
         order = next_order(order, kind);
         links += links_in(kind);
         last = at;
-        at += line_length(bytes);
+        at += line_length(kind);
     }
     if order != ENDED {
         return 2;
@@ -98,7 +97,7 @@ pub(crate) fn fill(t: &[u8], file: &[u8], words: &mut [u16]) -> usize
     let mut n = 0;
     while at < file.len() {
         let kind = marks::byte(t, file[at], file[at + 1]);
-        let next = at + line_length(kinds::frame_bytes(kind));
+        let next = at + line_length(kind);
         if kind == kinds::LINK {
             words[n] = marks::word_at(t, file, at + 2);
             words[n + 1] = marks::word_at(t, file, at + 6);

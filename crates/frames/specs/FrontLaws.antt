@@ -1,17 +1,17 @@
--- What recognising a line replies, by its tests, and what a reply says.
+-- The line of a file that characters begin with, by its tests.
 use mathlib.Core.Path.{_≡_, refl, sym, ap, _∙_}
-use mathlib.Core.Bool.{Bool, true, false, cond, _&&_}
-use mathlib.Core.List.{List, [], _∷_}
+use mathlib.Core.Bool.{true, false, _&&_}
+use mathlib.Core.Logic.{_⊎_, inl, inr}
+use mathlib.Core.List.{List}
 use Prim.Native.Nat.{ℕ, _*_, _%_, _≤_, _<_}
 use native.Mathlib.Decide.{ℕ-discrete}
 use native.Mathlib.Omega.{arith}
 use lib.Dec.{eqb}
 use lib.ListN.{length, getD, take, List·getD-eq-default}
 use borrow.Author.Tests.{eq-eqb, ne-eqb}
+use Rattle.lists.specs.Tests.{either}
 use Rattle.frames.specs.Frame.{LF, lineFront, allDigits, sumOf, bytesOf}
-use Rattle.frames.specs.Kinds.{frameBytes, kindFront, fileFront, frontOf, frontNumber, frontValues}
-use Rattle.frames.specs.declared.kinds.Front.{Front}
-use Rattle.frames.specs.declared.kinds.Front.the-variants.{Frame, Refused}
+use Rattle.frames.specs.Kinds.{frameBytes, kindFront, fileFront, lineKind}
 
 -- ---- the tests
 
@@ -42,39 +42,29 @@ front-few s h = go (ℕ-discrete (frameBytes (kindFront s)) 0)
     go (yes e) = front-unknown s (frameBytes (kindFront s)) refl e
     go (no n) = front-short s (frameBytes (kindFront s)) refl n (omega arith)
 
--- ---- the reply, its number and its values
+-- ---- the kind, by the test
 
--- the number is 1 exactly where the characters begin with no line of a file's frame
-abbrev pub Told : List ℕ → Front → Type 0
-Told s r =
-    (r ≡ frontOf s)
-    × ((frontNumber r ≡ cond (fileFront s) 0 1) × (frontValues r ≡ cond (fileFront s) (kindFront s ∷ frameBytes (kindFront s) ∷ []) []))
+pub kind-none : (s : List ℕ) → fileFront s ≡ false → 0 ≡ lineKind s
+unfolding lineKind
+kind-none s e = rw e
 
-pub told-refused : (s : List ℕ) → fileFront s ≡ false → Told s Refused
-unfolding frontOf
-told-refused s e = (rw e, (rw e, rw e))
+pub kind-some : (s : List ℕ) (kind : ℕ) → kind ≡ kindFront s → fileFront s ≡ true → kind ≡ lineKind s
+unfolding lineKind
+kind-some s kind k e = rw (e, k)
 
-pub told-frame : (s : List ℕ) (kind bytes : ℕ) → kind ≡ kindFront s → bytes ≡ frameBytes (kindFront s) → fileFront s ≡ true → Told s (Frame kind bytes)
-unfolding frontOf
-told-frame s kind bytes k b e = (rw (e, k, b), (rw e, rw (e, k, b)))
+-- 0 is no kind of a file
+pub none-front : (s : List ℕ) → lineKind s ≡ 0 → fileFront s ≡ false
+unfolding lineKind
+none-front s e = go (either (fileFront s))
+  where
+    go : (fileFront s ≡ true) ⊎ (fileFront s ≡ false) → fileFront s ≡ false
+    go (inr h) = h
+    go (inl h) = front-unknown s (frameBytes (kindFront s)) refl (ap frameBytes (rw h at e))
 
--- ---- what a reply says
-
-frame-says : (t : Bool) (s : List ℕ) (kind bytes : ℕ) → cond t (Frame (kindFront s) (frameBytes (kindFront s))) Refused ≡ Frame kind bytes
-    → (t ≡ true) × (kind ≡ kindFront s) × (bytes ≡ frameBytes (kindFront s))
-frame-says true s kind bytes e = (refl, cc, cc)
-frame-says false s kind bytes e = absurd (let z : _≡_ {A = ℕ} 0 1 = cc in omega arith)
-
-pub front-is-frame : (s : List ℕ) (kind bytes : ℕ) → frontOf s ≡ Frame kind bytes
-    → (fileFront s ≡ true) × (kind ≡ kindFront s) × (bytes ≡ frameBytes (kindFront s))
-unfolding frontOf
-front-is-frame s kind bytes e = frame-says (fileFront s) s kind bytes e
-
-refused-says : (t : Bool) (f : Front) → (f ≡ Refused → ⊥) → cond t f Refused ≡ Refused → t ≡ false
-refused-says true f n e = absurd (n e)
-refused-says false f n e = refl
-
-pub front-is-refused : (s : List ℕ) → frontOf s ≡ Refused → fileFront s ≡ false
-unfolding frontOf
-front-is-refused s e =
-    refused-says (fileFront s) (Frame (kindFront s) (frameBytes (kindFront s))) (λ q. let z : _≡_ {A = ℕ} 0 1 = cc in omega arith) e
+pub some-front : (s : List ℕ) → (lineKind s ≡ 0 → ⊥) → (fileFront s ≡ true) × (kindFront s ≡ lineKind s)
+unfolding lineKind
+some-front s n = go (either (fileFront s))
+  where
+    go : (fileFront s ≡ true) ⊎ (fileFront s ≡ false) → (fileFront s ≡ true) × (kindFront s ≡ lineKind s)
+    go (inl h) = (h, rw h)
+    go (inr h) = absurd (n (rw h))

@@ -1,11 +1,9 @@
--- The kinds of frames (document 01), and what recognising a line of a file replies.
+-- The kinds of frames (document 01), and the line of a file that characters begin with.
 use mathlib.Core.Bool.{Bool, cond, not, _&&_}
-use mathlib.Core.List.{List, [], _∷_}
+use mathlib.Core.List.{List}
 use Prim.Native.Nat.{ℕ}
 use lib.Dec.{eqb}
 use Rattle.frames.specs.Frame.{byteAt, lineFront}
-use Rattle.frames.specs.declared.kinds.Front.{Front}
-use Rattle.frames.specs.declared.kinds.Front.the-variants.{Frame, Refused}
 
 -- file: the unit count, the two ends of a link, the number of links
 abbrev pub UNITS : ℕ
@@ -46,16 +44,6 @@ kindFront s = byteAt s 0
 unfoldable pub fileFront : List ℕ → Bool
 fileFront s = not (eqb (frameBytes (kindFront s)) 0) && lineFront (frameBytes (kindFront s)) s
 
--- the frame's kind and number of bytes, or refused: the line has fault 1 of document 01's list
-unfoldable pub frontOf : List ℕ → Front
-frontOf s = cond (fileFront s) (Frame (kindFront s) (frameBytes (kindFront s))) Refused
-
--- document 01's number of that reply: 0 where the line is not refused
-abbrev pub frontNumber : Front → ℕ
-frontNumber (Frame kind bytes) = 0
-frontNumber Refused = 1
-
--- and its values: the kind and the number of bytes
-abbrev pub frontValues : Front → List ℕ
-frontValues (Frame kind bytes) = kind ∷ bytes ∷ []
-frontValues Refused = []
+-- that kind; 0, which is none, where the line has fault 1 of document 01's list
+unfoldable pub lineKind : List ℕ → ℕ
+lineKind s = cond (fileFront s) (kindFront s) 0

@@ -1,4 +1,4 @@
-// The kinds of frames, and what the characters of a file may begin with.
+// The kinds of frames, and the lengths of those of a file.
 ghost use mathlib.Core.Path.{_≡_};
 ghost use Rattle.frames.specs.Kinds.{frameBytes};
 
@@ -20,12 +20,6 @@ pub const TAIL: u8 = 0x1F;
 
 // The number of a refusal.
 pub const REFUSAL: u8 = 0x1E;
-
-// What characters begin with: the line of a frame of a file kind, with its bytes (kind and check byte included), or none.
-pub enum Front {
-    Frame { kind: u8, bytes: u8 },
-    Refused,
-}
 
 // The bytes of a frame of a file kind; 0: no kind of a file.
 pub fn frame_bytes(kind: u8) -> u8

@@ -6,7 +6,7 @@ use native.Mathlib.Omega.{arith}
 use lib.ListN.{length, set, length-set}
 use Rattle.files.specs.File.{linesOf, endsIn}
 use Rattle.files.specs.LineSteps.{length-ends}
-use Rattle.files.specs.Walk.{LineAt, Filled, line-fits, fill-start, fill-line, fill-reads, link-stands, two-more, fill-other, fill-link, fill-count, fill-end}
+use Rattle.files.specs.Walk.{pastAt, LineAt, Filled, line-fits, fill-start, fill-line, fill-reads, link-stands, two-more, fill-other, fill-link, fill-count, fill-end}
 use borrow.Author.Needs.{needs}
 use Rattle.files.proofs.reader.fill.Statement.{statement}
 use Rattle.files.proofs.reader.fill.Tie as tie
@@ -26,7 +26,7 @@ reads i =
     fill-reads (a .file .now) (a .words .now) (l .loop .words) (l .loop .at) (l .loop .n) (l .loop .inv) (i .loop-test .taken)
 
 abbrev loopOf : tie.After-line-length Inv-loop μ-loop → tie.At-loop Inv-loop μ-loop
-loopOf c = c .before .before .before .before .before .before
+loopOf c = c .before .before .before .before .before
 
 abbrev file : tie.After-line-length Inv-loop μ-loop → List ℕ
 file c = loopOf c .before .before .before .before .args .file .now
@@ -35,31 +35,27 @@ abbrev old : tie.After-line-length Inv-loop μ-loop → List ℕ
 old c = loopOf c .before .before .before .before .args .words .now
 
 abbrev kind : tie.After-line-length Inv-loop μ-loop → ℕ
-kind c = c .before .before .byte .result
+kind c = c .before .byte .result
 
-abbrev bytes : tie.After-line-length Inv-loop μ-loop → ℕ
-bytes c = c .before .frame-bytes .result
-
-line : (c : tie.After-line-length Inv-loop μ-loop) → LineAt (file c) (loopOf c .loop .at) (kind c) (bytes c)
+line : (c : tie.After-line-length Inv-loop μ-loop) → LineAt (file c) (loopOf c .loop .at) (kind c)
 line c =
     let l = loopOf c in
-    fill-line (file c) (old c) (l .loop .words) (l .loop .at) (l .loop .n) (l .loop .inv) (c .before .before .before .before .before .loop-test .taken) (kind c) (bytes c)
-    (c .before .before .byte .ensures) (c .before .frame-bytes .ensures)
+    fill-line (file c) (old c) (l .loop .words) (l .loop .at) (l .loop .n) (l .loop .inv) (c .before .before .before .before .loop-test .taken) (kind c) (c .before .byte .ensures)
 
-within : (c : tie.After-line-length Inv-loop μ-loop) → loopOf c .loop .at + (2 * bytes c + 1) ≤ length (file c)
-within c = line-fits (file c) (loopOf c .loop .at) (kind c) (bytes c) (line c)
+within : (c : tie.After-line-length Inv-loop μ-loop) → pastAt (loopOf c .loop .at) (kind c) ≤ length (file c)
+within c = line-fits (file c) (loopOf c .loop .at) (kind c) (line c)
 
 stands : (c : tie.Then1 Inv-loop μ-loop) → loopOf (c .before) .loop .at + 13 ≤ length (file (c .before))
 stands t =
     let c = t .before in
     let l = loopOf c in
-    link-stands (file c) (old c) (l .loop .words) (l .loop .at) (l .loop .n) (l .loop .inv) (kind c) (bytes c) (line c) (t .if1 .taken)
+    link-stands (file c) (old c) (l .loop .words) (l .loop .at) (l .loop .n) (l .loop .inv) (kind c) (line c) (t .if1 .taken)
 
 fits : (c : tie.Then1 Inv-loop μ-loop) → loopOf (c .before) .loop .n + 2 ≤ length (loopOf (c .before) .loop .words)
 fits t =
     let c = t .before in
     let l = loopOf c in
-    omega (arith, two-more (file c) (old c) (l .loop .words) (l .loop .at) (l .loop .n) (l .loop .inv) (kind c) (bytes c) (line c) (t .if1 .taken), l .loop .inv .same, l .before .before .before .before .pre .2)
+    omega (arith, two-more (file c) (old c) (l .loop .words) (l .loop .at) (l .loop .n) (l .loop .inv) (kind c) (line c) (t .if1 .taken), l .loop .inv .same, l .before .before .before .before .pre .2)
 
 -- ---- the needs
 
@@ -77,9 +73,6 @@ shared-slice-read-byte-2 c = omega (arith, reads (c .before .before))
 
 byte-requires : tie.Need-byte-requires Inv-loop μ-loop
 byte-requires c κs = search needs
-
-frame-bytes-requires : tie.Need-frame-bytes-requires Inv-loop μ-loop
-frame-bytes-requires c κs = search needs
 
 line-length-requires : tie.Need-line-length-requires Inv-loop μ-loop
 line-length-requires c κs = search needs
@@ -131,7 +124,7 @@ loop-again c =
     let a = c .before .word-at .result in
     let b = c .word-at2 .result in
     subst⁻¹ (λ (next : ℕ). Filled (file d) (old d) (set (set (l .loop .words) (l .loop .n) a) (l .loop .n + 1) b) next (l .loop .n + 2)) (ap (λ (x : ℕ). l .loop .at + x) (d .line-length .ensures))
-    (fill-link (file d) (old d) (l .loop .words) (l .loop .at) (l .loop .n) (l .loop .inv) (kind d) (bytes d) (line d) (t .if1 .taken)
+    (fill-link (file d) (old d) (l .loop .words) (l .loop .at) (l .loop .n) (l .loop .inv) (kind d) (line d) (t .if1 .taken)
     a b (c .before .word-at .ensures) (c .word-at2 .ensures) (l .before .before .before .before .pre .2))
 
 loop-less-2 : tie.Need-loop-less-2 Inv-loop μ-loop
@@ -142,7 +135,7 @@ loop-again-2 c =
     let d = c .before in
     let l = loopOf d in
     subst⁻¹ (λ (next : ℕ). Filled (file d) (old d) (l .loop .words) next (l .loop .n)) (ap (λ (x : ℕ). l .loop .at + x) (d .line-length .ensures))
-    (fill-other (file d) (old d) (l .loop .words) (l .loop .at) (l .loop .n) (l .loop .inv) (kind d) (bytes d) (line d) (c .if1 .left))
+    (fill-other (file d) (old d) (l .loop .words) (l .loop .at) (l .loop .n) (l .loop .inv) (kind d) (line d) (c .if1 .left))
 
 same-length : tie.Need-same-length Inv-loop μ-loop
 same-length c = c .before .loop .inv .same
@@ -167,7 +160,6 @@ fill-spec =
     add-byte
     shared-slice-read-byte-2
     byte-requires
-    frame-bytes-requires
     line-length-requires
     add-next
     add-word-at

@@ -8,7 +8,7 @@ use lib.ListN.{length}
 use Rattle.frames.specs.Frame.{wordAt}
 use Rattle.files.specs.File.{linesOf, faultyLine, inOrder, linkFrames, statedCount}
 use Rattle.files.specs.ReadLaws.{refused-1, refused-2, refused-3, refused-6, refused-14, accepted}
-use Rattle.files.specs.Walk.{LineAt, Walked, nextOrder, told-line, line-fits, walk-start, walk-fault, walk-on, walk-sound, walk-broken, walk-kept, walk-count, walk-last, walk-stated}
+use Rattle.files.specs.Walk.{pastAt, LineAt, Walked, told-line, line-fits, walk-start, walk-fault, walk-on, walk-sound, walk-broken, walk-kept, walk-count, walk-last, walk-stated}
 use borrow.Author.Needs.{needs}
 use Rattle.files.proofs.reader.refusal.Statement.{statement}
 use Rattle.files.proofs.reader.refusal.Tie as tie
@@ -22,34 +22,29 @@ abbrev μ-loop : tie.MeasureT-loop
 -- ---- the line at the cursor
 
 abbrev loopOf : tie.After-line-length Inv-loop μ-loop → tie.At-loop Inv-loop μ-loop
-loopOf c = c .before .before .before .before .before .before .before .before .before
+loopOf c = c .before .before .before .before .before .before .before
 
 abbrev file : tie.After-line-length Inv-loop μ-loop → List ℕ
 file c = loopOf c .before .before .before .args .file .now
 
 abbrev kind : tie.After-line-length Inv-loop μ-loop → ℕ
-kind c = c .before .before .before .before .line .given .0 .0
+kind c = c .before .before .before .before .kind .result
 
-abbrev bytes : tie.After-line-length Inv-loop μ-loop → ℕ
-bytes c = c .before .before .before .before .line .given .0 .1 .0
+line : (c : tie.After-line-length Inv-loop μ-loop) → LineAt (file c) (loopOf c .loop .at) (kind c)
+line c = told-line (file c) (loopOf c .loop .at) (kind c) (c .before .before .before .before .kind .ensures) (c .before .before .before .if1 .left)
 
-line : (c : tie.After-line-length Inv-loop μ-loop) → LineAt (file c) (loopOf c .loop .at) (kind c) (bytes c)
-line c =
-    told-line (file c) (loopOf c .loop .at) (kind c) (bytes c)
-    (sym (c .before .before .before .before .before .before .recognise .ensures .0) ∙ c .before .before .before .before .line .given .1)
-
-within : (c : tie.After-line-length Inv-loop μ-loop) → loopOf c .loop .at + (2 * bytes c + 1) ≤ length (file c)
-within c = line-fits (file c) (loopOf c .loop .at) (kind c) (bytes c) (line c)
+within : (c : tie.After-line-length Inv-loop μ-loop) → pastAt (loopOf c .loop .at) (kind c) ≤ length (file c)
+within c = line-fits (file c) (loopOf c .loop .at) (kind c) (line c)
 
 -- ---- past the last line
 
-abbrev text : tie.Else1 Inv-loop μ-loop → List ℕ
+abbrev text : tie.Else2 Inv-loop μ-loop → List ℕ
 text e = e .before .before .before .before .before .args .file .now
 
-abbrev places : tie.Else1 Inv-loop μ-loop → ℕ
+abbrev places : tie.Else2 Inv-loop μ-loop → ℕ
 places e = e .before .before .before .before .before .args .places
 
-module _ (e : tie.Else1 Inv-loop μ-loop) where
+module _ (e : tie.Else2 Inv-loop μ-loop) where
   abbrev w : tie.At-loop Inv-loop μ-loop
   w = e .before .before
 
@@ -57,50 +52,44 @@ module _ (e : tie.Else1 Inv-loop μ-loop) where
   p1 = walk-sound (text e) (w .loop .at) (w .loop .order) (w .loop .links) (w .loop .last) (w .loop .inv) (e .before .loop-test .left)
 
   p2 : inOrder (linesOf (text e)) ≡ true
-  p2 = walk-kept (text e) (w .loop .at) (w .loop .order) (w .loop .links) (w .loop .last) (w .loop .inv) (e .before .loop-test .left) (e .if1 .left)
+  p2 = walk-kept (text e) (w .loop .at) (w .loop .order) (w .loop .links) (w .loop .last) (w .loop .inv) (e .before .loop-test .left) (e .if2 .left)
 
   count : linkFrames (linesOf (text e)) ≡ w .loop .links
   count = walk-count (text e) (w .loop .at) (w .loop .order) (w .loop .links) (w .loop .last) (w .loop .inv) (e .before .loop-test .left)
 
   last : w .loop .last + 8 ≤ length (text e)
-  last = walk-last (text e) (w .loop .at) (w .loop .order) (w .loop .links) (w .loop .last) (w .loop .inv) (e .before .loop-test .left) (e .if1 .left)
+  last = walk-last (text e) (w .loop .at) (w .loop .order) (w .loop .links) (w .loop .last) (w .loop .inv) (e .before .loop-test .left) (e .if2 .left)
 
   stated : statedCount (linesOf (text e)) ≡ wordAt (text e) (w .loop .last + 2)
-  stated = walk-stated (text e) (w .loop .at) (w .loop .order) (w .loop .links) (w .loop .last) (w .loop .inv) (e .before .loop-test .left) (e .if1 .left)
+  stated = walk-stated (text e) (w .loop .at) (w .loop .order) (w .loop .links) (w .loop .last) (w .loop .inv) (e .before .loop-test .left) (e .if2 .left)
 
-p3 : (c : tie.Else2 Inv-loop μ-loop) → statedCount (linesOf (text (c .before .before))) ≡ linkFrames (linesOf (text (c .before .before)))
-p3 c = stated (c .before .before) ∙ sym (c .before .word-at .ensures) ∙ c .if2 .left ∙ sym (count (c .before .before))
+p3 : (c : tie.Else3 Inv-loop μ-loop) → statedCount (linesOf (text (c .before .before))) ≡ linkFrames (linesOf (text (c .before .before)))
+p3 c = stated (c .before .before) ∙ sym (c .before .word-at .ensures) ∙ c .if3 .left ∙ sym (count (c .before .before))
 
 -- ---- the needs
 
 loop-holds : tie.Need-loop-holds Inv-loop μ-loop
 loop-holds c = walk-start (c .before .before .args .file .now)
 
-sub-recognise : tie.Need-sub-recognise Inv-loop μ-loop
-sub-recognise c = search needs
+sub-kind : tie.Need-sub-kind Inv-loop μ-loop
+sub-kind c = search needs
 
-part-recognise-start : tie.Need-part-recognise-start Inv-loop μ-loop
-part-recognise-start c = search needs
+part-kind-start : tie.Need-part-kind-start Inv-loop μ-loop
+part-kind-start c = search needs
 
-part-recognise-end : tie.Need-part-recognise-end Inv-loop μ-loop
-part-recognise-end c = search needs
+part-kind-end : tie.Need-part-kind-end Inv-loop μ-loop
+part-kind-end c = search needs
 
-recognise-requires : tie.Need-recognise-requires Inv-loop μ-loop
-recognise-requires c κs = search needs
-
-enum-known-line : tie.Need-enum-known-line Inv-loop μ-loop
-enum-known-line c = search needs
-
-enum-told : tie.Need-enum-told Inv-loop μ-loop
-enum-told c = search needs
+kind-requires : tie.Need-kind-requires Inv-loop μ-loop
+kind-requires c κs = search needs
 
 returns : tie.Need-returns Inv-loop μ-loop
 returns c =
-    let l = c .before .before .before .before .before in
+    let l = c .before .before .before .before in
     let a = l .before .before .before .args in
-    let r = c .before .before .recognise in
+    let k = c .before .kind in
     refused-1 (linesOf (a .file .now)) (a .places)
-    (walk-fault (a .file .now) (l .loop .at) (l .loop .order) (l .loop .links) (l .loop .last) (l .loop .inv) (search needs) (sym (r .ensures .0) ∙ c .enum-told .given .1))
+    (walk-fault (a .file .now) (l .loop .at) (l .loop .order) (l .loop .links) (l .loop .last) (l .loop .inv) (c .before .before .before .loop-test .taken) (sym (k .ensures) ∙ c .if1 .taken))
 
 next-order-requires : tie.Need-next-order-requires Inv-loop μ-loop
 next-order-requires c κs = search needs
@@ -109,7 +98,7 @@ links-in-requires : tie.Need-links-in-requires Inv-loop μ-loop
 links-in-requires c κs = search needs
 
 add-links : tie.Need-add-links Inv-loop μ-loop
-add-links c = omega (arith, c .links-in .ensures .1, c .before .before .before .before .before .before .before .before .loop .inv .few)
+add-links c = omega (arith, c .links-in .ensures .1, c .before .before .before .before .before .before .loop .inv .few)
 
 line-length-requires : tie.Need-line-length-requires Inv-loop μ-loop
 line-length-requires c κs = search needs
@@ -123,7 +112,7 @@ loop-less c = omega (arith, c .line-length .ensures)
 loop-again : tie.Need-loop-again Inv-loop μ-loop
 loop-again c =
     let l = loopOf c in
-    let w = walk-on (file c) (l .loop .at) (l .loop .order) (l .loop .links) (l .loop .last) (l .loop .inv) (kind c) (bytes c) (c .before .links-in .result) (c .before .links-in .ensures .0) (c .before .links-in .ensures .1) (line c) in
+    let w = walk-on (file c) (l .loop .at) (l .loop .order) (l .loop .links) (l .loop .last) (l .loop .inv) (kind c) (c .before .links-in .result) (c .before .links-in .ensures .0) (c .before .links-in .ensures .1) (line c) in
     rw (c .line-length .ensures, c .before .before .next-order .ensures) w
 
 returns-2 : tie.Need-returns-2 Inv-loop μ-loop
@@ -133,7 +122,7 @@ returns-2 c =
     let w = l .loop in
     let e = c .before .loop-test .left in
     refused-2 (linesOf (a .file .now)) (a .places) (walk-sound (a .file .now) (w .at) (w .order) (w .links) (w .last) (w .inv) e)
-    (walk-broken (a .file .now) (w .at) (w .order) (w .links) (w .last) (w .inv) e (c .if1 .taken))
+    (walk-broken (a .file .now) (w .at) (w .order) (w .links) (w .last) (w .inv) e (c .if2 .taken))
 
 add-word-at : tie.Need-add-word-at Inv-loop μ-loop
 add-word-at c = omega (arith, last c)
@@ -141,31 +130,31 @@ add-word-at c = omega (arith, last c)
 word-at-requires : tie.Need-word-at-requires Inv-loop μ-loop
 word-at-requires c κs = (search needs, omega (arith, last c))
 
-cast-if2 : tie.Need-cast-if2 Inv-loop μ-loop
-cast-if2 c = search needs
+cast-if3 : tie.Need-cast-if3 Inv-loop μ-loop
+cast-if3 c = search needs
 
 returns-3 : tie.Need-returns-3 Inv-loop μ-loop
 returns-3 c =
     let e = c .before .before in
-    refused-3 (linesOf (text e)) (places e) (p1 e) (p2 e) (λ q. c .if2 .taken (c .before .word-at .ensures ∙ sym (stated e) ∙ q ∙ count e))
+    refused-3 (linesOf (text e)) (places e) (p1 e) (p2 e) (λ q. c .if3 .taken (c .before .word-at .ensures ∙ sym (stated e) ∙ q ∙ count e))
 
 returns-4 : tie.Need-returns-4 Inv-loop μ-loop
 returns-4 c =
     let e = c .before .before .before in
-    refused-6 (linesOf (text e)) (places e) (p1 e) (p2 e) (p3 (c .before)) (omega (arith, count e, c .if3 .taken))
+    refused-6 (linesOf (text e)) (places e) (p1 e) (p2 e) (p3 (c .before)) (omega (arith, count e, c .if4 .taken))
 
-mul-if4 : tie.Need-mul-if4 Inv-loop μ-loop
-mul-if4 c = search needs
+mul-if5 : tie.Need-mul-if5 Inv-loop μ-loop
+mul-if5 c = search needs
 
 returns-5 : tie.Need-returns-5 Inv-loop μ-loop
 returns-5 c =
     let e = c .before .before .before .before in
-    refused-14 (linesOf (text e)) (places e) (p1 e) (p2 e) (p3 (c .before .before)) (omega (arith, count e, c .before .if3 .left)) (omega (arith, count e, c .if4 .taken))
+    refused-14 (linesOf (text e)) (places e) (p1 e) (p2 e) (p3 (c .before .before)) (omega (arith, count e, c .before .if4 .left)) (omega (arith, count e, c .if5 .taken))
 
 returns-6 : tie.Need-returns-6 Inv-loop μ-loop
 returns-6 c =
     let e = c .before .before .before .before in
-    accepted (linesOf (text e)) (places e) (p1 e) (p2 e) (p3 (c .before .before)) (omega (arith, count e, c .before .if3 .left)) (omega (arith, count e, c .if4 .left))
+    accepted (linesOf (text e)) (places e) (p1 e) (p2 e) (p3 (c .before .before)) (omega (arith, count e, c .before .if4 .left)) (omega (arith, count e, c .if5 .left))
 
 pub refusal-spec : {M : Type 1} → statement M
 refusal-spec =
@@ -174,12 +163,10 @@ refusal-spec =
     Inv-loop
     μ-loop
     loop-holds
-    sub-recognise
-    part-recognise-start
-    part-recognise-end
-    recognise-requires
-    enum-known-line
-    enum-told
+    sub-kind
+    part-kind-start
+    part-kind-end
+    kind-requires
     returns
     next-order-requires
     links-in-requires
@@ -191,9 +178,9 @@ refusal-spec =
     returns-2
     add-word-at
     word-at-requires
-    cast-if2
+    cast-if3
     returns-3
     returns-4
-    mul-if4
+    mul-if5
     returns-5
     returns-6)

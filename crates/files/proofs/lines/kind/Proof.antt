@@ -5,10 +5,10 @@ use Prim.Native.Nat.{ℕ, _*_}
 use native.Mathlib.Omega.{arith}
 use lib.Seq.{length-take-le}
 use Rattle.frames.specs.Kinds.{frameBytes, kindFront}
-use Rattle.frames.specs.FrontLaws.{front-few, front-unknown, front-short, front-other, front-line, told-refused, told-frame}
+use Rattle.frames.specs.FrontLaws.{front-few, front-unknown, front-short, front-other, front-line, kind-none, kind-some}
 use borrow.Author.Needs.{needs}
-use Rattle.files.proofs.lines.recognise.Statement.{statement}
-use Rattle.files.proofs.lines.recognise.Tie as tie
+use Rattle.files.proofs.lines.kind.Statement.{statement}
+use Rattle.files.proofs.lines.kind.Tie as tie
 
 abbrev chars : tie.After-frame-bytes → List ℕ
 chars f = f .before .before .before .before .before .before .before .args .s .now
@@ -17,7 +17,7 @@ size : (f : tie.After-frame-bytes) → f .frame-bytes .result ≡ frameBytes (ki
 size f = f .frame-bytes .ensures ∙ ap frameBytes (f .before .byte .ensures)
 
 returns : tie.Need-returns
-returns c = let s = c .before .before .before .args .s .now in told-refused s (front-few s (c .if1 .taken))
+returns c = let s = c .before .before .before .args .s .now in kind-none s (front-few s (c .if1 .taken))
 
 shared-slice-read-byte : tie.Need-shared-slice-read-byte
 shared-slice-read-byte c = search needs
@@ -32,7 +32,7 @@ frame-bytes-requires : tie.Need-frame-bytes-requires
 frame-bytes-requires c κs = search needs
 
 returns-2 : tie.Need-returns-2
-returns-2 c = let f = c .before in told-refused (chars f) (front-unknown (chars f) (f .frame-bytes .result) (size f) (c .if2 .taken))
+returns-2 c = let f = c .before in kind-none (chars f) (front-unknown (chars f) (f .frame-bytes .result) (size f) (c .if2 .taken))
 
 cast-end : tie.Need-cast-end
 cast-end c = search needs
@@ -44,7 +44,7 @@ returns-3 : tie.Need-returns-3
 returns-3 c =
     let e = c .before in
     let f = e .before in
-    told-refused (chars f) (front-short (chars f) (f .frame-bytes .result) (size f) (e .if2 .left) (c .if3 .taken))
+    kind-none (chars f) (front-short (chars f) (f .frame-bytes .result) (size f) (e .if2 .left) (c .if3 .taken))
 
 shared-slice-read-if4 : tie.Need-shared-slice-read-if4
 shared-slice-read-if4 c = search needs
@@ -53,7 +53,7 @@ returns-4 : tie.Need-returns-4
 returns-4 c =
     let e = c .before .before .before in
     let f = e .before in
-    told-refused (chars f) (front-other (chars f) (f .frame-bytes .result) (size f) (e .if2 .left) (c .if4 .taken))
+    kind-none (chars f) (front-other (chars f) (f .frame-bytes .result) (size f) (e .if2 .left) (c .if4 .taken))
 
 slice-aggregate-sums-to-0 : tie.Need-slice-aggregate-sums-to-0
 slice-aggregate-sums-to-0 c =
@@ -70,7 +70,7 @@ returns-5 c =
     let e = c .before .before .before .before .before .before in
     let f = e .before in
     let line = front-line (chars f) (f .frame-bytes .result) (size f) (e .if2 .left) (c .before .before .before .if4 .left) in
-    told-frame (chars f) (f .before .byte .result) (f .frame-bytes .result) (f .before .byte .ensures) (size f)
+    kind-some (chars f) (f .before .byte .result) (f .before .byte .ensures)
     (line ∙ sym (c .before .sums-to-0 .ensures) ∙ c .if5 .taken)
 
 returns-6 : tie.Need-returns-6
@@ -78,10 +78,10 @@ returns-6 c =
     let e = c .before .before .before .before .before .before in
     let f = e .before in
     let line = front-line (chars f) (f .frame-bytes .result) (size f) (e .if2 .left) (c .before .before .before .if4 .left) in
-    told-refused (chars f) (line ∙ sym (c .before .sums-to-0 .ensures) ∙ c .if5 .left)
+    kind-none (chars f) (line ∙ sym (c .before .sums-to-0 .ensures) ∙ c .if5 .left)
 
-pub recognise-spec : {M : Type 1} → statement M
-recognise-spec =
+pub kind-spec : {M : Type 1} → statement M
+kind-spec =
     tie.close
     (tie.spec
     returns
