@@ -1,5 +1,5 @@
 -- A walk along the lines of a file with a cursor: what is known of the whole from the lines passed and those that are left.
-use mathlib.Core.Path.{_≡_, refl, sym, ap, _∙_}
+use mathlib.Core.Path.{_≡_, refl, sym, ap, subst, _∙_}
 use mathlib.Core.Bool.{Bool, true, false, cond, not}
 use mathlib.Core.List.{List, [], _∷_, _++_}
 use Prim.Native.Nat.{ℕ, zero, suc, _+_, _*_, _≤_, _<_}
@@ -204,7 +204,7 @@ module _ (s : List ℕ) (at order links last : ℕ) (w : Walked s at order links
       w .faults ∙ faulty-here (drop at s) (omega (arith, length-drop at s)) (none-front (drop at s) (ap lineKind (sym (lent-rest at s)) ∙ e))
 
   -- one line more
-  pub walk-on : (kind one : ℕ) → one ≡ cond (eqb kind LINK) 1 0 → one ≤ 1 → LineAt s at kind
+  walk-on : (kind one : ℕ) → one ≡ cond (eqb kind LINK) 1 0 → one ≤ 1 → LineAt s at kind
       → Walked s (pastAt at kind) (nextOrder order kind) (links + one) at
   walk-on kind one c o l =
       let rest = linesOf (drop (pastAt at kind) s) in
@@ -226,6 +226,14 @@ module _ (s : List ℕ) (at order links last : ℕ) (w : Walked s at order links
         few = omega (arith, w .few);
         long = λ _. omega (arith, line-long s at kind l);
       }
+
+  pub walk-link : LineAt s at LINK → Walked s (pastAt at LINK) (nextOrder order LINK) (links + 1) at
+  walk-link l = walk-on LINK 1 refl (omega arith) l
+
+  pub walk-other : (kind : ℕ) → (kind ≡ LINK → ⊥) → LineAt s at kind → Walked s (pastAt at kind) (nextOrder order kind) links at
+  walk-other kind n l =
+      subst (λ (m : ℕ). Walked s (pastAt at kind) (nextOrder order kind) m at) (add-zero links)
+      (walk-on kind 0 (rw (ne-eqb kind LINK n)) (omega arith) l)
 
   -- past the last line
   module _ (e : length s ≤ at) where
@@ -292,64 +300,48 @@ module _ (s old words : List ℕ) (at n : ℕ) (f : Filled s old words at n) whe
       omega (arith, line-fits s at k l, line-long s at k l)
 
   module _ (kind : ℕ) (l : LineAt s at kind) where
-    rest : List Line
-    rest = linesOf (drop (pastAt at kind) s)
-
-    first : Line
-    first = frontLine (drop at s)
-
-    left-ends : drop n (endsIn (linesOf s)) ≡ endsIn (first ∷ rest)
-    unfolding first rest
+    left-ends : drop n (endsIn (linesOf s)) ≡ endsIn (frontLine (drop at s) ∷ linesOf (drop (pastAt at kind) s))
     left-ends = f .left ∙ ap endsIn (line-lines s at kind l)
 
     later-sound : faultyLine (linesOf (drop (pastAt at kind) s)) ≡ false
     later-sound = sym (line-faults s at kind l) ∙ f .sound
 
     pub fill-other : (kind ≡ LINK → ⊥) → Filled s old words (pastAt at kind) n
-    unfolding first rest
     fill-other o =
         record {
           inside = line-fits s at kind l;
           sound = later-sound;
-          left = left-ends ∙ ends-other first rest (λ e. o (sym (line-kind s at kind l) ∙ e));
+          left =
+              left-ends
+              ∙ ends-other (frontLine (drop at s)) (linesOf (drop (pastAt at kind) s)) (λ e. o (sym (line-kind s at kind l) ∙ e));
           some = f .some;
           same = f .same;
           laid = f .laid;
         }
 
-    module _ (k : kind ≡ LINK) where
-      six : frameBytes kind ≡ 6
-      six = ap frameBytes k
+  module _ (l : LineAt s at LINK) where
+    two-left : drop n (endsIn (linesOf s)) ≡ wordAt s (at + 2) ∷ wordAt s (at + 6) ∷ endsIn (linesOf (drop (pastAt at LINK) s))
+    two-left =
+        left-ends LINK l
+        ∙ ends-link (frontLine (drop at s)) (linesOf (drop (pastAt at LINK) s)) (line-kind s at LINK l)
+        ∙ rw (line-word s at LINK l 1 (omega arith), line-word s at LINK l 3 (omega arith))
 
-      pub link-stands : at + 13 ≤ length s
-      link-stands = omega (arith, six, line-fits s at kind l)
+    pub two-more : n + 2 ≤ length (endsIn (linesOf s))
+    two-more = omega (arith, ap length two-left, length-drop n (endsIn (linesOf s)))
 
-      two-left : drop n (endsIn (linesOf s)) ≡ wordAt s (at + 2) ∷ wordAt s (at + 6) ∷ endsIn rest
-      unfolding first rest
-      two-left =
-          left-ends
-          ∙ ends-link first rest (line-kind s at kind l ∙ k)
-          ∙ rw (line-word s at kind l 1 (omega (arith, six)), line-word s at kind l 3 (omega (arith, six)))
-
-      pub two-more : n + 2 ≤ length (endsIn (linesOf s))
-      two-more = omega (arith, ap length two-left, length-drop n (endsIn (linesOf s)))
-
-      pub fill-link : (a b : ℕ) → a ≡ wordAt s (at + 2) → b ≡ wordAt s (at + 6) → length (endsIn (linesOf s)) ≤ length old
-          → Filled s old (set (set words n a) (n + 1) b) (pastAt at kind) (n + 2)
-      unfolding rest
-      fill-link a b p q fits =
-          let ends = endsIn (linesOf s) in
-          let more : take (n + 2) ends ≡ take n ends ++ a ∷ b ∷ [] = take-add n 2 ends ∙ rw (two-left, p, q) in
-          record {
-            inside = line-fits s at kind l;
-            sound = later-sound;
-            left = sym (drop-drop 2 n ends) ∙ rw two-left;
-            some = two-more;
-            same = length-set (set words n a) (n + 1) b ∙ length-set words n a ∙ f .same;
-            laid =
-                rw (f .laid, more)
-                (put-two (take n ends) old n a b (length-take-le n ends (f .some)) (omega (arith, two-more)));
-          }
+    pub fill-link : (a b : ℕ) → a ≡ wordAt s (at + 2) → b ≡ wordAt s (at + 6) → length (endsIn (linesOf s)) ≤ length old
+        → Filled s old (set (set words n a) (n + 1) b) (pastAt at LINK) (n + 2)
+    fill-link a b p q fits =
+        let ends = endsIn (linesOf s) in
+        let more : take (n + 2) ends ≡ take n ends ++ a ∷ b ∷ [] = take-add n 2 ends ∙ rw (two-left, p, q) in
+        record {
+          inside = line-fits s at LINK l;
+          sound = later-sound LINK l;
+          left = sym (drop-drop 2 n ends) ∙ rw two-left;
+          some = two-more;
+          same = length-set (set words n a) (n + 1) b ∙ length-set words n a ∙ f .same;
+          laid = rw (f .laid, more) (put-two (take n ends) old n a b (length-take-le n ends (f .some)) (omega (arith, two-more)));
+        }
 
   -- past the last line
   module _ (e : length s ≤ at) where

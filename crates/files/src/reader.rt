@@ -1,11 +1,10 @@
 // Reading a file with a cursor that goes from line to line: why it is refused, and its ends laid down.
 ghost use mathlib.Core.Path.{_≡_};
-ghost use mathlib.Core.Bool.{false, cond};
+ghost use mathlib.Core.Bool.{false};
 ghost use mathlib.Core.List.{_++_};
 ghost use Prim.Native.Nat.{_+_, _*_, _≤_};
-ghost use lib.Dec.{eqb};
 ghost use lib.ListN.{length, drop};
-ghost use Rattle.frames.specs.Kinds.{LINK, frameBytes};
+ghost use Rattle.frames.specs.Kinds.{frameBytes};
 ghost use Rattle.files.specs.File.{linesOf, faultyLine, linkFrames, endsIn, readRefusal};
 ghost use Rattle.files.specs.Marks.{Marks};
 ghost use Rattle.files.specs.Walk.{nextOrder};
@@ -39,13 +38,6 @@ fn next_order(order: u8, kind: u8) -> u8
     }
 }
 
-// The links that a frame of this kind holds.
-fn links_in(kind: u8) -> usize
-    ensures { λ r. ⌜ (r ≡ cond (eqb kind LINK) 1 0) × (r ≤ 1) ⌝ }
-{
-    if kind == kinds::LINK { 1 } else { 0 }
-}
-
 // The characters of a line of this kind.
 fn line_length(kind: u8) -> usize
     ensures { λ r. ⌜ r ≡ 2 * frameBytes kind + 1 ⌝ }
@@ -67,9 +59,14 @@ pub(crate) fn refusal(t: &[u8], file: &[u8], places: usize) -> u8
         if kind == 0 {
             return 1;
         }
-        order = next_order(order, kind);
-        links += links_in(kind);
         last = at;
+        if kind == kinds::LINK {
+            order = next_order(order, kinds::LINK);
+            links += 1;
+            at += line_length(kinds::LINK);
+            continue;
+        }
+        order = next_order(order, kind);
         at += line_length(kind);
     }
     if order != ENDED {
@@ -97,13 +94,14 @@ pub(crate) fn fill(t: &[u8], file: &[u8], words: &mut [u16]) -> usize
     let mut n = 0;
     while at < file.len() {
         let kind = marks::byte(t, file[at], file[at + 1]);
-        let next = at + line_length(kind);
         if kind == kinds::LINK {
             words[n] = marks::word_at(t, file, at + 2);
             words[n + 1] = marks::word_at(t, file, at + 6);
             n += 2;
+            at += line_length(kinds::LINK);
+            continue;
         }
-        at = next;
+        at += line_length(kind);
     }
     n / 2
 }

@@ -1,12 +1,13 @@
 -- The words of the lines passed are laid down, and those of the lines that are left follow.
-use mathlib.Core.Path.{_≡_, sym, ap, subst⁻¹, _∙_}
+use mathlib.Core.Path.{_≡_, ap, subst, subst⁻¹}
 use mathlib.Core.List.{List}
-use Prim.Native.Nat.{ℕ, _+_, _*_, _≤_, _<_, _-_}
+use Prim.Native.Nat.{ℕ, _+_, _≤_, _-_}
 use native.Mathlib.Omega.{arith}
 use lib.ListN.{length, set, length-set}
-use Rattle.files.specs.File.{linesOf, endsIn}
+use Rattle.frames.specs.Kinds.{LINK}
+use Rattle.files.specs.File.{linesOf}
 use Rattle.files.specs.LineSteps.{length-ends}
-use Rattle.files.specs.Walk.{pastAt, LineAt, Filled, line-fits, fill-start, fill-line, fill-reads, link-stands, two-more, fill-other, fill-link, fill-count, fill-end}
+use Rattle.files.specs.Walk.{pastAt, LineAt, Filled, line-fits, fill-start, fill-line, fill-reads, two-more, fill-other, fill-link, fill-count, fill-end}
 use borrow.Author.Needs.{needs}
 use Rattle.files.proofs.reader.fill.Statement.{statement}
 use Rattle.files.proofs.reader.fill.Tie as tie
@@ -25,37 +26,34 @@ reads i =
     let a = l .before .before .before .before .args in
     fill-reads (a .file .now) (a .words .now) (l .loop .words) (l .loop .at) (l .loop .n) (l .loop .inv) (i .loop-test .taken)
 
-abbrev loopOf : tie.After-line-length Inv-loop μ-loop → tie.At-loop Inv-loop μ-loop
-loopOf c = c .before .before .before .before .before
+abbrev loopOf : tie.After-byte Inv-loop μ-loop → tie.At-loop Inv-loop μ-loop
+loopOf c = c .before .before .before .before
 
-abbrev file : tie.After-line-length Inv-loop μ-loop → List ℕ
+abbrev file : tie.After-byte Inv-loop μ-loop → List ℕ
 file c = loopOf c .before .before .before .before .args .file .now
 
-abbrev old : tie.After-line-length Inv-loop μ-loop → List ℕ
+abbrev old : tie.After-byte Inv-loop μ-loop → List ℕ
 old c = loopOf c .before .before .before .before .args .words .now
 
-abbrev kind : tie.After-line-length Inv-loop μ-loop → ℕ
-kind c = c .before .byte .result
+abbrev kind : tie.After-byte Inv-loop μ-loop → ℕ
+kind c = c .byte .result
 
-line : (c : tie.After-line-length Inv-loop μ-loop) → LineAt (file c) (loopOf c .loop .at) (kind c)
+line : (c : tie.After-byte Inv-loop μ-loop) → LineAt (file c) (loopOf c .loop .at) (kind c)
 line c =
     let l = loopOf c in
-    fill-line (file c) (old c) (l .loop .words) (l .loop .at) (l .loop .n) (l .loop .inv) (c .before .before .before .before .loop-test .taken) (kind c) (c .before .byte .ensures)
+    fill-line (file c) (old c) (l .loop .words) (l .loop .at) (l .loop .n) (l .loop .inv) (c .before .before .before .loop-test .taken) (kind c) (c .byte .ensures)
 
-within : (c : tie.After-line-length Inv-loop μ-loop) → pastAt (loopOf c .loop .at) (kind c) ≤ length (file c)
-within c = line-fits (file c) (loopOf c .loop .at) (kind c) (line c)
+link : (t : tie.Then1 Inv-loop μ-loop) → LineAt (file (t .before)) (loopOf (t .before) .loop .at) LINK
+link t = subst (LineAt (file (t .before)) (loopOf (t .before) .loop .at)) (t .if1 .taken) (line (t .before))
 
-stands : (c : tie.Then1 Inv-loop μ-loop) → loopOf (c .before) .loop .at + 13 ≤ length (file (c .before))
-stands t =
-    let c = t .before in
-    let l = loopOf c in
-    link-stands (file c) (old c) (l .loop .words) (l .loop .at) (l .loop .n) (l .loop .inv) (kind c) (line c) (t .if1 .taken)
+stands : (t : tie.Then1 Inv-loop μ-loop) → pastAt (loopOf (t .before) .loop .at) LINK ≤ length (file (t .before))
+stands t = line-fits (file (t .before)) (loopOf (t .before) .loop .at) LINK (link t)
 
-fits : (c : tie.Then1 Inv-loop μ-loop) → loopOf (c .before) .loop .n + 2 ≤ length (loopOf (c .before) .loop .words)
+fits : (t : tie.Then1 Inv-loop μ-loop) → loopOf (t .before) .loop .n + 2 ≤ length (loopOf (t .before) .loop .words)
 fits t =
     let c = t .before in
     let l = loopOf c in
-    omega (arith, two-more (file c) (old c) (l .loop .words) (l .loop .at) (l .loop .n) (l .loop .inv) (kind c) (line c) (t .if1 .taken), l .loop .inv .same, l .before .before .before .before .pre .2)
+    omega (arith, two-more (file c) (old c) (l .loop .words) (l .loop .at) (l .loop .n) (l .loop .inv) (link t), l .loop .inv .same, l .before .before .before .before .pre .2)
 
 -- ---- the needs
 
@@ -73,12 +71,6 @@ shared-slice-read-byte-2 c = omega (arith, reads (c .before .before))
 
 byte-requires : tie.Need-byte-requires Inv-loop μ-loop
 byte-requires c κs = search needs
-
-line-length-requires : tie.Need-line-length-requires Inv-loop μ-loop
-line-length-requires c κs = search needs
-
-add-next : tie.Need-add-next Inv-loop μ-loop
-add-next c = omega (arith, c .line-length .ensures, within c)
 
 add-word-at : tie.Need-add-word-at Inv-loop μ-loop
 add-word-at c = omega (arith, stands c)
@@ -113,29 +105,42 @@ slice-write-words-2 c =
 add-n : tie.Need-add-n Inv-loop μ-loop
 add-n c = search needs
 
+line-length-requires : tie.Need-line-length-requires Inv-loop μ-loop
+line-length-requires c κs = search needs
+
+add-at : tie.Need-add-at Inv-loop μ-loop
+add-at c = omega (arith, c .line-length .ensures, stands (c .before .before .before))
+
 loop-less : tie.Need-loop-less Inv-loop μ-loop
-loop-less c = omega (arith, c .before .before .before .line-length .ensures)
+loop-less c = omega (arith, c .line-length .ensures)
 
 loop-again : tie.Need-loop-again Inv-loop μ-loop
 loop-again c =
-    let t = c .before .before in
+    let t = c .before .before .before in
     let d = t .before in
     let l = loopOf d in
-    let a = c .before .word-at .result in
-    let b = c .word-at2 .result in
-    subst⁻¹ (λ (next : ℕ). Filled (file d) (old d) (set (set (l .loop .words) (l .loop .n) a) (l .loop .n + 1) b) next (l .loop .n + 2)) (ap (λ (x : ℕ). l .loop .at + x) (d .line-length .ensures))
-    (fill-link (file d) (old d) (l .loop .words) (l .loop .at) (l .loop .n) (l .loop .inv) (kind d) (line d) (t .if1 .taken)
-    a b (c .before .word-at .ensures) (c .word-at2 .ensures) (l .before .before .before .before .pre .2))
+    let a = c .before .before .word-at .result in
+    let b = c .before .word-at2 .result in
+    subst⁻¹ (λ (x : ℕ). Filled (file d) (old d) (set (set (l .loop .words) (l .loop .n) a) (l .loop .n + 1) b) (l .loop .at + x) (l .loop .n + 2)) (c .line-length .ensures)
+    (fill-link (file d) (old d) (l .loop .words) (l .loop .at) (l .loop .n) (l .loop .inv) (link t) a b (c .before .before .word-at .ensures) (c .before .word-at2 .ensures) (l .before .before .before .before .pre .2))
+
+line-length-requires-2 : tie.Need-line-length-requires-2 Inv-loop μ-loop
+line-length-requires-2 c κs = search needs
+
+add-at-2 : tie.Need-add-at-2 Inv-loop μ-loop
+add-at-2 c =
+    let d = c .before .before in
+    omega (arith, c .line-length2 .ensures, line-fits (file d) (loopOf d .loop .at) (kind d) (line d))
 
 loop-less-2 : tie.Need-loop-less-2 Inv-loop μ-loop
-loop-less-2 c = omega (arith, c .before .line-length .ensures)
+loop-less-2 c = omega (arith, c .line-length2 .ensures)
 
 loop-again-2 : tie.Need-loop-again-2 Inv-loop μ-loop
 loop-again-2 c =
-    let d = c .before in
+    let d = c .before .before in
     let l = loopOf d in
-    subst⁻¹ (λ (next : ℕ). Filled (file d) (old d) (l .loop .words) next (l .loop .n)) (ap (λ (x : ℕ). l .loop .at + x) (d .line-length .ensures))
-    (fill-other (file d) (old d) (l .loop .words) (l .loop .at) (l .loop .n) (l .loop .inv) (kind d) (line d) (c .if1 .left))
+    subst⁻¹ (λ (x : ℕ). Filled (file d) (old d) (l .loop .words) (l .loop .at + x) (l .loop .n)) (c .line-length2 .ensures)
+    (fill-other (file d) (old d) (l .loop .words) (l .loop .at) (l .loop .n) (l .loop .inv) (kind d) (line d) (c .before .if1 .left))
 
 same-length : tie.Need-same-length Inv-loop μ-loop
 same-length c = c .before .loop .inv .same
@@ -160,8 +165,6 @@ fill-spec =
     add-byte
     shared-slice-read-byte-2
     byte-requires
-    line-length-requires
-    add-next
     add-word-at
     word-at-requires
     mul-words
@@ -172,8 +175,12 @@ fill-spec =
     mul-words-2
     slice-write-words-2
     add-n
+    line-length-requires
+    add-at
     loop-less
     loop-again
+    line-length-requires-2
+    add-at-2
     loop-less-2
     loop-again-2
     same-length
