@@ -181,7 +181,7 @@ bytes-at (c ∷ d ∷ p) (suc i) h =
 
 -- ---- the check byte
 
-sum-append : (f g : List ℕ) → sumOf (f ++ g) ≡ sumOf f + sumOf g
+pub sum-append : (f g : List ℕ) → sumOf (f ++ g) ≡ sumOf f + sumOf g
 unfolding sumOf
 sum-append [] g = omega arith
 sum-append (b ∷ f) g = omega (arith, sum-append f g)

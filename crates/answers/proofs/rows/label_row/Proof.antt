@@ -1,11 +1,11 @@
 -- Each part past those before it.
-use Rattle.answers.specs.Pairs.{link-laid}
+use Rattle.answers.specs.Pairs.{label-laid}
 use borrow.Author.Needs.{needs}
-use Rattle.answers.proofs.rows.link_row.Statement.{statement}
-use Rattle.answers.proofs.rows.link_row.Tie as tie
+use Rattle.answers.proofs.rows.label_row.Statement.{statement}
+use Rattle.answers.proofs.rows.label_row.Tie as tie
 
-link-sum-requires : tie.Need-link-sum-requires
-link-sum-requires c κs = search needs
+label-sum-requires : tie.Need-label-sum-requires
+label-sum-requires c κs = search needs
 
 put-requires : tie.Need-put-requires
 put-requires c κs = search needs
@@ -41,14 +41,14 @@ returns c =
       second .put-word2 .ensures,
       first .put-word .ensures,
       kind .put .ensures,
-      sum .link-sum .ensures,
-    ) (link-laid (a .position) (a .label) (a .lone) (a .out .now) (s .pre .1))
+      sum .label-sum .ensures,
+    ) (label-laid (a .position) (a .label) (a .lone) (a .out .now) (s .pre .1))
 
-pub link-row-spec : {M : Type 1} → statement M
-link-row-spec =
+pub label-row-spec : {M : Type 1} → statement M
+label-row-spec =
     tie.close
     (tie.spec
-    link-sum-requires
+    label-sum-requires
     put-requires
     put-word-requires
     put-word-requires-2
