@@ -12,10 +12,10 @@ use Rattle.files.specs.declared.Reading.{Reading}
 use Rattle.files.specs.declared.Writing.{Writing}
 
 -- refusal k, and these values where there is none
-abbrev pub ReadTells : Reading → ℕ → List ℕ → Type 0
+abbrev ReadTells : Reading → ℕ → List ℕ → Type 0
 ReadTells r k values = (readingNumber r ≡ k) × (readingValues r ≡ unless k values)
 
-abbrev pub WriteTells : Writing → ℕ → List ℕ → Type 0
+abbrev WriteTells : Writing → ℕ → List ℕ → Type 0
 WriteTells r k values = (writingNumber r ≡ k) × (writingValues r ≡ unless k values)
 
 reading-tells : (k n m : ℕ) → ReadTells (readingOf k n m) k (n ∷ m ∷ [])

@@ -44,10 +44,10 @@ module _ (n : ℕ) (t : List ℕ) (places : ℕ) where
 abbrev pub linkLine : ℕ → ℕ → List ℕ
 linkLine a b = lineOf (linkBody a b)
 
-pub length-linkLine : (a b : ℕ) → length (linkLine a b) ≡ 13
+length-linkLine : (a b : ℕ) → length (linkLine a b) ≡ 13
 length-linkLine a b = length-line (linkBody a b)
 
-pub length-linkLines : (t : List ℕ) → length (linkLines t) ≡ 13 * linkCount t
+length-linkLines : (t : List ℕ) → length (linkLines t) ≡ 13 * linkCount t
 unfolding linkLines
 length-linkLines [] = refl
 length-linkLines (a ∷ []) = refl
@@ -55,7 +55,7 @@ length-linkLines (a ∷ b ∷ t) =
     length-append (linkLine a b) (linkLines t) ∙ omega (arith, length-linkLine a b, length-linkLines t)
 
 -- one link more
-pub linkLines-more : (t : List ℕ) (j : ℕ) → j < linkCount t
+linkLines-more : (t : List ℕ) (j : ℕ) → j < linkCount t
     → linkLines (take (2 * (j + 1)) t) ≡ linkLines (take (2 * j) t) ++ linkLine (endA t j) (endB t j)
 unfolding linkLines
 linkLines-more [] j h = absurd (omega arith)
