@@ -17,7 +17,7 @@ use Rattle.lists.specs.Counts.{count-cong}
 unfoldable pub flagTable : ℕ → ℕ → (ℕ → Bool) → List ℕ
 flagTable size n p = over n (λ (i : ℕ). cond (p i) 1 0) (replicate size 0)
 
-pub length-flags : (size n : ℕ) (p : ℕ → Bool) → length (flagTable size n p) ≡ size
+length-flags : (size n : ℕ) (p : ℕ → Bool) → length (flagTable size n p) ≡ size
 unfolding flagTable
 length-flags size n p = length-over n (λ (i : ℕ). cond (p i) 1 0) (replicate size 0) ∙ length-replicate {A = ℕ} size 0
 

@@ -142,7 +142,7 @@ module _ (m : ℕ) (ends label : List ℕ) (u : ℕ) (words : (i : ℕ) → at l
 
 -- ---- a table of bits, an entry a unit
 
-abbrev pub PLACES : ℕ
+abbrev PLACES : ℕ
 PLACES = 256
 
 -- entry a takes in x

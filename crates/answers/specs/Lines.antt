@@ -1,7 +1,7 @@
--- The lines of all units and of all links: the body of each, and the lines one after the other over the front of a slice.
+-- The lines of all units and of all links: what the tables say in each, and the lines one after the other over the front of a slice.
 use mathlib.Core.Path.{_≡_, _∙_}
 use mathlib.Core.Bool.{cond}
-use mathlib.Core.List.{List, [], _∷_, _++_}
+use mathlib.Core.List.{List, _++_}
 use Prim.Native.Nat.{ℕ, _+_, _*_, _≤_, _<_}
 use native.Mathlib.Numerals.{add-one}
 use lib.Dec.{leb}
@@ -9,24 +9,18 @@ use lib.ListN.{length, drop}
 use borrow.Author.Tests.{le-leb, lt-leb}
 use Rattle.lists.specs.Lent.{lent, back}
 use Rattle.lists.specs.Gathered.{length-gathered, gathered}
-use Rattle.frames.specs.Frame.{wordBytes, lineOf, lineOver, lineLength}
+use Rattle.frames.specs.Frame.{lineOf, lineOver, lineLength}
+use Rattle.frames.specs.Bodies.{unitBody, labelBody}
 use Rattle.frames.specs.FrameLaws.{length-line}
 use Rattle.frames.specs.FrameRests.{line-next}
 use Rattle.rules.specs.Basics.{at}
 
--- the body of a unit's line, and of a link's
-abbrev pub unitFields : ℕ → ℕ → ℕ → ℕ → ℕ → List ℕ
-unitFields unit color parent place single = 0x12 ∷ wordBytes unit ++ wordBytes color ++ wordBytes parent ++ wordBytes place ++ single ∷ []
+-- the body that the tables give the line of unit v, and of the link at position j
+abbrev pub unitRow : List ℕ → List ℕ → List ℕ → List ℕ → ℕ → List ℕ
+unitRow color parent place singles v = unitBody v (at color v) (at parent v) (at place v) (at singles v)
 
-abbrev pub linkFields : ℕ → ℕ → ℕ → List ℕ
-linkFields position label lone = 0x13 ∷ wordBytes position ++ wordBytes label ++ lone ∷ []
-
--- what the tables say of unit v, and of the link at position j
-abbrev pub unitBody : List ℕ → List ℕ → List ℕ → List ℕ → ℕ → List ℕ
-unitBody color parent place singles v = unitFields v (at color v) (at parent v) (at place v) (at singles v)
-
-abbrev pub linkBody : List ℕ → List ℕ → ℕ → List ℕ
-linkBody label lones j = linkFields j (at label j) (at lones j)
+abbrev pub labelRow : List ℕ → List ℕ → ℕ → List ℕ
+labelRow label lones j = labelBody j (at label j) (at lones j)
 
 -- n lines of so many characters
 abbrev pub linesOf : ℕ → (ℕ → List ℕ) → List ℕ

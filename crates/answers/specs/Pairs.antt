@@ -10,9 +10,10 @@ use borrow.Author.Tests.{lt-ltb, le-ltb}
 use Rattle.lists.specs.Tables.{over, length-over, getD-over, set-over}
 use Rattle.lists.specs.Puts.{put-two}
 use Rattle.frames.specs.Frame.{LF, digitOf, hexOf, hexesOf, sumOf, checkByte, wordBytes, lineOver}
-use Rattle.frames.specs.FrameLaws.{hexes-append, length-hexes}
+use Rattle.frames.specs.Kinds.{UNIT, LABEL}
+use Rattle.frames.specs.Bodies.{unitBody, labelBody}
+use Rattle.frames.specs.FrameLaws.{hexes-append, length-hexes, sum-append, sum-check}
 use Rattle.frames.specs.FrameRests.{line-laid}
-use Rattle.answers.specs.Lines.{unitFields, linkFields}
 
 -- the first character in the low byte
 abbrev pub pairOf : ℕ → ℕ
@@ -112,39 +113,81 @@ row-closed f out at e h = rw (← e) (line-laid f out (omega arith))
 -- ---- whole lines
 
 -- a slice after the stores of a row: kind, numbers and flag, then the byte that brings the sum to 0, then the line feed
-abbrev pub unitStored : ℕ → ℕ → ℕ → ℕ → ℕ → ℕ → List ℕ → List ℕ
+abbrev unitStored : ℕ → ℕ → ℕ → ℕ → ℕ → ℕ → List ℕ → List ℕ
 unitStored sum unit color parent place single out =
-    set (hexAt 20 ((256 - sum % 256) % 256) (hexAt 18 single (wordHexAt 14 place (wordHexAt 10 parent (wordHexAt 6 color (wordHexAt 2 unit (hexAt 0 0x12 out))))))) 22 LF
+    set (hexAt 20 ((256 - sum) % 256) (hexAt 18 single (wordHexAt 14 place (wordHexAt 10 parent (wordHexAt 6 color (wordHexAt 2 unit (hexAt 0 UNIT out))))))) 22 LF
 
-abbrev pub linkStored : ℕ → ℕ → ℕ → ℕ → List ℕ → List ℕ
-linkStored sum position label lone out =
-    set (hexAt 12 ((256 - sum % 256) % 256) (hexAt 10 lone (wordHexAt 6 label (wordHexAt 2 position (hexAt 0 0x13 out))))) 14 LF
+abbrev labelStored : ℕ → ℕ → ℕ → ℕ → List ℕ → List ℕ
+labelStored sum position label lone out =
+    set (hexAt 12 ((256 - sum) % 256) (hexAt 10 lone (wordHexAt 6 label (wordHexAt 2 position (hexAt 0 LABEL out))))) 14 LF
 
 pub unit-laid : (unit color parent place single : ℕ) (out : List ℕ) → 23 ≤ length out
-    → unitStored (sumOf (unitFields unit color parent place single)) unit color parent place single out
-    ≡ lineOver (unitFields unit color parent place single) out
+    → unitStored (sumOf (unitBody unit color parent place single) % 256) unit color parent place single out
+    ≡ lineOver (unitBody unit color parent place single) out
 unit-laid unit color parent place single out h =
-    let u : List ℕ = 0x12 ∷ wordBytes unit in
+    let u : List ℕ = UNIT ∷ wordBytes unit in
     let c : List ℕ = u ++ wordBytes color in
     let p : List ℕ = c ++ wordBytes parent in
     let a : List ℕ = p ++ wordBytes place in
     rw (
-      hex-first 0x12 out (omega arith),
-      word-more (0x12 ∷ []) out 2 unit refl (omega arith),
+      hex-first UNIT out (omega arith),
+      word-more (UNIT ∷ []) out 2 unit refl (omega arith),
       word-more u out 6 color refl (omega arith),
       word-more c out 10 parent refl (omega arith),
       word-more p out 14 place refl (omega arith),
       hex-more a out 18 single refl (omega arith),
     ) (row-closed (a ++ single ∷ []) out 20 refl (omega arith))
 
-pub link-laid : (position label lone : ℕ) (out : List ℕ) → 15 ≤ length out
-    → linkStored (sumOf (linkFields position label lone)) position label lone out ≡ lineOver (linkFields position label lone) out
-link-laid position label lone out h =
-    let j : List ℕ = 0x13 ∷ wordBytes position in
+pub label-laid : (position label lone : ℕ) (out : List ℕ) → 15 ≤ length out
+    → labelStored (sumOf (labelBody position label lone) % 256) position label lone out ≡ lineOver (labelBody position label lone) out
+label-laid position label lone out h =
+    let j : List ℕ = LABEL ∷ wordBytes position in
     let x : List ℕ = j ++ wordBytes label in
     rw (
-      hex-first 0x13 out (omega arith),
-      word-more (0x13 ∷ []) out 2 position refl (omega arith),
+      hex-first LABEL out (omega arith),
+      word-more (LABEL ∷ []) out 2 position refl (omega arith),
       word-more j out 6 label refl (omega arith),
       hex-more x out 10 lone refl (omega arith),
     ) (row-closed (x ++ lone ∷ []) out 12 refl (omega arith))
+
+-- ---- sums in eight bits
+
+pub word-sum : (sum w a r : ℕ) → a ≡ (sum + w / 256 % 256) % 256 → r ≡ (a + w % 256) % 256 → r ≡ (sum + w / 256 % 256 + w % 256) % 256
+word-sum sum w a r p q = omega arith
+
+-- the sum of a body with one part more
+sum-word : (f : List ℕ) (w a r : ℕ) → a ≡ sumOf f % 256 → r ≡ (a + w / 256 % 256 + w % 256) % 256 → r ≡ sumOf (f ++ wordBytes w) % 256
+unfolding sumOf
+sum-word f w a r p q = omega (arith, sum-append f (wordBytes w))
+
+sum-byte : (f : List ℕ) (b a r : ℕ) → a ≡ sumOf f % 256 → r ≡ (a + b) % 256 → r ≡ sumOf (f ++ b ∷ []) % 256
+sum-byte f b a r p q = omega (arith, sum-check f b)
+
+sum-kind : (kind : ℕ) → kind < 256 → kind ≡ sumOf (kind ∷ []) % 256
+unfolding sumOf
+sum-kind kind h = omega arith
+
+-- part by part
+pub unit-sum : (unit color parent place single a b c d r : ℕ)
+    → a ≡ (UNIT + unit / 256 % 256 + unit % 256) % 256
+    → b ≡ (a + color / 256 % 256 + color % 256) % 256
+    → c ≡ (b + parent / 256 % 256 + parent % 256) % 256
+    → d ≡ (c + place / 256 % 256 + place % 256) % 256
+    → r ≡ (d + single) % 256
+    → r ≡ sumOf (unitBody unit color parent place single) % 256
+unit-sum unit color parent place single a b c d r ea eb ec ed er =
+    let f : List ℕ = UNIT ∷ wordBytes unit in
+    let g : List ℕ = f ++ wordBytes color in
+    let h : List ℕ = g ++ wordBytes parent in
+    sum-byte (h ++ wordBytes place) single d r
+    (sum-word h place c d (sum-word g parent b c (sum-word f color a b (sum-word (UNIT ∷ []) unit UNIT a (sum-kind UNIT (omega arith)) ea) eb) ec) ed)
+    er
+
+pub label-sum : (position label lone a b r : ℕ)
+    → a ≡ (LABEL + position / 256 % 256 + position % 256) % 256
+    → b ≡ (a + label / 256 % 256 + label % 256) % 256
+    → r ≡ (b + lone) % 256
+    → r ≡ sumOf (labelBody position label lone) % 256
+label-sum position label lone a b r ea eb er =
+    let f : List ℕ = LABEL ∷ wordBytes position in
+    sum-byte (f ++ wordBytes label) lone b r (sum-word f label a b (sum-word (LABEL ∷ []) position LABEL a (sum-kind LABEL (omega arith)) ea) eb) er

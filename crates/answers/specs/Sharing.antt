@@ -23,7 +23,7 @@ pub lone-sharing : (m : ℕ) (label : List ℕ) (j : ℕ) → eqb (sharing m lab
 unfolding sharing lone
 lone-sharing m label j = refl
 
-pub sharing-le : (m : ℕ) (label : List ℕ) (x : ℕ) → sharing m label x ≤ m
+sharing-le : (m : ℕ) (label : List ℕ) (x : ℕ) → sharing m label x ≤ m
 unfolding sharing
 sharing-le m label x = count-le m (λ (k : ℕ). eqb (at label k) x)
 

@@ -10,10 +10,7 @@ mod units;
 
 pub use flags::count_flags;
 pub use lines::head_line;
-pub use lines::link_line;
-pub use lines::refusal_line;
 pub use lines::tail_line;
-pub use lines::unit_line;
 pub use links::lone;
 pub use links::lones;
 pub use listing::link_lines;

@@ -3,7 +3,7 @@ ghost use mathlib.Core.Path.{_≡_};
 ghost use Prim.Native.Nat.{_≤_};
 ghost use lib.ListN.{length};
 ghost use Rattle.frames.specs.Frame.{lineOver};
-ghost use Rattle.answers.specs.Lines.{unitBody, linkBody, linesOver};
+ghost use Rattle.answers.specs.Lines.{unitRow, labelRow, linesOver};
 ghost use Rattle.answers.specs.Pairs.{pairTable};
 use super::pairs;
 use super::rows;
@@ -19,7 +19,7 @@ fn unit_at<'a>(
     out: &mut [u8],
 )
     requires { ⌜ (now pairs ≡ pairTable) × (23 ≤ length (now out)) ⌝ }
-    ensures { λ _. ⌜ now (out .exit) ≡ lineOver (unitBody (now (color .entry)) (now (parent .entry)) (now (place .entry)) (now (singles .entry)) v) (now (out .entry)) ⌝ }
+    ensures { λ _. ⌜ now (out .exit) ≡ lineOver (unitRow (now (color .entry)) (now (parent .entry)) (now (place .entry)) (now (singles .entry)) v) (now (out .entry)) ⌝ }
 {
     let i = v as usize;
     let c = slices::word(color, i);
@@ -38,7 +38,7 @@ pub fn unit_lines<'a>(
     singles: &'a [u8],
     out: &mut [u8],
 )
-    ensures { λ _. ⌜ now (out .exit) ≡ linesOver 23 units (unitBody (now (color .entry)) (now (parent .entry)) (now (place .entry)) (now (singles .entry))) (now (out .entry)) ⌝ }
+    ensures { λ _. ⌜ now (out .exit) ≡ linesOver 23 units (unitRow (now (color .entry)) (now (parent .entry)) (now (place .entry)) (now (singles .entry))) (now (out .entry)) ⌝ }
 {
     if out.len() < 23 * (units as usize) {
         return;
@@ -55,17 +55,17 @@ pub fn unit_lines<'a>(
 // The line of link `j`.
 fn link_at<'a>(pairs: &'a [u16], j: u16, label: &'a [u16], lones: &'a [u8], out: &mut [u8])
     requires { ⌜ (now pairs ≡ pairTable) × (15 ≤ length (now out)) ⌝ }
-    ensures { λ _. ⌜ now (out .exit) ≡ lineOver (linkBody (now (label .entry)) (now (lones .entry)) j) (now (out .entry)) ⌝ }
+    ensures { λ _. ⌜ now (out .exit) ≡ lineOver (labelRow (now (label .entry)) (now (lones .entry)) j) (now (out .entry)) ⌝ }
 {
     let i = j as usize;
     let x = slices::word(label, i);
     let lone = slices::byte(lones, i);
-    rows::link_row(pairs, j, x, lone, out);
+    rows::label_row(pairs, j, x, lone, out);
 }
 
 // The lines of all links; nothing where they do not fit.
 pub fn link_lines<'a>(links: u16, label: &'a [u16], lones: &'a [u8], out: &mut [u8])
-    ensures { λ _. ⌜ now (out .exit) ≡ linesOver 15 links (linkBody (now (label .entry)) (now (lones .entry))) (now (out .entry)) ⌝ }
+    ensures { λ _. ⌜ now (out .exit) ≡ linesOver 15 links (labelRow (now (label .entry)) (now (lones .entry))) (now (out .entry)) ⌝ }
 {
     if out.len() < 15 * (links as usize) {
         return;

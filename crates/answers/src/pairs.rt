@@ -55,16 +55,11 @@ pub(crate) fn put_word(pairs: &[u16], w: u16, at: usize, out: &mut [u8])
     put(pairs, digits::low_byte(w), at + 2, out);
 }
 
-// The byte that brings a sum to 0 in eight bits, and the line feed, at `at`.
-pub(crate) fn close(pairs: &[u16], sum: u16, at: usize, out: &mut [u8])
+// The byte that brings a sum to 0, and the line feed, at `at`.
+pub(crate) fn close(pairs: &[u16], sum: u8, at: usize, out: &mut [u8])
     requires { ⌜ (now pairs ≡ pairTable) × (at + 3 ≤ length (now out)) ⌝ }
-    ensures { λ _. ⌜ now (out .exit) ≡ set (hexAt at ((256 - sum % 256) % 256) (now (out .entry))) (at + 2) LF ⌝ }
+    ensures { λ _. ⌜ now (out .exit) ≡ set (hexAt at ((256 - sum) % 256) (now (out .entry))) (at + 2) LF ⌝ }
 {
-    put(
-        pairs,
-        std::num::wrapping_sub_u8(0, digits::low_byte(sum)),
-        at,
-        out,
-    );
+    put(pairs, std::num::wrapping_sub_u8(0, sum), at, out);
     out[at + 2] = line::LF;
 }

@@ -1,7 +1,7 @@
 -- The report laid down over a slice: the first line, then each part to the lent rest past those before it.
 use mathlib.Core.Path.{_≡_, refl, sym, ap, _∙_}
 use mathlib.Core.Bool.{cond, _&&_}
-use mathlib.Core.List.{List, _∷_, _++_}
+use mathlib.Core.List.{List, _++_}
 use Prim.Native.Nat.{ℕ, _+_, _*_, _≤_, _<_}
 use native.Mathlib.Omega.{arith}
 use lib.Dec.{leb}
@@ -11,11 +11,12 @@ use Rattle.lists.specs.Lent.{lent, back, back-next}
 use Rattle.lists.specs.Gathered.{gathered-cong, gathered}
 use Rattle.lists.specs.Folds.{count}
 use Rattle.table.specs.Table.{maxUnits, maxLinks}
-use Rattle.frames.specs.Frame.{wordBytes, lineOf, lineOver}
+use Rattle.frames.specs.Frame.{lineOf, lineOver}
+use Rattle.frames.specs.Bodies.{headBody, tailBody}
 use Rattle.frames.specs.FrameRests.{lineOver-fits, line-next}
 use Rattle.rules.specs.Labels.{single, lone}
 use Rattle.answers.specs.Flags.{flagTable, flag-at}
-use Rattle.answers.specs.Lines.{unitBody, linkBody, linesOf, linesOver, linesOver-fits}
+use Rattle.answers.specs.Lines.{unitRow, labelRow, linesOf, linesOver, linesOver-fits}
 use Rattle.survey.specs.declared.state.Survey.{Survey}
 use Rattle.survey.specs.State.{units, links}
 use Rattle.survey.specs.Report.{unitSingle, linkLone, headLine, unitLine, linkLine, tailLine, report, reportLength, reportOver}
@@ -33,10 +34,10 @@ report-fits s out n m h =
 
 -- a slice after the lines of all units, and after those of all links
 abbrev pub unitLines : ℕ → ℕ → List ℕ → List ℕ → List ℕ → List ℕ → List ℕ → List ℕ → List ℕ
-unitLines n m ends label color parent place out = linesOver 23 n (unitBody color parent place (flagTable maxUnits n (single m ends label))) out
+unitLines n m ends label color parent place out = linesOver 23 n (unitRow color parent place (flagTable maxUnits n (single m ends label))) out
 
 abbrev pub linkLines : ℕ → List ℕ → List ℕ → List ℕ
-linkLines m label out = linesOver 15 m (linkBody label (flagTable maxLinks m (lone m label))) out
+linkLines m label out = linesOver 15 m (labelRow label (flagTable maxLinks m (lone m label))) out
 
 abbrev pub singleFlags : Survey → List ℕ
 singleFlags s = flagTable maxUnits (units s) (unitSingle s)
@@ -46,7 +47,7 @@ loneFlags s = flagTable maxLinks (links s) (linkLone s)
 
 module _ (s : Survey) (out : List ℕ) (n : units s ≤ maxUnits) (fits : 23 * units s ≤ length out) where
   abbrev unitSays : ℕ → List ℕ
-  unitSays = unitBody (s .components .color) (s .tree .parent) (s .order .pre) (singleFlags s)
+  unitSays = unitRow (s .components .color) (s .tree .parent) (s .order .pre) (singleFlags s)
 
   units-same : linesOf (units s) unitSays ≡ gathered (units s) (unitLine s)
   unfolding unitLine
@@ -54,13 +55,13 @@ module _ (s : Survey) (out : List ℕ) (n : units s ≤ maxUnits) (fits : 23 * u
       gathered-cong (units s) (λ (v : ℕ). lineOf (unitSays v)) (unitLine s)
       (λ (v : ℕ) (l : v < units s). rw (flag-at maxUnits (units s) (unitSingle s) v l (omega arith)))
 
-  units-laid : linesOver 23 (units s) (unitBody (s .components .color) (s .tree .parent) (s .order .pre) (singleFlags s)) out
+  units-laid : linesOver 23 (units s) (unitRow (s .components .color) (s .tree .parent) (s .order .pre) (singleFlags s)) out
       ≡ gathered (units s) (unitLine s) ++ drop (23 * units s) out
   units-laid = linesOver-fits 23 (units s) unitSays out fits ∙ ap (λ (l : List ℕ). l ++ drop (23 * units s) out) units-same
 
 module _ (s : Survey) (out : List ℕ) (m : links s ≤ maxLinks) (fits : 15 * links s ≤ length out) where
   abbrev linkSays : ℕ → List ℕ
-  linkSays = linkBody (s .labels .label) (loneFlags s)
+  linkSays = labelRow (s .labels .label) (loneFlags s)
 
   links-same : linesOf (links s) linkSays ≡ gathered (links s) (linkLine s)
   unfolding linkLine
@@ -68,16 +69,16 @@ module _ (s : Survey) (out : List ℕ) (m : links s ≤ maxLinks) (fits : 15 * l
       gathered-cong (links s) (λ (j : ℕ). lineOf (linkSays j)) (linkLine s)
       (λ (j : ℕ) (l : j < links s). rw (flag-at maxLinks (links s) (linkLone s) j l (omega arith)))
 
-  links-laid : linesOver 15 (links s) (linkBody (s .labels .label) (loneFlags s)) out ≡ gathered (links s) (linkLine s) ++ drop (15 * links s) out
+  links-laid : linesOver 15 (links s) (labelRow (s .labels .label) (loneFlags s)) out ≡ gathered (links s) (linkLine s) ++ drop (15 * links s) out
   links-laid = linesOver-fits 15 (links s) linkSays out fits ∙ ap (λ (l : List ℕ). l ++ drop (15 * links s) out) links-same
 
 -- ---- the parts one after the other
 
 abbrev pub headSays : Survey → List ℕ
-headSays s = 0x11 ∷ wordBytes (s .clock .rounds) ++ wordBytes (s .clock .requests)
+headSays s = headBody (s .clock .rounds) (s .clock .requests)
 
 abbrev pub tailSays : Survey → List ℕ
-tailSays s = 0x1F ∷ wordBytes (count (units s) (unitSingle s)) ++ wordBytes (count (links s) (linkLone s))
+tailSays s = tailBody (count (units s) (unitSingle s)) (count (links s) (linkLone s))
 
 abbrev pub unitEnd : Survey → ℕ
 unitEnd s = 13 + 23 * units s
@@ -92,9 +93,9 @@ over-rest at f xs = back at xs (f (lent at xs))
 -- the four parts, of n units and m links, after r rounds and q requests, each laid down over the rest past those before it
 unfoldable pub partsDown : ℕ → ℕ → ℕ → ℕ → List ℕ → List ℕ → List ℕ → List ℕ → List ℕ → List ℕ → List ℕ
 partsDown n m r q ends label color parent place out =
-    over-rest (13 + 23 * n + 15 * m) (lineOver (0x1F ∷ wordBytes (count n (single m ends label)) ++ wordBytes (count m (lone m label))))
+    over-rest (13 + 23 * n + 15 * m) (lineOver (tailBody (count n (single m ends label)) (count m (lone m label))))
     (over-rest (13 + 23 * n) (linkLines m label)
-    (over-rest 13 (unitLines n m ends label color parent place) (lineOver (0x11 ∷ wordBytes r ++ wordBytes q) out)))
+    (over-rest 13 (unitLines n m ends label color parent place) (lineOver (headBody r q) out)))
 
 -- the same where it fits and no count is past its table; else the slice as it was
 unfoldable pub partsOver : ℕ → ℕ → ℕ → ℕ → List ℕ → List ℕ → List ℕ → List ℕ → List ℕ → List ℕ → List ℕ
@@ -123,10 +124,10 @@ module _ (n m r q : ℕ) (ends label color parent place out : List ℕ) where
 
 -- as the calls leave them: z after the first line, u, l and t what the other parts make of the rest that they are lent
 pub parts-down : (n m r q : ℕ) (ends label color parent place out z u l t : List ℕ) (singles lones : ℕ)
-    → z ≡ lineOver (0x11 ∷ wordBytes r ++ wordBytes q) out
+    → z ≡ lineOver (headBody r q) out
     → u ≡ unitLines n m ends label color parent place (lent 13 z)
     → l ≡ linkLines m label (lent (13 + 23 * n) (back 13 z u))
-    → t ≡ lineOver (0x1F ∷ wordBytes singles ++ wordBytes lones) (lent (13 + 23 * n + 15 * m) (back (13 + 23 * n) (back 13 z u) l))
+    → t ≡ lineOver (tailBody singles lones) (lent (13 + 23 * n + 15 * m) (back (13 + 23 * n) (back 13 z u) l))
     → singles ≡ count n (single m ends label) → lones ≡ count m (lone m label)
     → back (13 + 23 * n + 15 * m) (back (13 + 23 * n) (back 13 z u) l) t ≡ partsDown n m r q ends label color parent place out
 unfolding partsDown

@@ -1,28 +1,60 @@
 -- A survey file (document 01): kind 01 the unit count, a kind 02 for each link with its two ends, kind 0F the number of links.
 use mathlib.Core.Bool.{Bool, true, false, cond, not, _&&_, _||_}
 use mathlib.Core.List.{List, [], _∷_, _++_}
-use Prim.Native.Nat.{ℕ, zero, suc, _+_, _*_, _%_}
+use Prim.Native.Nat.{ℕ, _+_, _*_, _%_}
 use lib.Dec.{ltb, eqb}
-use lib.ListN.{length, getD, drop}
+use lib.ListN.{length, getD}
 use Rattle.table.specs.Refusals.{firstOf, written}
 use Rattle.table.specs.Table.{linkCount, maxLinks, tableTests}
-use Rattle.frames.specs.Frame.{LF, wordBytes, wordOf, wordAt, lineOf, allDigits, bytesOf, sumOf}
+use Rattle.frames.specs.Frame.{LF, wordOf, lineOf, allDigits, bytesOf, sumOf}
+use Rattle.frames.specs.Bodies.{unitsBody, linkBody, endBody}
 use Rattle.frames.specs.Kinds.{UNITS, LINK, END, frameBytes}
 use Rattle.files.specs.declared.Reading.{Reading}
 use Rattle.files.specs.declared.Reading.the-variants.{Read}
 use Rattle.files.specs.declared.Writing.{Writing}
 use Rattle.files.specs.declared.Writing.the-variants.{Written}
 
+-- ---- replies
+
+-- the reply of a call with the refusal k, 0 for none, and with these values where none is
+abbrev pub readingOf : ℕ → ℕ → ℕ → Reading
+readingOf k units links = cond (eqb k 0) (Read units links) (Reading.Refused k)
+
+abbrev pub writingOf : ℕ → ℕ → Writing
+writingOf k characters = cond (eqb k 0) (Written characters) (Writing.Refused k)
+
+-- document 01's number of a reply: 0 where the call was not refused
+abbrev pub readingNumber : Reading → ℕ
+readingNumber (Read units links) = 0
+readingNumber (Reading.Refused k) = k
+
+abbrev pub writingNumber : Writing → ℕ
+writingNumber (Written characters) = 0
+writingNumber (Writing.Refused k) = k
+
+-- its values: only the number comes back with a refusal
+abbrev pub readingValues : Reading → List ℕ
+readingValues (Read units links) = units ∷ links ∷ []
+readingValues (Reading.Refused k) = []
+
+abbrev pub writingValues : Writing → List ℕ
+writingValues (Written characters) = characters ∷ []
+writingValues (Writing.Refused k) = []
+
+-- the values that come back with refusal k
+abbrev pub unless : ℕ → List ℕ → List ℕ
+unless k values = cond (eqb k 0) values []
+
 -- ---- written
 
 unfoldable pub linkLines : List ℕ → List ℕ
 linkLines [] = []
 linkLines (a ∷ []) = []
-linkLines (a ∷ b ∷ t) = lineOf (LINK ∷ wordBytes a ++ wordBytes b) ++ linkLines t
+linkLines (a ∷ b ∷ t) = lineOf (linkBody a b) ++ linkLines t
 
 -- the file of a unit count and a table of links
 unfoldable pub fileOf : ℕ → List ℕ → List ℕ
-fileOf n t = lineOf (UNITS ∷ wordBytes n) ++ linkLines t ++ lineOf (END ∷ wordBytes (linkCount t))
+fileOf n t = lineOf (unitsBody n) ++ linkLines t ++ lineOf (endBody (linkCount t))
 
 -- its number of characters
 abbrev pub fileLength : ℕ → ℕ
@@ -34,13 +66,7 @@ writeRefusal n t places = firstOf (tableTests n t ++ (14, ltb places (fileLength
 
 -- the reply, and the slice after the call
 unfoldable pub writeReply : ℕ → List ℕ → ℕ → Writing
-writeReply n t places =
-    cond (eqb (writeRefusal n t places) 0) (Written (fileLength (linkCount t))) (Writing.Refused (writeRefusal n t places))
-
--- document 01's number of a reply: 0 where the call was not refused
-abbrev pub writingNumber : Writing → ℕ
-writingNumber (Written characters) = 0
-writingNumber (Writing.Refused k) = k
+writeReply n t places = writingOf (writeRefusal n t places) (fileLength (linkCount t))
 
 unfoldable pub writtenFile : ℕ → List ℕ → List ℕ → List ℕ
 writtenFile n t out = written (writeRefusal n t (length out)) (fileOf n t) out
@@ -114,11 +140,6 @@ unfoldable pub endsIn : List Line → List ℕ
 endsIn [] = []
 endsIn (l ∷ ls) = let later = endsIn ls in cond (eqb (kindOf l) LINK) (numberAt l 1 ∷ numberAt l 3 ∷ later) later
 
--- the ends in m lines of links, thirteen characters each
-unfoldable pub endsFrom : ℕ → List ℕ → List ℕ
-endsFrom zero s = []
-endsFrom (suc m) s = wordAt s 2 ∷ wordAt s 6 ∷ endsFrom m (drop 13 s)
-
 -- reading lines into a slice with this many places: 1, 2, 3, 6, 14, each judged over the whole input
 unfoldable pub readRefusal : List Line → ℕ → ℕ
 readRefusal ls places =
@@ -132,14 +153,7 @@ readRefusal ls places =
 
 -- the reply to reading characters into a slice with this many places, and the slice after the call
 unfoldable pub readReply : List ℕ → ℕ → Reading
-readReply s places =
-    cond (eqb (readRefusal (linesOf s) places) 0) (Read (unitsIn (linesOf s)) (linkFrames (linesOf s)))
-    (Reading.Refused (readRefusal (linesOf s) places))
-
--- document 01's number of a reply: 0 where the call was not refused
-abbrev pub readingNumber : Reading → ℕ
-readingNumber (Read units links) = 0
-readingNumber (Reading.Refused k) = k
+readReply s places = readingOf (readRefusal (linesOf s) places) (unitsIn (linesOf s)) (linkFrames (linesOf s))
 
 unfoldable pub readWords : List ℕ → List ℕ → List ℕ
 readWords s words = written (readRefusal (linesOf s) (length words)) (endsIn (linesOf s)) words

@@ -1,5 +1,4 @@
--- Why reading or writing a file is refused, in the words of document 01, and that each test decides its cause. So a reply is number k exactly
--- when cause k holds and no earlier one does, and a call is refused exactly when some cause holds.
+-- Why reading or writing a file is refused, in the words of document 01, and that each test decides its cause: the reasons of both calls, in order.
 use mathlib.Core.Path.{_≡_, refl, sym, ap, _∙_}
 use mathlib.Core.Bool.{Bool, true, false, not, _&&_, false≢true, true≢false}
 use mathlib.Core.Logic.{_⊎_, inl, inr, _↔_}
@@ -13,7 +12,7 @@ use lib.ListN.{length, getD}
 use borrow.Author.Tests.{eq-eqb, ne-eqb, eqb-true, eqb-false, ltb-true, lt-ltb, not-true, not-false}
 use Rattle.lists.specs.Tests.{either, or-cases, or-left, or-right, and-left, and-right, and-true, not-both, refuted}
 use Rattle.table.specs.Refusals.{firstOf}
-use Rattle.table.specs.RefusalLaws.{Reason, FirstCause, SomeCause, tests, first-cause, some-cause}
+use Rattle.table.specs.RefusalLaws.{Reason, tests}
 use Rattle.table.specs.Table.{linkCount, maxLinks}
 use Rattle.table.specs.TableCauses.{tableReasons}
 use Rattle.frames.specs.Frame.{digitValue, allDigits, bytesOf, sumOf}
@@ -22,13 +21,13 @@ use Rattle.frames.specs.Kinds.{UNITS, LINK, END, frameBytes}
 use Rattle.files.specs.File.{Line, kindOf, whole, faultyLine, inOrderAfter, inOrder, linkFrames, statedCount, readRefusal, fileLength, writeRefusal}
 
 -- line i
-abbrev pub lineAt : List Line → ℕ → Line
+abbrev lineAt : List Line → ℕ → Line
 lineAt ls i = getD ls i ([], true)
 
 -- ---- 1: a faulty line
 
 -- no kind of a file
-abbrev pub UnknownKind : ℕ → Type 0
+abbrev UnknownKind : ℕ → Type 0
 UnknownKind k = (k ≡ UNITS → ⊥) × (k ≡ LINK → ⊥) × (k ≡ END → ⊥)
 
 -- what can be wrong with a line
@@ -40,7 +39,7 @@ pub data Fault (l : Line) : Type 0 where
   wrongLength : (length (l .0) ≡ 2 * frameBytes (kindOf l) → ⊥) → Fault l
   wrongSum : (sumOf (bytesOf (l .0)) % 256 ≡ 0 → ⊥) → Fault l
 
-abbrev pub FaultyLine : List Line → Type 0
+abbrev FaultyLine : List Line → Type 0
 FaultyLine ls = (i : ℕ) × (i < length ls) × Fault (lineAt ls i)
 
 unknown-bytes : (k : ℕ) → UnknownKind k → frameBytes k ≡ 0
@@ -155,15 +154,15 @@ faulty-exact ls = (faults-forth ls, λ f. faults-back ls (f .0) (f .1) (f .2))
 
 -- ---- 2: the order of the frames
 
-abbrev pub kindAt : List Line → ℕ → ℕ
+abbrev kindAt : List Line → ℕ → ℕ
 kindAt ls i = kindOf (lineAt ls i)
 
 -- m times 02, then one 0F, and nothing more
-abbrev pub LinksThenEnd : List Line → ℕ → Type 0
+abbrev LinksThenEnd : List Line → ℕ → Type 0
 LinksThenEnd ls m = (length ls ≡ m + 1) × ((i : ℕ) → i < m → kindAt ls i ≡ LINK) × (kindAt ls m ≡ END)
 
 -- one 01, any number m of 02, one 0F
-abbrev pub InOrder : List Line → Type 0
+abbrev InOrder : List Line → Type 0
 InOrder ls =
     (m : ℕ) × (length ls ≡ m + 2) × (kindAt ls 0 ≡ UNITS) × ((i : ℕ) → i < m → kindAt ls (i + 1) ≡ LINK) × (kindAt ls (m + 1) ≡ END)
 
@@ -257,15 +256,6 @@ pub readRefusal-tests : (ls : List Line) (places : ℕ) → readRefusal ls place
 unfolding readRefusal readReasons
 readRefusal-tests ls places = refl
 
--- the reply is k exactly when cause k holds and no earlier one does
-pub read-first-cause : (ls : List Line) (places k : ℕ) → (k ≡ 0 → ⊥) → (readRefusal ls places ≡ k) ↔ FirstCause (readReasons ls places) k
-read-first-cause ls places k h = rw readRefusal-tests (first-cause (readReasons ls places) k h)
-
--- reading is refused exactly when some cause holds
-pub read-some-cause : (ls : List Line) (places : ℕ) → (readRefusal ls places ≡ 0 → ⊥) ↔ SomeCause (readReasons ls places)
-unfolding readReasons
-read-some-cause ls places = rw readRefusal-tests (some-cause (readReasons ls places) (omega arith))
-
 -- ---- writing: 4 to 9, 14
 
 unfoldable pub writeReasons : ℕ → List ℕ → ℕ → List Reason
@@ -282,11 +272,3 @@ writeReasons n t places =
 pub writeRefusal-tests : (n : ℕ) (t : List ℕ) (places : ℕ) → writeRefusal n t places ≡ firstOf (tests (writeReasons n t places))
 unfolding writeRefusal writeReasons tableReasons
 writeRefusal-tests n t places = refl
-
-pub write-first-cause : (n : ℕ) (t : List ℕ) (places k : ℕ) → (k ≡ 0 → ⊥)
-    → (writeRefusal n t places ≡ k) ↔ FirstCause (writeReasons n t places) k
-write-first-cause n t places k h = rw writeRefusal-tests (first-cause (writeReasons n t places) k h)
-
-pub write-some-cause : (n : ℕ) (t : List ℕ) (places : ℕ) → (writeRefusal n t places ≡ 0 → ⊥) ↔ SomeCause (writeReasons n t places)
-unfolding writeReasons tableReasons
-write-some-cause n t places = rw writeRefusal-tests (some-cause (writeReasons n t places) (omega arith))

@@ -1,10 +1,8 @@
 pub mod File
 pub mod LineLaws
-pub mod OrderLaws
-pub mod ShapeLaws
+pub mod LineSteps
+pub mod Walk
 pub mod Marks
-pub mod Regular
-pub mod PlaceLaws
 pub mod ReadLaws
 pub mod WriteLaws
 pub mod WrittenLaws
@@ -12,5 +10,6 @@ pub mod RewrittenLaws
 pub mod FileCauses
 pub mod RoundTrip
 pub mod TripLaws
+pub mod Replies
 pub mod Example
 pub mod LinesRight

@@ -12,10 +12,10 @@ use lib.Seq.{take-at, getD-at, length-take-le, getD-take}
 use borrow.Author.Tests.{eq-eqb, ne-eqb, eqb-true, eqb-false, not-true}
 use Rattle.lists.specs.Tests.{either, and-left, and-right, not-both}
 use Rattle.lists.specs.Rests.{rest-one}
-use Rattle.frames.specs.Frame.{LF, digitValue, allDigits, bytesOf, sumOf, lineFront}
+use Rattle.frames.specs.Frame.{LF, digitValue, byteAt, wordAt, allDigits, bytesOf, sumOf, lineFront}
 use Rattle.frames.specs.FrameLaws.{digit-no-feed, bytes-at}
 use Rattle.frames.specs.Kinds.{frameBytes, kindFront, fileFront}
-use Rattle.files.specs.File.{Line, prepend, linesOf, whole, faultyLine}
+use Rattle.files.specs.File.{Line, prepend, linesOf, kindOf, numberAt, whole, faultyLine}
 
 -- ---- the first line
 
@@ -188,6 +188,23 @@ front-lines s h =
     let f = front-says s h in
     ap linesOf (f .split) ∙ lines-more (take (2 * frameBytes (kindFront s)) s) (pastLine s) (f .body .digits)
 
+pub front-kind : (s : List ℕ) → fileFront s ≡ true → kindOf (frontLine s) ≡ kindFront s
+front-kind s h = front-says s h .kind
+
+-- a byte of the first characters
+front-byte : (s : List ℕ) (n j : ℕ) → n ≤ length s → 2 * j + 1 < n → getD (bytesOf (take n s)) j 0 ≡ byteAt s (2 * j)
+front-byte s n j l h =
+    let long : length (take n s) ≡ n = length-take-le n s l in
+    bytes-at (take n s) j (omega arith) ∙ rw (getD-take n s (2 * j) 0 (omega arith), getD-take n s (2 * j + 1) 0 h)
+
+-- a number of the first line stands in its characters
+pub front-word : (s : List ℕ) → fileFront s ≡ true → (i : ℕ) → i + 1 < frameBytes (kindFront s) → numberAt (frontLine s) i ≡ wordAt s (2 * i)
+front-word s h i k =
+    let n = 2 * frameBytes (kindFront s) in
+    let e : 2 * (i + 1) ≡ 2 * i + 2 = omega arith in
+    let fits : n ≤ length s = omega (arith, front-says s h .short) in
+    rw (front-byte s n i fits (omega arith), front-byte s n (i + 1) fits (omega arith), e)
+
 pub faulty-later : (s : List ℕ) → fileFront s ≡ true → faultyLine (linesOf s) ≡ faultyLine (linesOf (pastLine s))
 unfolding faultyLine
 faulty-later s h =
@@ -211,11 +228,6 @@ faulty-here (c ∷ s) l h = go (first-line c s)
     go : FirstLine (c ∷ s) → faultyLine (linesOf (c ∷ s)) ≡ true
     go (ended p rest e f) = faulty-ended (c ∷ s) p rest h e f
     go (unended p f) = rw f
-
-pub faulty-none : (s : List ℕ) → length s ≤ 0 → faultyLine (linesOf s) ≡ false
-unfolding faultyLine linesOf
-faulty-none [] l = refl
-faulty-none (c ∷ s) l = absurd (omega arith)
 
 -- where no line is faulty, characters begin with a file's frame
 pub sound-front : (s : List ℕ) → faultyLine (linesOf s) ≡ false → 0 < length s → fileFront s ≡ true

@@ -14,7 +14,7 @@ use Rattle.frames.specs.Frame.{LF}
 use Rattle.files.specs.File.{Line, prepend, linesOf}
 
 -- the characters of lines
-abbrev pub joined : List Line → List ℕ
+abbrev joined : List Line → List ℕ
 joined [] = []
 joined (l ∷ ls) = l .0 ++ (cond (l .1) (LF ∷ []) [] ++ joined ls)
 
@@ -23,7 +23,7 @@ unfolding prepend
 joined-prepend c [] = refl
 joined-prepend c (l ∷ ls) = refl
 
-pub lines-joined : (s : List ℕ) → joined (linesOf s) ≡ s
+lines-joined : (s : List ℕ) → joined (linesOf s) ≡ s
 unfolding linesOf
 lines-joined [] = refl
 lines-joined (c ∷ s) = go (lines-joined s) (ℕ-discrete c LF)
@@ -33,11 +33,11 @@ lines-joined (c ∷ s) = go (lines-joined s) (ℕ-discrete c LF)
     go later (no n) = rw (ne-eqb c LF n, joined-prepend c (linesOf s), later)
 
 -- no character is a line feed
-abbrev pub NoFeed : List ℕ → Type 0
+abbrev NoFeed : List ℕ → Type 0
 NoFeed p = (j : ℕ) → j < length p → getD p j 0 ≡ LF → ⊥
 
 -- what a line is, and what may follow it
-abbrev pub Cut : List Line → Type 0
+abbrev Cut : List Line → Type 0
 Cut [] = Unit
 Cut (l ∷ ls) = NoFeed (l .0) × (l .1 ≡ false → (ls ≡ []) × (0 < length (l .0))) × Cut ls
 
@@ -53,7 +53,7 @@ unfolding prepend
 cut-prepend c [] n h = (no-feed-more c [] n no-feed-none, λ e. (refl, omega arith), tt)
 cut-prepend c (l ∷ ls) n h = (no-feed-more c (l .0) n (h .0), λ e. (h .1 e .0, omega arith), h .2)
 
-pub lines-cut : (s : List ℕ) → Cut (linesOf s)
+lines-cut : (s : List ℕ) → Cut (linesOf s)
 unfolding linesOf
 lines-cut [] = tt
 lines-cut (c ∷ s) = go (lines-cut s) (ℕ-discrete c LF)
@@ -61,3 +61,11 @@ lines-cut (c ∷ s) = go (lines-cut s) (ℕ-discrete c LF)
     go : Cut (linesOf s) → Dec (c ≡ LF) → Cut (cond (eqb c LF) (([], true) ∷ linesOf s) (prepend c (linesOf s)))
     go later (yes e) = rw (eq-eqb c LF e) (no-feed-none, λ q. absurd (true≢false q), later)
     go later (no n) = rw (ne-eqb c LF n) (cut-prepend c (linesOf s) n later)
+
+pub record LinesOf (s : List ℕ) (ls : List Line) : Type 0 where
+  pub whole : joined ls ≡ s
+  pub cut : Cut ls
+
+-- of every input
+pub lines-right : (s : List ℕ) → LinesOf s (linesOf s)
+lines-right s = record { whole = lines-joined s; cut = lines-cut s }

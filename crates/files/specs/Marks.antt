@@ -1,46 +1,38 @@
--- Characters as digits, by marks: a digit's mark is its value, that of any other character more than eight bytes of digits sum to. So one
--- sum tells whether all characters are digits, and what their bytes sum to.
+-- Characters as digits, by a table: a character's mark is its value as a digit, or 16, a bit that no digit has. So the marks of a line, joined
+-- bit by bit, tell whether all its characters are digits.
 use mathlib.Core.Path.{_≡_, refl, sym, ap, subst⁻¹, _∙_}
-use mathlib.Core.Bool.{true, cond}
-use mathlib.Core.List.{List, [], _∷_}
-use Prim.Native.Nat.{ℕ, _+_, _*_, _-_, _%_, _≤_, _<_}
+use mathlib.Core.Bool.{Bool, true, false, cond, _&&_}
+use mathlib.Core.List.{List}
+use Prim.Native.Nat.{ℕ, _+_, _%_, _≤_, _<_}
 use native.Mathlib.Decide.{ℕ-discrete, decLt}
 use native.Mathlib.Omega.{arith}
 use lib.Dec.{ltb}
-use lib.ListN.{length, getD, drop, set, replicate, length-replicate, getD-replicate, length-set, length-drop}
+use lib.ListN.{length, getD, drop, set, replicate, length-replicate, getD-replicate, length-set}
+use lib.Bits.{bitOr, or-lt, or-add-and, and-le-l, and-le-r}
 use lib.Seq.{getD-set-same, getD-set-other}
 use borrow.Author.Tests.{lt-ltb, le-ltb}
-use Rattle.lists.specs.Rests.{rest-two}
-use Rattle.frames.specs.Frame.{digitOf, digitValue, byteOf, wordAt, allDigits, bytesOf, sumOf}
+use Rattle.frames.specs.Frame.{digitOf, digitValue, byteAt, allDigits, bytesOf, sumOf}
 use Rattle.frames.specs.FrameLaws.{digit-back, digit-forth, value-le}
+use Rattle.frames.specs.FrameRests.{digits-later, digits-end, digitSum-later}
 
--- the mark of a character where only the digits below d are told from others: 2,064 is 16 in eight bits, as the value of no digit
-abbrev pub markBelow : ℕ → ℕ → ℕ
-markBelow d c = cond (ltb (digitValue c) d) (digitValue c) 2064
+-- a table of the marks of all characters
+abbrev pub Marks : List ℕ → Type 0
+Marks t = (length t ≡ 256) × ((c : ℕ) → c < 256 → getD t c 0 ≡ digitValue c)
 
-abbrev pub markOf : ℕ → ℕ
-markOf c = markBelow 16 c
+-- the same where only the digits below d are told from others
+abbrev markBelow : ℕ → ℕ → ℕ
+markBelow d c = cond (ltb (digitValue c) d) (digitValue c) 16
 
--- a table of such marks
 abbrev pub MarksBelow : ℕ → List ℕ → Type 0
 MarksBelow d t = (length t ≡ 256) × ((c : ℕ) → c < 256 → getD t c 0 ≡ markBelow d c)
 
-abbrev pub Marks : List ℕ → Type 0
-Marks t = MarksBelow 16 t
-
--- what pairs of characters sum to as bytes, each character by its mark
-unfoldable pub marked : List ℕ → ℕ
-marked [] = 0
-marked (c ∷ []) = 0
-marked (c ∷ d ∷ s) = 16 * markOf c + markOf d + marked s
-
 -- ---- the table, digit by digit
 
-below-none : (c : ℕ) → 2064 ≡ markBelow 0 c
+below-none : (c : ℕ) → 16 ≡ markBelow 0 c
 below-none c = rw (le-ltb (digitValue c) 0 (omega arith))
 
-pub marks-none : MarksBelow 0 (replicate 256 2064)
-marks-none = (length-replicate {A = ℕ} 256 2064, λ c h. getD-replicate {A = ℕ} 256 c 2064 0 h ∙ below-none c)
+pub marks-none : MarksBelow 0 (replicate 256 16)
+marks-none = (length-replicate {A = ℕ} 256 16, λ c h. getD-replicate {A = ℕ} 256 c 16 0 h ∙ below-none c)
 
 -- one digit more tells no other character from the rest
 below-other : (d c : ℕ) → (digitValue c ≡ d → ⊥) → markBelow d c ≡ markBelow (d + 1) c
@@ -60,8 +52,8 @@ digit-below d h = go (decLt d 10)
     go (yes l) = rw (lt-ltb d 10 l) (omega arith)
     go (no n) = rw (le-ltb d 10 (omega arith)) (omega arith)
 
-marks-more : (t : List ℕ) (d : ℕ) → d < 16 → MarksBelow d t → MarksBelow (d + 1) (set t (digitOf d) d)
-marks-more t d h m = (length-set t (digitOf d) d ∙ m .0, λ c l. go c l (ℕ-discrete c (digitOf d)))
+marks-told : (t : List ℕ) (d : ℕ) → d < 16 → MarksBelow d t → MarksBelow (d + 1) (set t (digitOf d) d)
+marks-told t d h m = (length-set t (digitOf d) d ∙ m .0, λ c l. go c l (ℕ-discrete c (digitOf d)))
   where
     same : getD (set t (digitOf d) d) (digitOf d) 0 ≡ markBelow (d + 1) (digitOf d)
     same = getD-set-same t (digitOf d) d 0 (omega (arith, digit-below d h, m .0)) ∙ below-same d (digitOf d) (digit-back d h)
@@ -75,68 +67,54 @@ marks-more t d h m = (length-set t (digitOf d) d ∙ m .0, λ c l. go c l (ℕ-d
 pub marks-next : (t : List ℕ) (d at : ℕ) → d < 16 → at ≡ digitOf (d % 16) → MarksBelow d t → MarksBelow (d + 1) (set t at d)
 marks-next t d at h e m =
     let small : d % 16 ≡ d = omega arith in
-    subst⁻¹ (λ (x : ℕ). MarksBelow (d + 1) (set t x d)) (e ∙ ap digitOf small) (marks-more t d h m)
+    subst⁻¹ (λ (x : ℕ). MarksBelow (d + 1) (set t x d)) (e ∙ ap digitOf small) (marks-told t d h m)
 
--- ---- a character's mark
-
--- it is the value of a digit, or 2,048 past that of none
-pub mark-value : (c : ℕ) → (k : ℕ) × (markOf c ≡ digitValue c + 2048 * k)
-mark-value c = go (decLt (digitValue c) 16)
+below-all : (c : ℕ) → markBelow 16 c ≡ digitValue c
+below-all c = go (decLt (digitValue c) 16)
   where
-    go : Dec (digitValue c < 16) → (k : ℕ) × (markOf c ≡ digitValue c + 2048 * k)
-    go (yes h) = (0, rw (lt-ltb (digitValue c) 16 h) (omega arith))
-    go (no n) = (1, rw (le-ltb (digitValue c) 16 (omega arith)) (omega (arith, value-le c, n)))
+    go : Dec (digitValue c < 16) → markBelow 16 c ≡ digitValue c
+    go (yes h) = rw (lt-ltb (digitValue c) 16 h)
+    go (no n) = rw (le-ltb (digitValue c) 16 (omega arith)) (omega (arith, value-le c, n))
 
-pub mark-le : (c : ℕ) → markOf c ≤ 2064
-mark-le c = go (decLt (digitValue c) 16)
+pub marks-all : (t : List ℕ) (d : ℕ) → d ≡ 16 → MarksBelow d t → Marks t
+marks-all t d e m = let all : MarksBelow 16 t = rw e at m in (all .0, λ c h. all .1 c h ∙ below-all c)
+
+-- ---- marks joined
+
+-- two numbers have no bit of 16 or more exactly when their bits together have none
+or-small : (x y : ℕ) → ltb (bitOr x y) 16 ≡ (ltb x 16 && ltb y 16)
+or-small x y = go (decLt x 16) (decLt y 16)
   where
-    go : Dec (digitValue c < 16) → markOf c ≤ 2064
-    go (yes h) = rw (lt-ltb (digitValue c) 16 h) (omega arith)
-    go (no n) = rw (le-ltb (digitValue c) 16 (omega arith)) (omega arith)
+    go : Dec (x < 16) → Dec (y < 16) → ltb (bitOr x y) 16 ≡ (ltb x 16 && ltb y 16)
+    go (yes h) (yes k) = rw (lt-ltb x 16 h, lt-ltb y 16 k, lt-ltb (bitOr x y) 16 (or-lt 4 x y h k))
+    go (yes h) (no k) = rw (lt-ltb x 16 h, le-ltb y 16 (omega arith), le-ltb (bitOr x y) 16 (omega (arith, or-add-and x y, and-le-l x y)))
+    go (no h) k = rw (le-ltb x 16 (omega arith), le-ltb (bitOr x y) 16 (omega (arith, or-add-and x y, and-le-r x y)))
 
-mark-digit : (c : ℕ) → markOf c < 2048 → (digitValue c < 16) × (markOf c ≡ digitValue c)
-mark-digit c l = go (decLt (digitValue c) 16)
+and-and : (a b c d : Bool) → (a && b && c && d) ≡ (a && (b && (c && d)))
+and-and true true c d = refl
+and-and true false c d = refl
+and-and false b c d = refl
+
+-- the marks seen with two more, and what is left
+pub marks-more : (s : List ℕ) (seen i : ℕ) → i + 1 < length s → allDigits s ≡ (ltb seen 16 && allDigits (drop i s))
+    → allDigits s ≡ (ltb (bitOr (bitOr seen (digitValue (getD s i 0))) (digitValue (getD s (i + 1) 0))) 16 && allDigits (drop (i + 2) s))
+marks-more s seen i h e =
+    let a = digitValue (getD s i 0) in
+    let b = digitValue (getD s (i + 1) 0) in
+    e
+    ∙ ap (λ (d : Bool). ltb seen 16 && d) (digits-later s i h)
+    ∙ sym (and-and (ltb seen 16) (ltb a 16) (ltb b 16) (allDigits (drop (i + 2) s)))
+    ∙ ap (λ (d : Bool). d && allDigits (drop (i + 2) s)) (sym (or-small (bitOr seen a) b ∙ ap (λ (d : Bool). d && ltb b 16) (or-small seen a)))
+
+-- all characters seen
+pub marks-seen : (s : List ℕ) (seen i : ℕ) → length s ≤ i → allDigits s ≡ (ltb seen 16 && allDigits (drop i s)) → allDigits s ≡ ltb seen 16
+marks-seen s seen i h e = e ∙ ap (λ (d : Bool). ltb seen 16 && d) (digits-end s i h) ∙ and-end (ltb seen 16)
   where
-    go : Dec (digitValue c < 16) → (digitValue c < 16) × (markOf c ≡ digitValue c)
-    go (yes h) = (h, rw (lt-ltb (digitValue c) 16 h))
-    go (no n) = let e : markOf c ≡ 2064 = rw (le-ltb (digitValue c) 16 (omega arith)) in absurd (omega arith)
+    and-end : (a : Bool) → (a && true) ≡ a
+    and-end true = refl
+    and-end false = refl
 
--- two marks make the byte
-pub mark-byte : (c d : ℕ) → (16 * markOf c + markOf d) % 256 ≡ byteOf c d
-mark-byte c d =
-    let x = mark-value c in
-    let y = mark-value d in
-    omega (arith, x .1, y .1)
-
--- and four the number
-pub marks-word : (s : List ℕ) (i high low : ℕ) → high ≡ 16 * markOf (getD s i 0) + markOf (getD s (i + 1) 0)
-    → low ≡ 16 * markOf (getD s (i + 2) 0) + markOf (getD s (i + 3) 0) → 256 * (high % 256) + low % 256 ≡ wordAt s i
-marks-word s i high low h l =
-    let further : i + 2 + 1 ≡ i + 3 = omega arith in
-    rw (h, l, further, mark-byte (getD s i 0) (getD s (i + 1) 0), mark-byte (getD s (i + 2) 0) (getD s (i + 3) 0))
-
--- ---- sums of marks
-
-pub digits-marked : (p : List ℕ) (k : ℕ) → length p ≡ 2 * k → marked p < 2048 → (allDigits p ≡ true) × (sumOf (bytesOf p) ≡ marked p)
-unfolding marked allDigits bytesOf sumOf
-digits-marked [] k e h = (refl, refl)
-digits-marked (c ∷ []) k e h = absurd (omega arith)
-digits-marked (c ∷ d ∷ p) k e h =
-    let x = mark-digit c (omega arith) in
-    let y = mark-digit d (omega arith) in
-    let later = digits-marked p (k - 1) (omega arith) (omega arith) in
-    (rw (lt-ltb (digitValue c) 16 (x .0), lt-ltb (digitValue d) 16 (y .0)) (later .0), omega (arith, x .0, x .1, y .0, y .1, later .1))
-
-pub marked-later : (s : List ℕ) (i : ℕ) → i + 1 < length s
-    → marked (drop i s) ≡ 16 * markOf (getD s i 0) + markOf (getD s (i + 1) 0) + marked (drop (i + 2) s)
-unfolding marked
-marked-later s i h = rw (rest-two s i 0 h)
-
-marked-short : (s : List ℕ) → length s ≤ 1 → marked s ≡ 0
-unfolding marked
-marked-short [] h = refl
-marked-short (c ∷ []) h = refl
-marked-short (c ∷ d ∷ s) h = absurd (omega arith)
-
-pub marked-end : (s : List ℕ) (i : ℕ) → length s ≤ i + 1 → marked (drop i s) ≡ 0
-marked-end s i h = marked-short (drop i s) (omega (arith, length-drop i s))
+-- the sum with one byte more, and what is left
+pub sum-more : (s : List ℕ) (i sum b next all : ℕ) → i + 1 < length s → b ≡ byteAt s i → next ≡ (sum + b) % 256
+    → (sum + sumOf (bytesOf (drop i s))) % 256 ≡ all → (next + sumOf (bytesOf (drop (i + 2) s))) % 256 ≡ all
+sum-more s i sum b next all h e n a = omega (arith, digitSum-later s i h)

@@ -2,10 +2,10 @@
 use mathlib.Core.Path.{_≡_, refl, sym, ap, ap₂, subst, _∙_}
 use mathlib.Core.Bool.{true, false, false≢true}
 use mathlib.Core.List.{List, [], _∷_, _++_, append-assoc, append-nil}
-use Prim.Native.Nat.{ℕ, _+_, _*_, _/_, _%_, _<_}
+use Prim.Native.Nat.{ℕ, _+_, _/_, _%_, _<_}
 use native.Mathlib.Omega.{arith}
 use lib.Dec.{eqb}
-use lib.ListN.{length, getD, drop}
+use lib.ListN.{length, getD}
 use lib.Seq.{append-snoc}
 use borrow.Author.Tests.{eqb-true}
 use Rattle.lists.specs.Tests.{and-left, and-right}
@@ -13,12 +13,12 @@ use Rattle.lists.specs.Tables.{listed-as}
 use Rattle.table.specs.Table.{linkCount}
 use Rattle.frames.specs.Frame.{LF, wordBytes, wordOf, hexesOf, checkByte, lineOf, bytesOf, sumOf}
 use Rattle.frames.specs.FrameLaws.{line-hexes, hexes-bytes, length-bytes, bytes-below, check-unique, sum-check}
-use Rattle.frames.specs.Kinds.{UNITS, LINK, END, frameBytes, kindFront}
-use Rattle.files.specs.File.{Line, linesOf, kindOf, numberAt, faultyLine, inOrderAfter, inOrder, linkFrames, statedCount, unitsIn, endsIn, linkLines, fileOf, readRefusal}
-use Rattle.files.specs.LineLaws.{Whole, Begins, front-says, sound-front, frontLine, pastLine, no-lines}
-use Rattle.files.specs.OrderLaws.{sound-later}
-use Rattle.files.specs.ShapeLaws.{Accepted, some, head-line, later-lines, head-kind, ends-link, ends-units, stated-later, stated-after, units-first, first-units, no-order}
-use Rattle.files.specs.ReadLaws.{Sound, accepted-sound, accepted-file, length-ends}
+use Rattle.frames.specs.Kinds.{UNITS, LINK, END, frameBytes, kindFront, fileFront}
+use Rattle.frames.specs.Bodies.{unitsBody, linkBody, endBody}
+use Rattle.files.specs.File.{Line, linesOf, kindOf, numberAt, faultyLine, inOrderAfter, inOrder, statedCount, unitsIn, endsIn, linkLines, fileOf, readRefusal}
+use Rattle.files.specs.LineLaws.{Whole, Begins, some-lines, no-lines, front-says, front-lines, faulty-later, sound-front, frontLine, pastLine}
+use Rattle.files.specs.LineSteps.{ends-link, ends-units, stated-later, stated-after, units-first, first-units, no-order, length-ends}
+use Rattle.files.specs.ReadLaws.{Sound, accepted-sound}
 
 -- ---- one line
 
@@ -70,34 +70,46 @@ link-back p w =
 -- ---- the first line of sound characters
 
 module _ (s : List ℕ) (l : Line) (ls : List Line) (e : linesOf s ≡ l ∷ ls) (sound : faultyLine (linesOf s) ≡ false) where
+  whole : fileFront s ≡ true
+  whole = sound-front s sound (some-lines s l ls e)
+
   front : Begins s
-  front = front-says s (sound-front s sound (some s l ls e sound))
+  front = front-says s whole
 
-  first-split : s ≡ (frontLine s .0 ++ LF ∷ []) ++ pastLine s
-  first-split = front .split ∙ sym (append-snoc (frontLine s .0) LF (pastLine s))
+  split : l ∷ ls ≡ frontLine s ∷ linesOf (pastLine s)
+  split = sym e ∙ front-lines s whole
 
-  first-number : (k : ℕ) → frameBytes k ≡ 4 → kindOf l ≡ k → s ≡ lineOf (k ∷ wordBytes (numberAt l 1)) ++ drop 9 s
+  later-lines : linesOf (pastLine s) ≡ ls
+  later-lines = let q = split in cc
+
+  later-sound : faultyLine (linesOf (pastLine s)) ≡ false
+  later-sound = sym (faulty-later s whole) ∙ sound
+
+  first-kind : kindFront s ≡ kindOf l
+  first-kind = let q = split in sym (front .kind) ∙ cc
+
+  first-whole : (k bytes : ℕ) → frameBytes k ≡ bytes → kindOf l ≡ k → Whole (l .0) bytes
+  first-whole k bytes f h =
+      let q = split in
+      let same : frontLine s .0 ≡ l .0 = cc in
+      subst (λ (n : ℕ). Whole (l .0) n) (ap frameBytes (first-kind ∙ h) ∙ f)
+      (subst (λ (p : List ℕ). Whole p (frameBytes (kindFront s))) same (front .body))
+
+  first-split : s ≡ (l .0 ++ LF ∷ []) ++ pastLine s
+  first-split =
+      let q = split in
+      let same : frontLine s .0 ≡ l .0 = cc in
+      front .split ∙ ap (λ (p : List ℕ). p ++ LF ∷ pastLine s) same ∙ sym (append-snoc (l .0) LF (pastLine s))
+
+  first-number : (k : ℕ) → frameBytes k ≡ 4 → kindOf l ≡ k → s ≡ lineOf (k ∷ wordBytes (numberAt l 1)) ++ pastLine s
   first-number k f h =
-      let kind : kindFront s ≡ k = sym (head-kind s l ls e sound) ∙ h in
-      let size : frameBytes (kindFront s) ≡ 4 = ap frameBytes kind ∙ f in
-      let body : Whole (frontLine s .0) 4 = subst (λ (n : ℕ). Whole (frontLine s .0) n) size (front .body) in
-      let past : pastLine s ≡ drop 9 s = ap (λ (n : ℕ). drop (2 * n + 1) s) size in
-      let line : lineOf (k ∷ wordBytes (numberAt l 1)) ≡ frontLine s .0 ++ LF ∷ [] =
-      ap₂ (λ (x : ℕ) (m : Line). lineOf (x ∷ wordBytes (numberAt m 1))) (sym (front .kind ∙ kind)) (head-line s l ls e sound)
-      ∙ number-back (frontLine s .0) body in
-      first-split ∙ ap₂ (λ (x y : List ℕ). x ++ y) (sym line) past
+      first-split ∙ ap (λ (x : List ℕ). x ++ pastLine s) (sym (ap (λ (x : ℕ). lineOf (x ∷ wordBytes (numberAt l 1))) (sym h) ∙ number-back (l .0) (first-whole k 4 f h)))
 
-  first-link : kindOf l ≡ LINK → s ≡ lineOf (LINK ∷ wordBytes (numberAt l 1) ++ wordBytes (numberAt l 3)) ++ drop 13 s
+  first-link : kindOf l ≡ LINK → s ≡ lineOf (linkBody (numberAt l 1) (numberAt l 3)) ++ pastLine s
   first-link h =
-      let kind : kindFront s ≡ LINK = sym (head-kind s l ls e sound) ∙ h in
-      let size : frameBytes (kindFront s) ≡ 6 = ap frameBytes kind in
-      let body : Whole (frontLine s .0) 6 = subst (λ (n : ℕ). Whole (frontLine s .0) n) size (front .body) in
-      let past : pastLine s ≡ drop 13 s = ap (λ (n : ℕ). drop (2 * n + 1) s) size in
-      let line : lineOf (LINK ∷ wordBytes (numberAt l 1) ++ wordBytes (numberAt l 3)) ≡ frontLine s .0 ++ LF ∷ [] =
-      ap₂ (λ (x : ℕ) (m : Line). lineOf (x ∷ wordBytes (numberAt m 1) ++ wordBytes (numberAt m 3))) (sym (front .kind ∙ kind))
-      (head-line s l ls e sound)
-      ∙ link-back (frontLine s .0) body in
-      first-split ∙ ap₂ (λ (x y : List ℕ). x ++ y) (sym line) past
+      first-split
+      ∙ ap (λ (x : List ℕ). x ++ pastLine s)
+      (sym (ap (λ (x : ℕ). lineOf (x ∷ wordBytes (numberAt l 1) ++ wordBytes (numberAt l 3))) (sym h) ∙ link-back (l .0) (first-whole LINK 6 refl h)))
 
 -- ---- past the unit count
 
@@ -105,52 +117,45 @@ none : (s : List ℕ) → length s ≡ 0 → s ≡ []
 none [] e = refl
 none (c ∷ s) e = absurd (omega arith)
 
-end-alone : (l : Line) → kindOf l ≡ END → linkLines (endsIn (l ∷ [])) ++ lineOf (END ∷ wordBytes (statedCount (l ∷ []))) ≡ lineOf (END ∷ wordBytes (numberAt l 1))
+end-alone : (l : Line) → kindOf l ≡ END → linkLines (endsIn (l ∷ [])) ++ lineOf (endBody (statedCount (l ∷ []))) ≡ lineOf (endBody (numberAt l 1))
 unfolding endsIn statedCount linkLines
 end-alone l k = rw k
 
 tail-last : (s : List ℕ) (l : Line) → linesOf s ≡ l ∷ [] → faultyLine (linesOf s) ≡ false → kindOf l ≡ END
-    → s ≡ linkLines (endsIn (l ∷ [])) ++ lineOf (END ∷ wordBytes (statedCount (l ∷ [])))
+    → s ≡ linkLines (endsIn (l ∷ [])) ++ lineOf (endBody (statedCount (l ∷ [])))
 tail-last s l e sound k =
-    let kind : kindFront s ≡ END = sym (head-kind s l [] e sound) ∙ k in
-    let past : pastLine s ≡ drop 9 s = ap (λ (n : ℕ). drop (2 * frameBytes n + 1) s) kind in
-    let over : drop 9 s ≡ [] = sym past ∙ none (pastLine s) (no-lines (pastLine s) (sym (later-lines s l [] e sound))) in
+    let over : pastLine s ≡ [] = none (pastLine s) (no-lines (pastLine s) (later-lines s l [] e sound)) in
     first-number s l [] e sound END refl k
-    ∙ ap (λ (r : List ℕ). lineOf (END ∷ wordBytes (numberAt l 1)) ++ r) over
-    ∙ append-nil (lineOf (END ∷ wordBytes (numberAt l 1)))
+    ∙ ap (λ (r : List ℕ). lineOf (endBody (numberAt l 1)) ++ r) over
+    ∙ append-nil (lineOf (endBody (numberAt l 1)))
     ∙ sym (end-alone l k)
 
-lines-link : (a b : ℕ) (t : List ℕ) → linkLines (a ∷ b ∷ t) ≡ lineOf (LINK ∷ wordBytes a ++ wordBytes b) ++ linkLines t
+lines-link : (a b : ℕ) (t : List ℕ) → linkLines (a ∷ b ∷ t) ≡ lineOf (linkBody a b) ++ linkLines t
 unfolding linkLines
 lines-link a b t = refl
 
 tail-more : (s : List ℕ) (l m : Line) (ls : List Line) → linesOf s ≡ l ∷ m ∷ ls → faultyLine (linesOf s) ≡ false → kindOf l ≡ LINK
-    → drop 13 s ≡ linkLines (endsIn (m ∷ ls)) ++ lineOf (END ∷ wordBytes (statedCount (m ∷ ls)))
-    → s ≡ linkLines (endsIn (l ∷ m ∷ ls)) ++ lineOf (END ∷ wordBytes (statedCount (l ∷ m ∷ ls)))
+    → pastLine s ≡ linkLines (endsIn (m ∷ ls)) ++ lineOf (endBody (statedCount (m ∷ ls)))
+    → s ≡ linkLines (endsIn (l ∷ m ∷ ls)) ++ lineOf (endBody (statedCount (l ∷ m ∷ ls)))
 tail-more s l m ls e sound k t =
-    let first = lineOf (LINK ∷ wordBytes (numberAt l 1) ++ wordBytes (numberAt l 3)) in
+    let first = lineOf (linkBody (numberAt l 1) (numberAt l 3)) in
     let links = linkLines (endsIn (m ∷ ls)) in
-    let last = lineOf (END ∷ wordBytes (statedCount (m ∷ ls))) in
+    let last = lineOf (endBody (statedCount (m ∷ ls))) in
     first-link s l (m ∷ ls) e sound k
     ∙ ap (λ (r : List ℕ). first ++ r) t
     ∙ sym (append-assoc first links last)
-    ∙ ap₂ (λ (x : List ℕ) (c : ℕ). x ++ lineOf (END ∷ wordBytes c))
+    ∙ ap₂ (λ (x : List ℕ) (c : ℕ). x ++ lineOf (endBody c))
     (sym (lines-link (numberAt l 1) (numberAt l 3) (endsIn (m ∷ ls))) ∙ ap linkLines (sym (ends-link l (m ∷ ls) k)))
     (sym (stated-later l m ls))
 
 tail-back : (ls : List Line) (s : List ℕ) → linesOf s ≡ ls → faultyLine (linesOf s) ≡ false → inOrderAfter ls ≡ true
-    → s ≡ linkLines (endsIn ls) ++ lineOf (END ∷ wordBytes (statedCount ls))
+    → s ≡ linkLines (endsIn ls) ++ lineOf (endBody (statedCount ls))
 unfolding inOrderAfter
 tail-back [] s e sound h = absurd (false≢true h)
 tail-back (l ∷ []) s e sound h = tail-last s l e sound (eqb-true (kindOf l) END h)
 tail-back (l ∷ m ∷ ls) s e sound h =
-    let k : kindOf l ≡ LINK = eqb-true (kindOf l) LINK (and-left (eqb (kindOf l) LINK) (inOrderAfter (m ∷ ls)) h) in
-    let here : 0 < length s = some s l (m ∷ ls) e sound in
-    let front : kindFront s ≡ LINK = sym (head-kind s l (m ∷ ls) e sound) ∙ k in
-    let past : pastLine s ≡ drop 13 s = ap (λ (x : ℕ). drop (2 * frameBytes x + 1) s) front in
-    tail-more s l m ls e sound k
-    (tail-back (m ∷ ls) (drop 13 s) (ap linesOf (sym past) ∙ sym (later-lines s l (m ∷ ls) e sound))
-    (rw past at (sound-later s sound here))
+    tail-more s l m ls e sound (eqb-true (kindOf l) LINK (and-left (eqb (kindOf l) LINK) (inOrderAfter (m ∷ ls)) h))
+    (tail-back (m ∷ ls) (pastLine s) (later-lines s l (m ∷ ls) e sound) (later-sound s l (m ∷ ls) e sound)
     (and-right (eqb (kindOf l) LINK) (inOrderAfter (m ∷ ls)) h))
 
 -- ---- the whole file
@@ -160,16 +165,13 @@ file-back : (s : List ℕ) (l : Line) (ls : List Line) → linesOf s ≡ l ∷ l
 unfolding fileOf
 file-back s l ls e sound h count =
     let k : kindOf l ≡ UNITS = first-units l ls h .0 in
-    let here : 0 < length s = some s l ls e sound in
-    let kind : kindFront s ≡ UNITS = sym (head-kind s l ls e sound) ∙ k in
-    let past : pastLine s ≡ drop 9 s = ap (λ (x : ℕ). drop (2 * frameBytes x + 1) s) kind in
-    let t = tail-back ls (drop 9 s) (ap linesOf (sym past) ∙ sym (later-lines s l ls e sound)) (rw past at (sound-later s sound here)) (first-units l ls h .1) in
-    let first = lineOf (UNITS ∷ wordBytes (numberAt l 1)) in
+    let t = tail-back ls (pastLine s) (later-lines s l ls e sound) (later-sound s l ls e sound) (first-units l ls h .1) in
+    let first = lineOf (unitsBody (numberAt l 1)) in
     let stated : statedCount ls ≡ linkCount (endsIn (l ∷ ls)) = sym (stated-after l ls (first-units l ls h .1)) ∙ count in
     sym
     (first-number s l ls e sound UNITS refl k
     ∙ ap (λ (r : List ℕ). first ++ r) t
-    ∙ sym (append-assoc first (linkLines (endsIn ls)) (lineOf (END ∷ wordBytes (statedCount ls))))
+    ∙ sym (append-assoc first (linkLines (endsIn ls)) (lineOf (endBody (statedCount ls))))
     ∙ rw (← units-first l ls, stated, ← ends-units l ls k))
 
 -- an accepted file is the file of what is read from it
@@ -179,14 +181,8 @@ read-written s places e = go (linesOf s) refl
     sound : Sound (linesOf s) places
     sound = accepted-sound (linesOf s) places e
 
-    a : Accepted s
-    a = accepted-file s places e
-
-    long : length (endsIn (linesOf s)) ≡ 2 * linkFrames (linesOf s)
-    long = ap length (a .ends) ∙ length-ends (linkFrames (linesOf s)) (drop 9 s)
-
     count : statedCount (linesOf s) ≡ linkCount (endsIn (linesOf s))
-    count = sound .count ∙ omega (arith, long)
+    count = sound .count ∙ omega (arith, length-ends (linesOf s))
 
     go : (ls : List Line) → linesOf s ≡ ls → fileOf (unitsIn (linesOf s)) (endsIn (linesOf s)) ≡ s
     go [] q = absurd (no-order (rw q at (sound .order)))

@@ -6,11 +6,9 @@ use lib.Dec.{eqb, ltb}
 use lib.ListN.{length}
 use Rattle.table.specs.Refusals.{firstOf, written}
 use Rattle.table.specs.Table.{linkCount, tableTests}
-use Rattle.files.specs.File.{linesOf, unitsIn, endsIn, fileLength, readRefusal, writeRefusal}
+use Rattle.files.specs.File.{linesOf, unitsIn, endsIn, fileLength, readingOf, writingOf, readRefusal, writeRefusal}
 use Rattle.files.specs.declared.Reading.{Reading}
-use Rattle.files.specs.declared.Reading.the-variants.{Read}
 use Rattle.files.specs.declared.Writing.{Writing}
-use Rattle.files.specs.declared.Writing.the-variants.{Written}
 
 -- ---- a table written into a slice of so many characters, and read back into so many places
 
@@ -19,8 +17,7 @@ unfoldable pub copyRefusal : ℕ → List ℕ → ℕ → ℕ → ℕ
 copyRefusal n t chars places = firstOf (tableTests n t ++ (14, ltb chars (fileLength (linkCount t)) || ltb places (length t)) ∷ [])
 
 unfoldable pub copyReply : ℕ → List ℕ → ℕ → ℕ → Reading
-copyReply n t chars places =
-    cond (eqb (copyRefusal n t chars places) 0) (Read n (linkCount t)) (Reading.Refused (copyRefusal n t chars places))
+copyReply n t chars places = readingOf (copyRefusal n t chars places) n (linkCount t)
 
 -- the words hold the table
 unfoldable pub copiedWords : ℕ → List ℕ → ℕ → List ℕ → List ℕ
@@ -35,8 +32,7 @@ rewriteRefusal s places chars =
     cond (eqb (readRefusal (linesOf s) places) 0) later (readRefusal (linesOf s) places)
 
 unfoldable pub rewriteReply : List ℕ → ℕ → ℕ → Writing
-rewriteReply s places chars =
-    cond (eqb (rewriteRefusal s places chars) 0) (Written (length s)) (Writing.Refused (rewriteRefusal s places chars))
+rewriteReply s places chars = writingOf (rewriteRefusal s places chars) (length s)
 
 -- the slice holds the file
 unfoldable pub rewrittenFile : List ℕ → ℕ → List ℕ → List ℕ

@@ -13,7 +13,8 @@ use Rattle.table.specs.RefusalLaws.{first-some, first-none}
 use Rattle.table.specs.Table.{linkCount, tableTests, tableRefusal}
 use Rattle.files.specs.File.{linesOf, unitsIn, endsIn, linkFrames, fileOf, fileLength, readRefusal, readReply, readWords, writeRefusal, writeReply, writtenFile}
 use Rattle.files.specs.RoundTrip.{copyRefusal, copyReply, copiedWords, rewriteRefusal, rewriteReply, rewrittenFile}
-use Rattle.files.specs.ReadLaws.{accepted-file, length-ends, accepted-sound}
+use Rattle.files.specs.LineSteps.{length-ends}
+use Rattle.files.specs.ReadLaws.{accepted-sound}
 use Rattle.files.specs.WriteLaws.{write-table, write-14, write-0, length-file, written-table, written-fits}
 use Rattle.files.specs.WrittenLaws.{written-read}
 use Rattle.files.specs.RewrittenLaws.{read-written}
@@ -156,9 +157,7 @@ module _ (s : List ℕ) (places : ℕ) where
         (eqb-true (readRefusal (linesOf s) places) 0 (q .0), q .1, q .2)
 
     ends-long : length (endsIn (linesOf s)) ≡ 2 * m
-    ends-long =
-        let a = accepted-file s places (read-told .0) in
-        ap length (a .ends) ∙ length-ends (linkFrames (linesOf s)) (drop 9 s) ∙ ap (λ (x : ℕ). 2 * x) (sym (read-told .2))
+    ends-long = length-ends (linesOf s) ∙ ap (λ (x : ℕ). 2 * x) (sym (read-told .2))
 
     -- the first 2 m words are the ends
     pub read-front : (words : List ℕ) → places ≡ length words → take (2 * m) (readWords s words) ≡ endsIn (linesOf s)

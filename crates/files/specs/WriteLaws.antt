@@ -14,11 +14,11 @@ use Rattle.table.specs.Refusals.{firstOf}
 use Rattle.table.specs.RefusalLaws.{first-some, first-none}
 use Rattle.table.specs.Table.{linkCount, endA, endB, tableTests, tableRefusal}
 use Rattle.table.specs.TableLaws.{endA-later, endB-later}
-use Rattle.frames.specs.Frame.{wordBytes, lineOf, lineOver}
+use Rattle.frames.specs.Frame.{lineOf, lineOver}
 use Rattle.frames.specs.FrameLaws.{length-line}
 use Rattle.frames.specs.FrameRests.{lineOver-fits, line-next}
-use Rattle.frames.specs.Kinds.{UNITS, LINK, END}
-use Rattle.files.specs.File.{linkLines, fileOf, fileLength, writeRefusal, writeReply, writingNumber, writtenFile}
+use Rattle.frames.specs.Bodies.{unitsBody, linkBody, endBody}
+use Rattle.files.specs.File.{linkLines, fileOf, fileLength, writeRefusal, writeReply, writtenFile}
 use Rattle.files.specs.declared.Writing.{Writing}
 use Rattle.files.specs.declared.Writing.the-variants.{Written}
 
@@ -42,12 +42,12 @@ module _ (n : ℕ) (t : List ℕ) (places : ℕ) where
 -- ---- the lines of the links
 
 abbrev pub linkLine : ℕ → ℕ → List ℕ
-linkLine a b = lineOf (LINK ∷ wordBytes a ++ wordBytes b)
+linkLine a b = lineOf (linkBody a b)
 
-pub length-linkLine : (a b : ℕ) → length (linkLine a b) ≡ 13
-length-linkLine a b = length-line (LINK ∷ wordBytes a ++ wordBytes b)
+length-linkLine : (a b : ℕ) → length (linkLine a b) ≡ 13
+length-linkLine a b = length-line (linkBody a b)
 
-pub length-linkLines : (t : List ℕ) → length (linkLines t) ≡ 13 * linkCount t
+length-linkLines : (t : List ℕ) → length (linkLines t) ≡ 13 * linkCount t
 unfolding linkLines
 length-linkLines [] = refl
 length-linkLines (a ∷ []) = refl
@@ -55,7 +55,7 @@ length-linkLines (a ∷ b ∷ t) =
     length-append (linkLine a b) (linkLines t) ∙ omega (arith, length-linkLine a b, length-linkLines t)
 
 -- one link more
-pub linkLines-more : (t : List ℕ) (j : ℕ) → j < linkCount t
+linkLines-more : (t : List ℕ) (j : ℕ) → j < linkCount t
     → linkLines (take (2 * (j + 1)) t) ≡ linkLines (take (2 * j) t) ++ linkLine (endA t j) (endB t j)
 unfolding linkLines
 linkLines-more [] j h = absurd (omega arith)
@@ -85,47 +85,47 @@ length-lines t j h =
 -- the line of link j written to the rest of the slice
 pub lines-next : (t out : List ℕ) (j : ℕ) → j < linkCount t → 13 * linkCount t ≤ length out
     → back (13 * j) (linkLines (take (2 * j) t) ++ drop (13 * j) out)
-    (lineOver (LINK ∷ wordBytes (endA t j) ++ wordBytes (endB t j)) (lent (13 * j) (linkLines (take (2 * j) t) ++ drop (13 * j) out)))
+    (lineOver (linkBody (endA t j) (endB t j)) (lent (13 * j) (linkLines (take (2 * j) t) ++ drop (13 * j) out)))
     ≡ linkLines (take (2 * (j + 1)) t) ++ drop (13 * (j + 1)) out
 lines-next t out j h fits =
     let e : 13 * (j + 1) ≡ 13 * j + 13 = omega arith in
     rw (linkLines-more t j h, e)
-    (line-next (LINK ∷ wordBytes (endA t j) ++ wordBytes (endB t j)) (linkLines (take (2 * j) t)) out (13 * j)
+    (line-next (linkBody (endA t j) (endB t j)) (linkLines (take (2 * j) t)) out (13 * j)
     (length-lines t j (omega arith)) (omega arith))
 
 -- ---- the whole file
 
 module _ (n : ℕ) (t out : List ℕ) (fits : fileLength (linkCount t) ≤ length out) where
   -- the unit count
-  laid-units : lineOver (UNITS ∷ wordBytes n) out ≡ lineOf (UNITS ∷ wordBytes n) ++ drop 9 out
-  laid-units = lineOver-fits (UNITS ∷ wordBytes n) out (omega arith)
+  laid-units : lineOver (unitsBody n) out ≡ lineOf (unitsBody n) ++ drop 9 out
+  laid-units = lineOver-fits (unitsBody n) out (omega arith)
 
   -- then the links
-  laid-links : back 9 (lineOf (UNITS ∷ wordBytes n) ++ drop 9 out)
-      (linkLines t ++ drop (13 * linkCount t) (lent 9 (lineOf (UNITS ∷ wordBytes n) ++ drop 9 out)))
-      ≡ (lineOf (UNITS ∷ wordBytes n) ++ linkLines t) ++ drop (9 + 13 * linkCount t) out
+  laid-links : back 9 (lineOf (unitsBody n) ++ drop 9 out)
+      (linkLines t ++ drop (13 * linkCount t) (lent 9 (lineOf (unitsBody n) ++ drop 9 out)))
+      ≡ (lineOf (unitsBody n) ++ linkLines t) ++ drop (9 + 13 * linkCount t) out
   laid-links =
-      back-next (λ (r : List ℕ). linkLines t ++ drop (13 * linkCount t) r) (linkLines t) (lineOf (UNITS ∷ wordBytes n)) out 9 (13 * linkCount t)
-      (length-line (UNITS ∷ wordBytes n)) refl
+      back-next (λ (r : List ℕ). linkLines t ++ drop (13 * linkCount t) r) (linkLines t) (lineOf (unitsBody n)) out 9 (13 * linkCount t)
+      (length-line (unitsBody n)) refl
 
   -- then their number
-  laid-end : back (9 + 13 * linkCount t) ((lineOf (UNITS ∷ wordBytes n) ++ linkLines t) ++ drop (9 + 13 * linkCount t) out)
-      (lineOver (END ∷ wordBytes (linkCount t))
-      (lent (9 + 13 * linkCount t) ((lineOf (UNITS ∷ wordBytes n) ++ linkLines t) ++ drop (9 + 13 * linkCount t) out)))
+  laid-end : back (9 + 13 * linkCount t) ((lineOf (unitsBody n) ++ linkLines t) ++ drop (9 + 13 * linkCount t) out)
+      (lineOver (endBody (linkCount t))
+      (lent (9 + 13 * linkCount t) ((lineOf (unitsBody n) ++ linkLines t) ++ drop (9 + 13 * linkCount t) out)))
       ≡ fileOf n t ++ drop (fileLength (linkCount t)) out
   unfolding fileOf
   laid-end =
-      let u = lineOf (UNITS ∷ wordBytes n) in
+      let u = lineOf (unitsBody n) in
       let long : length (u ++ linkLines t) ≡ 9 + 13 * linkCount t =
-      length-append u (linkLines t) ∙ omega (arith, length-line (UNITS ∷ wordBytes n), length-linkLines t) in
+      length-append u (linkLines t) ∙ omega (arith, length-line (unitsBody n), length-linkLines t) in
       let e : 9 + 13 * linkCount t + 9 ≡ fileLength (linkCount t) = omega arith in
-      rw (← e) (line-next (END ∷ wordBytes (linkCount t)) (u ++ linkLines t) out (9 + 13 * linkCount t) long (omega arith))
+      rw (← e) (line-next (endBody (linkCount t)) (u ++ linkLines t) out (9 + 13 * linkCount t) long (omega arith))
 
   pub file-laid : back (9 + 13 * linkCount t)
-      (back 9 (lineOver (UNITS ∷ wordBytes n) out) (linkLines t ++ drop (13 * linkCount t) (lent 9 (lineOver (UNITS ∷ wordBytes n) out))))
-      (lineOver (END ∷ wordBytes (linkCount t))
+      (back 9 (lineOver (unitsBody n) out) (linkLines t ++ drop (13 * linkCount t) (lent 9 (lineOver (unitsBody n) out))))
+      (lineOver (endBody (linkCount t))
       (lent (9 + 13 * linkCount t)
-      (back 9 (lineOver (UNITS ∷ wordBytes n) out) (linkLines t ++ drop (13 * linkCount t) (lent 9 (lineOver (UNITS ∷ wordBytes n) out))))))
+      (back 9 (lineOver (unitsBody n) out) (linkLines t ++ drop (13 * linkCount t) (lent 9 (lineOver (unitsBody n) out))))))
       ≡ fileOf n t ++ drop (fileLength (linkCount t)) out
   file-laid = rw (laid-units, laid-links) laid-end
 
@@ -143,7 +143,7 @@ pub length-file : (n : ℕ) (t : List ℕ) → length (fileOf n t) ≡ fileLengt
 unfolding fileOf
 length-file n t =
     simp length-append
-    (omega (arith, length-line (UNITS ∷ wordBytes n), length-linkLines t, length-line (END ∷ wordBytes (linkCount t))))
+    (omega (arith, length-line (unitsBody n), length-linkLines t, length-line (endBody (linkCount t))))
 
 module _ (n : ℕ) (t : List ℕ) (places : ℕ) (e : writeRefusal n t places ≡ 0) where
   -- the table passes the checks, and the file fits
@@ -169,15 +169,3 @@ pub bytes-accepted : (n : ℕ) (t out : List ℕ) → writeRefusal n t (length o
     → fileOf n t ++ drop (fileLength (linkCount t)) out ≡ writtenFile n t out
 unfolding writtenFile
 bytes-accepted n t out e = rw (e, length-file n t)
-
--- the reply carries document 01's number
-write-number-of : (k m : ℕ) → writingNumber (cond (eqb k 0) (Written m) (Writing.Refused k)) ≡ k
-write-number-of k m = go (ℕ-discrete k 0)
-  where
-    go : Dec (k ≡ 0) → writingNumber (cond (eqb k 0) (Written m) (Writing.Refused k)) ≡ k
-    go (yes e) = rw e
-    go (no z) = rw (ne-eqb k 0 z)
-
-pub write-number : (n : ℕ) (t : List ℕ) (places : ℕ) → writingNumber (writeReply n t places) ≡ writeRefusal n t places
-unfolding writeReply
-write-number n t places = write-number-of (writeRefusal n t places) (fileLength (linkCount t))

@@ -12,10 +12,10 @@ use Rattle.table.specs.Passes.{Passes, passes}
 use Rattle.frames.specs.Frame.{LF, wordBytes, hexesOf, checkByte, lineOf, bytesOf}
 use Rattle.frames.specs.FrameLaws.{Bytes, line-hexes, hexes-digits, bytes-hexes, length-hexes, check-below, check-sum}
 use Rattle.frames.specs.Kinds.{UNITS, LINK, END, frameBytes}
+use Rattle.frames.specs.Bodies.{unitsBody, linkBody, endBody}
 use Rattle.files.specs.File.{Line, linesOf, kindOf, numberAt, whole, faultyLine, inOrderAfter, inOrder, linkFrames, statedCount, unitsIn, endsIn, linkLines, fileOf, readRefusal}
 use Rattle.files.specs.LineLaws.{lines-more, says-whole}
-use Rattle.files.specs.OrderLaws.{after-link}
-use Rattle.files.specs.ShapeLaws.{frames-link, ends-link, frames-units, ends-units}
+use Rattle.files.specs.LineSteps.{after-link, frames-link, ends-link, frames-units, ends-units, units-first}
 use Rattle.files.specs.ReadLaws.{accepted, refused-14}
 
 -- ---- the line of one frame
@@ -70,7 +70,7 @@ bytes-word w f h = bytes-cons (w / 256 % 256) (w % 256 ∷ f) (omega arith) (byt
 number-bytes : (k w : ℕ) → k < 256 → Bytes (k ∷ wordBytes w)
 number-bytes k w h = bytes-cons k (wordBytes w) h (bytes-word w [] bytes-none)
 
-link-bytes : (a b : ℕ) → Bytes (LINK ∷ wordBytes a ++ wordBytes b)
+link-bytes : (a b : ℕ) → Bytes (linkBody a b)
 link-bytes a b = bytes-cons LINK (wordBytes a ++ wordBytes b) (omega arith) (bytes-word a (wordBytes b) (bytes-word b [] bytes-none))
 
 -- a frame of one number: its kind, its number, and that its line is whole
@@ -89,20 +89,20 @@ module _ (k w : ℕ) (h : k < 256) where
 
 -- a link's frame
 abbrev linkFrame : ℕ → ℕ → Line
-linkFrame a b = frameLine (LINK ∷ wordBytes a ++ wordBytes b)
+linkFrame a b = frameLine (linkBody a b)
 
 module _ (a b : ℕ) where
   link-kind : kindOf (linkFrame a b) ≡ LINK
-  link-kind = rw (line-bytes (LINK ∷ wordBytes a ++ wordBytes b) (link-bytes a b))
+  link-kind = rw (line-bytes (linkBody a b) (link-bytes a b))
 
   link-first : a < 65536 → numberAt (linkFrame a b) 1 ≡ a
-  link-first l = rw (line-bytes (LINK ∷ wordBytes a ++ wordBytes b) (link-bytes a b)) (omega arith)
+  link-first l = rw (line-bytes (linkBody a b) (link-bytes a b)) (omega arith)
 
   link-second : b < 65536 → numberAt (linkFrame a b) 3 ≡ b
-  link-second l = rw (line-bytes (LINK ∷ wordBytes a ++ wordBytes b) (link-bytes a b)) (omega arith)
+  link-second l = rw (line-bytes (linkBody a b) (link-bytes a b)) (omega arith)
 
   link-whole : whole (linkFrame a b) ≡ true
-  link-whole = line-whole (LINK ∷ wordBytes a ++ wordBytes b) (link-bytes a b) refl
+  link-whole = line-whole (linkBody a b) (link-bytes a b) refl
 
 -- ---- the lines of a file
 
@@ -116,7 +116,7 @@ unfolding linkLines linkFramesOf
 links-lines [] s = refl
 links-lines (a ∷ []) s = refl
 links-lines (a ∷ b ∷ t) s =
-    let f = LINK ∷ wordBytes a ++ wordBytes b in
+    let f = linkBody a b in
     ap linesOf (append-assoc (lineOf f) (linkLines t) s)
     ∙ line-first f (link-bytes a b) (linkLines t ++ s)
     ∙ ap (λ (l : List Line). linkFrame a b ∷ l) (links-lines t s)
@@ -129,15 +129,15 @@ file-lines : (n : ℕ) (t : List ℕ)
     → linesOf (fileOf n t) ≡ numberLine UNITS n ∷ (linkFramesOf t ++ numberLine END (linkCount t) ∷ [])
 unfolding fileOf
 file-lines n t =
-    let u = lineOf (UNITS ∷ wordBytes n) in
-    let e = lineOf (END ∷ wordBytes (linkCount t)) in
+    let u = lineOf (unitsBody n) in
+    let e = lineOf (endBody (linkCount t)) in
     ap linesOf (append-assoc u (linkLines t) e)
-    ∙ line-first (UNITS ∷ wordBytes n) (number-bytes UNITS n (omega arith)) (linkLines t ++ e)
+    ∙ line-first (unitsBody n) (number-bytes UNITS n (omega arith)) (linkLines t ++ e)
     ∙ ap (λ (l : List Line). numberLine UNITS n ∷ l)
     (links-lines t e
     ∙ ap (λ (l : List Line). linkFramesOf t ++ l)
     (ap linesOf (sym (append-nil e))
-    ∙ line-first (END ∷ wordBytes (linkCount t)) (number-bytes END (linkCount t) (omega arith)) []
+    ∙ line-first (endBody (linkCount t)) (number-bytes END (linkCount t) (omega arith)) []
     ∙ ap (λ (l : List Line). numberLine END (linkCount t) ∷ l) no-line))
 
 -- ---- what is read from them
@@ -215,10 +215,6 @@ file-order : (u : Line) (ls : List Line) → kindOf u ≡ UNITS → inOrderAfter
 unfolding inOrder
 file-order u ls k h = rw k h
 
-file-units : (u : Line) (ls : List Line) → unitsIn (u ∷ ls) ≡ numberAt u 1
-unfolding unitsIn
-file-units u ls = refl
-
 -- what reading a written file finds
 pub record ReadBack (n : ℕ) (t : List ℕ) : Type 0 where
   pub unrefused : (places : ℕ) → length t ≤ places → readRefusal (linesOf (fileOf n t)) places ≡ 0
@@ -250,7 +246,7 @@ written-read n t h =
           rw (file-lines n t) (sym (accepted (u ∷ ls) places faults order (stated ∙ sym count) (omega arith) (omega (arith, p .pairs))));
       short = λ (places : ℕ) (h : places < length t).
           rw (file-lines n t) (sym (refused-14 (u ∷ ls) places faults order (stated ∙ sym count) (omega arith) (omega (arith, p .pairs))));
-      units = rw (file-lines n t) (file-units u ls ∙ number-number UNITS n (omega arith) (omega arith));
+      units = rw (file-lines n t) (units-first u ls ∙ number-number UNITS n (omega arith) (omega arith));
       links = rw (file-lines n t) count;
       ends =
           rw (file-lines n t)

@@ -1,13 +1,14 @@
 // Survey files: bytes to words and back.
 ghost use mathlib.Core.Path.{_≡_};
+ghost use mathlib.Core.List.{[], _∷_};
 ghost use lib.ListN.{length};
-ghost use Rattle.files.specs.File.{readReply, readWords, writeReply, writtenFile};
-use frames::digits;
+ghost use Rattle.table.specs.Table.{linkCount};
+ghost use Rattle.files.specs.File.{unless, linesOf, unitsIn, linkFrames, readRefusal, readReply, readWords, readingNumber, readingValues};
+ghost use Rattle.files.specs.File.{fileLength, writeRefusal, writeReply, writtenFile, writingNumber, writingValues};
 
 mod lines;
 mod marks;
 mod reader;
-mod regular;
 pub mod trips;
 mod writer;
 
@@ -27,16 +28,17 @@ pub enum Writing {
 pub fn read(file: &[u8], words: &mut [u16]) -> Reading
     ensures reply { λ r. ⌜ r ≡ readReply (now (file .entry)) (length (now (words .entry))) ⌝ }
     ensures lent { λ _. ⌜ now (words .exit) ≡ readWords (now (file .entry)) (now (words .entry)) ⌝ }
+    ensures number { λ r. ⌜ readingNumber r ≡ readRefusal (linesOf (now (file .entry))) (length (now (words .entry))) ⌝ }
+    ensures values { λ r. ⌜ readingValues r ≡ unless (readRefusal (linesOf (now (file .entry))) (length (now (words .entry)))) (unitsIn (linesOf (now (file .entry))) ∷ linkFrames (linesOf (now (file .entry))) ∷ []) ⌝ }
 {
     let marks = marks::made();
     let refused = reader::refusal(&marks, file, words.len());
     if refused != 0 {
         return Reading::Refused(refused);
     }
-    let links = (file.len() - 18) / 13;
-    reader::fill(&marks, file, links, words);
+    let links = reader::fill(&marks, file, words);
     Reading::Read {
-        units: digits::word_at(file, 2),
+        units: marks::word_at(&marks, file, 2),
         links: links as u16,
     }
 }
@@ -45,6 +47,8 @@ pub fn read(file: &[u8], words: &mut [u16]) -> Reading
 pub fn write(units: u16, words: &[u16], out: &mut [u8]) -> Writing
     ensures reply { λ r. ⌜ r ≡ writeReply units (now (words .entry)) (length (now (out .entry))) ⌝ }
     ensures lent { λ _. ⌜ now (out .exit) ≡ writtenFile units (now (words .entry)) (now (out .entry)) ⌝ }
+    ensures number { λ r. ⌜ writingNumber r ≡ writeRefusal units (now (words .entry)) (length (now (out .entry))) ⌝ }
+    ensures values { λ r. ⌜ writingValues r ≡ unless (writeRefusal units (now (words .entry)) (length (now (out .entry)))) (fileLength (linkCount (now (words .entry))) ∷ []) ⌝ }
 {
     let refused = writer::refusal(units, words, out.len());
     if refused != 0 {

@@ -1,42 +1,78 @@
-// Reading a file: why it is refused, and its ends laid down.
+// Reading a file with a cursor that goes from line to line: why it is refused, and its ends laid down.
 ghost use mathlib.Core.Path.{_≡_};
+ghost use mathlib.Core.Bool.{false};
 ghost use mathlib.Core.List.{_++_};
 ghost use Prim.Native.Nat.{_+_, _*_, _≤_};
 ghost use lib.ListN.{length, drop};
-ghost use Rattle.files.specs.File.{linesOf, readRefusal, endsFrom};
+ghost use Rattle.frames.specs.Kinds.{frameBytes};
+ghost use Rattle.files.specs.File.{linesOf, faultyLine, linkFrames, endsIn, readRefusal};
 ghost use Rattle.files.specs.Marks.{Marks};
-ghost use Rattle.files.specs.ReadLaws.{orderRefusal};
+ghost use Rattle.files.specs.Walk.{nextOrder};
 use super::lines;
 use super::marks;
-use super::regular;
-use frames::digits;
+use frames::kinds;
 
-// The number of the first cause among 1 and 2; 0 where there is none. A line is looked at by itself only where the file is not regular.
-fn unordered(t: &[u16], file: &[u8]) -> u8
-    requires { ⌜ Marks (now t) ⌝ }
-    ensures { λ r. ⌜ r ≡ orderRefusal (linesOf (now (file .entry))) ⌝ }
+// How far the order of the frames has come: at the start, past the unit count, past the number of links, or broken.
+const START: u8 = 0;
+
+const LINKS: u8 = 1;
+
+const ENDED: u8 = 2;
+
+const BROKEN: u8 = 3;
+
+// The order past one frame more.
+fn next_order(order: u8, kind: u8) -> u8
+    ensures { λ r. ⌜ r ≡ nextOrder order kind ⌝ }
 {
-    if regular::regular(t, file) {
-        return 0;
+    if order == START {
+        return if kind == kinds::UNITS { LINKS } else { BROKEN };
     }
-    if lines::faulty(t, file) {
-        return 1;
+    if order != LINKS {
+        return BROKEN;
     }
-    if lines::in_order(file) { 0 } else { 2 }
+    match kind {
+        kinds::LINK => LINKS,
+        kinds::END => ENDED,
+        _ => BROKEN,
+    }
 }
 
-// The number of the first cause among 1, 2, 3, 6, 14; 0 where there is none. In an accepted file each line's length is its kind's, so that
-// its length gives the number of links, and the place of each number.
-pub(crate) fn refusal(t: &[u16], file: &[u8], places: usize) -> u8
+// The characters of a line of this kind.
+fn line_length(kind: u8) -> usize
+    ensures { λ r. ⌜ r ≡ 2 * frameBytes kind + 1 ⌝ }
+{
+    2 * (kinds::frame_bytes(kind) as usize) + 1
+}
+
+// The number of the first cause among 1, 2, 3, 6, 14; 0 where there is none. The walk goes on past a broken order: a faulty line comes first.
+pub(crate) fn refusal(t: &[u8], file: &[u8], places: usize) -> u8
     requires { ⌜ Marks (now t) ⌝ }
     ensures { λ r. ⌜ r ≡ readRefusal (linesOf (now (file .entry))) places ⌝ }
 {
-    let refused = unordered(t, file);
-    if refused != 0 {
-        return refused;
+    let mut at = 0;
+    let mut order = START;
+    let mut links = 0;
+    let mut last = 0;
+    while at < file.len() {
+        let kind = lines::kind(t, &file[at..]);
+        if kind == 0 {
+            return 1;
+        }
+        last = at;
+        if kind == kinds::LINK {
+            order = next_order(order, kinds::LINK);
+            links += 1;
+            at += line_length(kinds::LINK);
+            continue;
+        }
+        order = next_order(order, kind);
+        at += line_length(kind);
     }
-    let links = (file.len() - 18) / 13;
-    if digits::word_at(file, file.len() - 7) as usize != links {
+    if order != ENDED {
+        return 2;
+    }
+    if marks::word_at(t, file, last + 2) as usize != links {
         return 3;
     }
     if table::MAX_LINKS < links {
@@ -48,16 +84,24 @@ pub(crate) fn refusal(t: &[u16], file: &[u8], places: usize) -> u8
     0
 }
 
-// The ends of a file's first so many links, laid down in order.
-pub(crate) fn fill(t: &[u16], file: &[u8], links: usize, words: &mut [u16])
-    requires { ⌜ Marks (now t) × (links ≤ 1024) × (9 + 13 * links ≤ length (now file)) × (2 * links ≤ length (now words)) ⌝ }
-    ensures { λ _. ⌜ now (words .exit) ≡ endsFrom links (drop 9 (now (file .entry))) ++ drop (2 * links) (now (words .entry)) ⌝ }
+// The ends in the lines of links, laid down in order; their number of links. For a file without a faulty line, whose ends fit.
+pub(crate) fn fill(t: &[u8], file: &[u8], words: &mut [u16]) -> usize
+    requires { ⌜ Marks (now t) × (faultyLine (linesOf (now file)) ≡ false) × (length (endsIn (linesOf (now file))) ≤ length (now words)) ⌝ }
+    ensures links { λ r. ⌜ r ≡ linkFrames (linesOf (now (file .entry))) ⌝ }
+    ensures ends { λ _. ⌜ now (words .exit) ≡ endsIn (linesOf (now (file .entry))) ++ drop (length (endsIn (linesOf (now (file .entry))))) (now (words .entry)) ⌝ }
 {
-    let mut j = 0;
-    while j < links {
-        let at = 9 + 13 * j;
-        words[2 * j] = marks::word_at(t, file, at + 2);
-        words[2 * j + 1] = marks::word_at(t, file, at + 6);
-        j += 1;
+    let mut at = 0;
+    let mut n = 0;
+    while at < file.len() {
+        let kind = marks::byte(t, file[at], file[at + 1]);
+        if kind == kinds::LINK {
+            words[n] = marks::word_at(t, file, at + 2);
+            words[n + 1] = marks::word_at(t, file, at + 6);
+            n += 2;
+            at += line_length(kinds::LINK);
+            continue;
+        }
+        at += line_length(kind);
     }
+    n / 2
 }

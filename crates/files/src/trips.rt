@@ -1,8 +1,10 @@
 // The round trips: what comes back is what was given.
 ghost use mathlib.Core.Path.{_≡_};
+ghost use mathlib.Core.List.{[], _∷_};
 ghost use lib.ListN.{length};
-ghost use Rattle.files.specs.File.{readWords, writtenFile};
-ghost use Rattle.files.specs.RoundTrip.{copyReply, copiedWords, rewriteReply, rewrittenFile};
+ghost use Rattle.table.specs.Table.{linkCount};
+ghost use Rattle.files.specs.File.{unless, readWords, writtenFile, readingNumber, readingValues, writingNumber, writingValues};
+ghost use Rattle.files.specs.RoundTrip.{copyRefusal, copyReply, copiedWords, rewriteRefusal, rewriteReply, rewrittenFile};
 use super::Reading;
 use super::Writing;
 
@@ -11,6 +13,8 @@ pub fn write_then_read(units: u16, words: &[u16], file: &mut [u8], copy: &mut [u
     ensures reply { λ r. ⌜ r ≡ copyReply units (now (words .entry)) (length (now (file .entry))) (length (now (copy .entry))) ⌝ }
     ensures bytes { λ _. ⌜ now (file .exit) ≡ writtenFile units (now (words .entry)) (now (file .entry)) ⌝ }
     ensures same { λ _. ⌜ now (copy .exit) ≡ copiedWords units (now (words .entry)) (length (now (file .entry))) (now (copy .entry)) ⌝ }
+    ensures number { λ r. ⌜ readingNumber r ≡ copyRefusal units (now (words .entry)) (length (now (file .entry))) (length (now (copy .entry))) ⌝ }
+    ensures values { λ r. ⌜ readingValues r ≡ unless (copyRefusal units (now (words .entry)) (length (now (file .entry))) (length (now (copy .entry)))) (units ∷ linkCount (now (words .entry)) ∷ []) ⌝ }
 {
     let done = super::write(units, words, file);
     match done {
@@ -27,6 +31,8 @@ pub fn read_then_write(file: &[u8], words: &mut [u16], copy: &mut [u8]) -> Writi
     ensures reply { λ r. ⌜ r ≡ rewriteReply (now (file .entry)) (length (now (words .entry))) (length (now (copy .entry))) ⌝ }
     ensures ends { λ _. ⌜ now (words .exit) ≡ readWords (now (file .entry)) (now (words .entry)) ⌝ }
     ensures same { λ _. ⌜ now (copy .exit) ≡ rewrittenFile (now (file .entry)) (length (now (words .entry))) (now (copy .entry)) ⌝ }
+    ensures number { λ r. ⌜ writingNumber r ≡ rewriteRefusal (now (file .entry)) (length (now (words .entry))) (length (now (copy .entry))) ⌝ }
+    ensures values { λ r. ⌜ writingValues r ≡ unless (rewriteRefusal (now (file .entry)) (length (now (words .entry))) (length (now (copy .entry)))) (length (now (file .entry)) ∷ []) ⌝ }
 {
     let found = super::read(file, words);
     match found {

@@ -1,14 +1,11 @@
 // Writing a file: why it is refused, and its lines, each over the front of what is left of the slice.
 ghost use mathlib.Core.Path.{_≡_};
-ghost use mathlib.Core.List.{_∷_, _++_};
+ghost use mathlib.Core.List.{_++_};
 ghost use Prim.Native.Nat.{_*_, _≤_};
 ghost use lib.ListN.{length, drop};
 ghost use Rattle.table.specs.Table.{linkCount};
-ghost use Rattle.frames.specs.Frame.{wordBytes, lineOver};
-ghost use Rattle.frames.specs.Kinds.{LINK};
 ghost use Rattle.files.specs.File.{linkLines, fileOf, fileLength, writeRefusal};
-use frames::digits;
-use frames::front;
+use frames::kinds;
 use frames::line;
 
 // The number of the first cause among 4 to 9, 14; 0 where there is none.
@@ -25,28 +22,6 @@ pub(crate) fn refusal(units: u16, words: &[u16], places: usize) -> u8
     0
 }
 
-// The line of a kind and one number.
-fn number_line(kind: u8, w: u16, out: &mut [u8])
-    ensures { λ _. ⌜ now (out .exit) ≡ lineOver (kind ∷ wordBytes w) (now (out .entry)) ⌝ }
-{
-    let body = [kind, digits::high_byte(w), digits::low_byte(w)];
-    line::write(&body, out);
-}
-
-// The line of a link.
-fn link_line(a: u16, b: u16, out: &mut [u8])
-    ensures { λ _. ⌜ now (out .exit) ≡ lineOver (LINK ∷ wordBytes a ++ wordBytes b) (now (out .entry)) ⌝ }
-{
-    let body = [
-        front::LINK,
-        digits::high_byte(a),
-        digits::low_byte(a),
-        digits::high_byte(b),
-        digits::low_byte(b),
-    ];
-    line::write(&body, out);
-}
-
 // The lines of all links, in order.
 fn link_lines(words: &[u16], out: &mut [u8])
     requires { ⌜ (linkCount (now words) ≤ 1024) × (13 * linkCount (now words) ≤ length (now out)) ⌝ }
@@ -57,7 +32,7 @@ fn link_lines(words: &[u16], out: &mut [u8])
         let at = 13 * j;
         let a = slices::word(words, 2 * j);
         let b = slices::word(words, 2 * j + 1);
-        link_line(a, b, &mut out[at..]);
+        line::two_numbers(kinds::LINK, a, b, &mut out[at..]);
         j += 1;
     }
 }
@@ -69,7 +44,7 @@ pub(crate) fn lines(units: u16, words: &[u16], out: &mut [u8])
 {
     let links = words.len() / 2;
     let end = 9 + 13 * links;
-    number_line(front::UNITS, units, out);
+    line::one_number(kinds::UNITS, units, out);
     link_lines(words, &mut out[9..]);
-    number_line(front::END, links as u16, &mut out[end..]);
+    line::one_number(kinds::END, links as u16, &mut out[end..]);
 }

@@ -7,10 +7,10 @@ use Prim.Native.Nat.{ℕ, zero, suc, _+_, _*_, _-_, _/_, _%_, _≤_, _<_}
 use native.Mathlib.Decide.{decLt}
 use native.Mathlib.Omega.{arith}
 use lib.Dec.{ltb}
-use lib.ListN.{length, getD, length-append, List·getD-eq-default}
+use lib.ListN.{length, getD, length-append}
 use borrow.Author.Tests.{le-leb, lt-leb, lt-ltb, le-ltb, ltb-true}
 use Rattle.lists.specs.Tests.{and-left, and-right}
-use Rattle.frames.specs.Frame.{LF, digitOf, digitValue, byteOf, byteAt, hexOf, hexesOf, sumOf, checkByte, lineOf, lineLength, allDigits, bytesOf}
+use Rattle.frames.specs.Frame.{LF, digitOf, digitValue, byteOf, hexOf, hexesOf, sumOf, checkByte, lineOf, lineLength, allDigits, bytesOf}
 
 -- every number of the list is a byte
 abbrev pub Bytes : List ℕ → Type 0
@@ -39,19 +39,19 @@ IsDigit c = ((48 ≤ c) × (c ≤ 57)) ⊎ ((65 ≤ c) × (c ≤ 70))
 
 -- the value of a character, by where it stands
 module _ (c : ℕ) where
-  pub value-low : c < 48 → 16 ≡ digitValue c
+  value-low : c < 48 → 16 ≡ digitValue c
   value-low h = rw (lt-leb 48 c h, lt-leb 65 c (omega arith))
 
-  pub value-numeral : 48 ≤ c → c ≤ 57 → c - 48 ≡ digitValue c
+  value-numeral : 48 ≤ c → c ≤ 57 → c - 48 ≡ digitValue c
   value-numeral h k = rw (le-leb 48 c h, le-leb c 57 k)
 
-  pub value-between : 57 < c → c < 65 → 16 ≡ digitValue c
+  value-between : 57 < c → c < 65 → 16 ≡ digitValue c
   value-between h k = rw (le-leb 48 c (omega arith), lt-leb c 57 h, lt-leb 65 c k)
 
-  pub value-letter : 65 ≤ c → c ≤ 70 → c - 55 ≡ digitValue c
+  value-letter : 65 ≤ c → c ≤ 70 → c - 55 ≡ digitValue c
   value-letter h k = rw (le-leb 48 c (omega arith), lt-leb c 57 (omega arith), le-leb 65 c h, le-leb c 70 k)
 
-  pub value-high : 70 < c → 16 ≡ digitValue c
+  value-high : 70 < c → 16 ≡ digitValue c
   value-high h = rw (le-leb 48 c (omega arith), lt-leb c 57 (omega arith), le-leb 65 c (omega arith), lt-leb c 70 h)
 
 -- what a character is, with its value
@@ -117,13 +117,6 @@ byte-forth c d hc hd =
     let high : byteOf c d / 16 ≡ digitValue c = omega arith in
     let low : byteOf c d % 16 ≡ digitValue d = omega arith in
     rw (high, low, digit-forth c hc, digit-forth d hd)
-
--- past the end there are no characters
-pub byteAt-past : (s : List ℕ) (i : ℕ) → length s ≤ i → byteAt s i ≡ byteOf 0 0
-byteAt-past s i h = rw (List·getD-eq-default s 0 h, past)
-  where
-    past : getD s (i + 1) 0 ≡ 0
-    past = List·getD-eq-default s 0 (omega arith)
 
 -- ---- lists of bytes there and back
 

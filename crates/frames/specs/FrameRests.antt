@@ -1,13 +1,14 @@
 -- Frames from a place on, as a loop along the bytes or characters meets them.
 use mathlib.Core.Path.{_≡_, refl, ap, _∙_}
-use mathlib.Core.Bool.{true, false}
+use mathlib.Core.Bool.{true, _&&_}
 use mathlib.Core.List.{List, [], _∷_, _++_}
 use Prim.Native.Nat.{ℕ, _+_, _*_, _/_, _%_, _≤_, _<_}
 use native.Mathlib.Numerals.{add-one}
 use native.Mathlib.Omega.{arith}
+use lib.Dec.{ltb}
 use lib.ListN.{length, getD, drop, take, set, drop-of-length-le, length-drop, length-append}
 use lib.Seq.{take-suc, length-take-le}
-use borrow.Author.Tests.{lt-ltb, le-ltb, le-leb, lt-leb}
+use borrow.Author.Tests.{le-leb, lt-leb}
 use Rattle.lists.specs.Rests.{rest-one, rest-two}
 use Rattle.lists.specs.Lent.{lent, back, back-next}
 use Rattle.lists.specs.Puts.{put-one, put-two}
@@ -16,13 +17,11 @@ use Rattle.frames.specs.FrameLaws.{hexes-append, length-hexes}
 
 -- ---- digits
 
-pub digits-here : (s : List ℕ) (i : ℕ) → i < length s → 16 ≤ digitValue (getD s i 0) → allDigits (drop i s) ≡ false
+-- two characters at a time
+pub digits-later : (s : List ℕ) (i : ℕ) → i + 1 < length s
+    → allDigits (drop i s) ≡ (ltb (digitValue (getD s i 0)) 16 && (ltb (digitValue (getD s (i + 1) 0)) 16 && allDigits (drop (i + 2) s)))
 unfolding allDigits
-digits-here s i h k = rw (rest-one s i 0 h, le-ltb (digitValue (getD s i 0)) 16 k)
-
-pub digits-later : (s : List ℕ) (i : ℕ) → i < length s → digitValue (getD s i 0) < 16 → allDigits (drop i s) ≡ allDigits (drop (i + 1) s)
-unfolding allDigits
-digits-later s i h k = rw (rest-one s i 0 h, lt-ltb (digitValue (getD s i 0)) 16 k)
+digits-later s i h = rw (rest-two s i 0 h)
 
 pub digits-end : (s : List ℕ) (i : ℕ) → length s ≤ i → allDigits (drop i s) ≡ true
 unfolding allDigits
@@ -38,7 +37,7 @@ pub sum-end : (f : List ℕ) (i : ℕ) → length f ≤ i → sumOf (drop i f) �
 unfolding sumOf
 sum-end f i h = rw (drop-of-length-le f h)
 
-pub bytes-later : (s : List ℕ) (i : ℕ) → i + 1 < length s → bytesOf (drop i s) ≡ byteAt s i ∷ bytesOf (drop (i + 2) s)
+bytes-later : (s : List ℕ) (i : ℕ) → i + 1 < length s → bytesOf (drop i s) ≡ byteAt s i ∷ bytesOf (drop (i + 2) s)
 unfolding bytesOf
 bytes-later s i h = rw (rest-two s i 0 h)
 

@@ -1,56 +1,70 @@
--- What recognising a line replies, by its tests.
+-- The line of a file that characters begin with, by its tests.
 use mathlib.Core.Path.{_≡_, refl, sym, ap, _∙_}
-use mathlib.Core.Bool.{Bool, true, false, cond}
+use mathlib.Core.Bool.{true, false, _&&_}
+use mathlib.Core.Logic.{_⊎_, inl, inr}
 use mathlib.Core.List.{List}
-use Prim.Native.Nat.{ℕ}
+use Prim.Native.Nat.{ℕ, _*_, _%_, _≤_, _<_}
+use native.Mathlib.Decide.{ℕ-discrete}
 use native.Mathlib.Omega.{arith}
-use borrow.Author.Tests.{ne-eqb}
-use Rattle.frames.specs.Frame.{lineFront}
-use Rattle.frames.specs.Kinds.{frameBytes, kindFront, fileFront, frontOf, frontNumber}
-use Rattle.frames.specs.declared.front.Front.{Front}
-use Rattle.frames.specs.declared.front.Front.the-variants.{Frame, Refused}
+use lib.Dec.{eqb}
+use lib.ListN.{length, getD, take, List·getD-eq-default}
+use borrow.Author.Tests.{eq-eqb, ne-eqb}
+use Rattle.lists.specs.Tests.{either}
+use Rattle.frames.specs.Frame.{LF, lineFront, allDigits, sumOf, bytesOf}
+use Rattle.frames.specs.Kinds.{frameBytes, kindFront, fileFront, lineKind}
 
-module _ (s : List ℕ) (kind bytes : ℕ) (k : kind ≡ kindFront s) (b : bytes ≡ frameBytes kind) where
-  pub front-unknown : bytes ≡ 0 → Refused ≡ frontOf s
-  unfolding frontOf fileFront
-  front-unknown z =
-      let e : frameBytes (kindFront s) ≡ 0 = ap frameBytes (sym k) ∙ sym b ∙ z in
-      rw e
+-- ---- the tests
 
-  pub front-frame : (bytes ≡ 0 → ⊥) → lineFront bytes s ≡ true → Frame kind bytes ≡ frontOf s
-  unfolding frontOf fileFront
-  front-frame n h =
-      rw (← k, ← b, ne-eqb bytes 0 n, h)
+module _ (s : List ℕ) (bytes : ℕ) (size : bytes ≡ frameBytes (kindFront s)) where
+  pub front-unknown : bytes ≡ 0 → fileFront s ≡ false
+  unfolding fileFront
+  front-unknown z = let e : frameBytes (kindFront s) ≡ 0 = sym size ∙ z in rw e
 
-  pub front-other : (bytes ≡ 0 → ⊥) → lineFront bytes s ≡ false → Refused ≡ frontOf s
-  unfolding frontOf fileFront
-  front-other n h = rw (← k, ← b, ne-eqb bytes 0 n, h)
+  pub front-other : (bytes ≡ 0 → ⊥) → (getD s (2 * bytes) 0 ≡ LF → ⊥) → fileFront s ≡ false
+  unfolding fileFront lineFront
+  front-other n h = rw (← size, ne-eqb bytes 0 n, ne-eqb (getD s (2 * bytes) 0) LF h)
 
--- ---- what a reply says
+  pub front-short : (bytes ≡ 0 → ⊥) → length s ≤ 2 * bytes → fileFront s ≡ false
+  front-short n h =
+      let past : getD s (2 * bytes) 0 ≡ 0 = List·getD-eq-default s 0 h in
+      front-other n (λ e. omega (arith, e, past))
 
-frame-says : (t : Bool) (s : List ℕ) (kind bytes : ℕ) → cond t (Frame (kindFront s) (frameBytes (kindFront s))) Refused ≡ Frame kind bytes
-    → (t ≡ true) × (bytes ≡ frameBytes (kindFront s))
-frame-says true s kind bytes e = (refl, cc)
-frame-says false s kind bytes e = absurd (let z : _≡_ {A = ℕ} 0 1 = cc in omega arith)
+  pub front-line : (bytes ≡ 0 → ⊥) → getD s (2 * bytes) 0 ≡ LF
+      → fileFront s ≡ (allDigits (take (2 * bytes) s) && eqb (sumOf (bytesOf (take (2 * bytes) s)) % 256) 0)
+  unfolding fileFront lineFront
+  front-line n e = rw (← size, ne-eqb bytes 0 n, eq-eqb (getD s (2 * bytes) 0) LF e)
 
-pub front-is-frame : (s : List ℕ) (kind bytes : ℕ) → frontOf s ≡ Frame kind bytes → (fileFront s ≡ true) × (bytes ≡ frameBytes (kindFront s))
-unfolding frontOf
-front-is-frame s kind bytes e = frame-says (fileFront s) s kind bytes e
+-- one character has no kind
+pub front-few : (s : List ℕ) → length s < 2 → fileFront s ≡ false
+front-few s h = go (ℕ-discrete (frameBytes (kindFront s)) 0)
+  where
+    go : Dec (frameBytes (kindFront s) ≡ 0) → fileFront s ≡ false
+    go (yes e) = front-unknown s (frameBytes (kindFront s)) refl e
+    go (no n) = front-short s (frameBytes (kindFront s)) refl n (omega arith)
 
-refused-says : (t : Bool) (f : Front) → (f ≡ Refused → ⊥) → cond t f Refused ≡ Refused → t ≡ false
-refused-says true f n e = absurd (n e)
-refused-says false f n e = refl
+-- ---- the kind, by the test
 
-pub front-is-refused : (s : List ℕ) → frontOf s ≡ Refused → fileFront s ≡ false
-unfolding frontOf
-front-is-refused s e =
-    refused-says (fileFront s) (Frame (kindFront s) (frameBytes (kindFront s))) (λ q. let z : _≡_ {A = ℕ} 0 1 = cc in omega arith) e
+pub kind-none : (s : List ℕ) → fileFront s ≡ false → 0 ≡ lineKind s
+unfolding lineKind
+kind-none s e = rw e
 
-number-says : (t : Bool) (kind bytes : ℕ) → frontNumber (cond t (Frame kind bytes) Refused) ≡ cond t 0 1
-number-says true kind bytes = refl
-number-says false kind bytes = refl
+pub kind-some : (s : List ℕ) (kind : ℕ) → kind ≡ kindFront s → fileFront s ≡ true → kind ≡ lineKind s
+unfolding lineKind
+kind-some s kind k e = rw (e, k)
 
--- the number is 1 exactly where the characters begin with no line of a file's frame
-pub front-number : (s : List ℕ) → frontNumber (frontOf s) ≡ cond (fileFront s) 0 1
-unfolding frontOf
-front-number s = number-says (fileFront s) (kindFront s) (frameBytes (kindFront s))
+-- 0 is no kind of a file
+pub none-front : (s : List ℕ) → lineKind s ≡ 0 → fileFront s ≡ false
+unfolding lineKind
+none-front s e = go (either (fileFront s))
+  where
+    go : (fileFront s ≡ true) ⊎ (fileFront s ≡ false) → fileFront s ≡ false
+    go (inr h) = h
+    go (inl h) = front-unknown s (frameBytes (kindFront s)) refl (ap frameBytes (rw h at e))
+
+pub some-front : (s : List ℕ) → (lineKind s ≡ 0 → ⊥) → (fileFront s ≡ true) × (kindFront s ≡ lineKind s)
+unfolding lineKind
+some-front s n = go (either (fileFront s))
+  where
+    go : (fileFront s ≡ true) ⊎ (fileFront s ≡ false) → (fileFront s ≡ true) × (kindFront s ≡ lineKind s)
+    go (inl h) = (h, rw h)
+    go (inr h) = absurd (n (rw h))

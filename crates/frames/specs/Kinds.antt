@@ -1,23 +1,36 @@
--- The kinds of the frames of a survey file, and what recognising a line replies.
+-- The kinds of frames (document 01), and the line of a file that characters begin with.
 use mathlib.Core.Bool.{Bool, cond, not, _&&_}
 use mathlib.Core.List.{List}
 use Prim.Native.Nat.{ℕ}
 use lib.Dec.{eqb}
 use Rattle.frames.specs.Frame.{byteAt, lineFront}
-use Rattle.frames.specs.declared.front.Front.{Front}
-use Rattle.frames.specs.declared.front.Front.the-variants.{Frame, Refused}
 
--- the unit count
+-- file: the unit count, the two ends of a link, the number of links
 abbrev pub UNITS : ℕ
 UNITS = 0x01
 
--- the two ends of a link
 abbrev pub LINK : ℕ
 LINK = 0x02
 
--- the number of links
 abbrev pub END : ℕ
 END = 0x0F
+
+-- report: all rounds and requests, a unit, a link's label, the numbers of single points and lone links
+abbrev pub HEAD : ℕ
+HEAD = 0x11
+
+abbrev pub UNIT : ℕ
+UNIT = 0x12
+
+abbrev pub LABEL : ℕ
+LABEL = 0x13
+
+abbrev pub TAIL : ℕ
+TAIL = 0x1F
+
+-- the number of a refusal
+abbrev pub REFUSAL : ℕ
+REFUSAL = 0x1E
 
 -- the bytes of a frame of a file kind, its kind and check byte included; 0: no kind of a file
 abbrev pub frameBytes : ℕ → ℕ
@@ -31,11 +44,6 @@ kindFront s = byteAt s 0
 unfoldable pub fileFront : List ℕ → Bool
 fileFront s = not (eqb (frameBytes (kindFront s)) 0) && lineFront (frameBytes (kindFront s)) s
 
--- the frame's kind and number of bytes, or refused: the line has fault 1 of document 01's list
-unfoldable pub frontOf : List ℕ → Front
-frontOf s = cond (fileFront s) (Frame (kindFront s) (frameBytes (kindFront s))) Refused
-
--- document 01's number of that reply: 0 where the line is not refused
-abbrev pub frontNumber : Front → ℕ
-frontNumber (Frame kind bytes) = 0
-frontNumber Refused = 1
+-- that kind; 0, which is none, where the line has fault 1 of document 01's list
+unfoldable pub lineKind : List ℕ → ℕ
+lineKind s = cond (fileFront s) (kindFront s) 0

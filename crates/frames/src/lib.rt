@@ -1,6 +1,6 @@
-// One line of hexadecimal digits: written over the front of a lent slice, and recognised at the front of one.
+// One line of hexadecimal digits: its kinds, its digits, its check byte, and the line written over the front of a lent slice.
 
 pub mod check;
 pub mod digits;
-pub mod front;
+pub mod kinds;
 pub mod line;

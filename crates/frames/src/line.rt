@@ -1,9 +1,9 @@
 // A frame's line, written over the front of a lent slice.
 ghost use mathlib.Core.Path.{_≡_};
-ghost use mathlib.Core.List.{_++_};
+ghost use mathlib.Core.List.{_∷_, _++_};
 ghost use Prim.Native.Nat.{_+_, _*_, _≤_, _/_, _%_};
 ghost use lib.ListN.{length, drop, set};
-ghost use Rattle.frames.specs.Frame.{digitOf, hexesOf, lineOver};
+ghost use Rattle.frames.specs.Frame.{digitOf, wordBytes, hexesOf, lineOver};
 use crate::check;
 use crate::digits;
 
@@ -45,4 +45,26 @@ pub fn write(body: &[u8], out: &mut [u8])
     put_bytes(body, out);
     put_byte(out, at, check::check_byte(body));
     out[at + 2] = LF;
+}
+
+// The line of a kind and one number.
+pub fn one_number(kind: u8, w: u16, out: &mut [u8])
+    ensures { λ _. ⌜ now (out .exit) ≡ lineOver (kind ∷ wordBytes w) (now (out .entry)) ⌝ }
+{
+    let body = [kind, digits::high_byte(w), digits::low_byte(w)];
+    write(&body, out);
+}
+
+// The line of a kind and two numbers.
+pub fn two_numbers(kind: u8, x: u16, y: u16, out: &mut [u8])
+    ensures { λ _. ⌜ now (out .exit) ≡ lineOver (kind ∷ wordBytes x ++ wordBytes y) (now (out .entry)) ⌝ }
+{
+    let body = [
+        kind,
+        digits::high_byte(x),
+        digits::low_byte(x),
+        digits::high_byte(y),
+        digits::low_byte(y),
+    ];
+    write(&body, out);
 }

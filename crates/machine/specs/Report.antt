@@ -1,13 +1,14 @@
 -- What a finished survey says of each unit and link, and its report: 11 all rounds, requests; 12 per unit; 13 per link; 1F the numbers of
 -- single points and lone links.
 use mathlib.Core.Bool.{Bool, cond, _&&_}
-use mathlib.Core.List.{List, [], _∷_, _++_}
+use mathlib.Core.List.{List, _++_}
 use Prim.Native.Nat.{ℕ, zero, suc, _+_, _*_}
 use lib.Dec.{leb}
 use lib.ListN.{length, drop}
 use Rattle.lists.specs.Folds.{count}
 use Rattle.lists.specs.Gathered.{gathered}
-use Rattle.frames.specs.Frame.{wordBytes, lineOf}
+use Rattle.frames.specs.Frame.{lineOf}
+use Rattle.frames.specs.Bodies.{headBody, unitBody, labelBody, tailBody}
 use Rattle.table.specs.Table.{maxUnits, maxLinks}
 use Rattle.rules.specs.Basics.{at}
 use Rattle.rules.specs.Labels.{lone, single}
@@ -39,22 +40,16 @@ abbrev pub flag : Bool → ℕ
 flag b = cond b 1 0
 
 unfoldable pub headLine : State → List ℕ
-headLine s = lineOf (0x11 ∷ wordBytes (s .clock .rounds) ++ wordBytes (s .clock .requests))
+headLine s = lineOf (headBody (s .clock .rounds) (s .clock .requests))
 
 unfoldable pub unitLine : State → ℕ → List ℕ
-unitLine s v =
-    lineOf
-    (0x12 ∷ wordBytes v
-    ++ wordBytes (unitColor s v)
-    ++ wordBytes (unitParent s v)
-    ++ wordBytes (unitPlace s v)
-    ++ flag (unitSingle s v) ∷ [])
+unitLine s v = lineOf (unitBody v (unitColor s v) (unitParent s v) (unitPlace s v) (flag (unitSingle s v)))
 
 unfoldable pub linkLine : State → ℕ → List ℕ
-linkLine s j = lineOf (0x13 ∷ wordBytes j ++ wordBytes (linkLabel s j) ++ flag (linkLone s j) ∷ [])
+linkLine s j = lineOf (labelBody j (linkLabel s j) (flag (linkLone s j)))
 
 unfoldable pub tailLine : State → List ℕ
-tailLine s = lineOf (0x1F ∷ wordBytes (count (units s) (unitSingle s)) ++ wordBytes (count (links s) (linkLone s)))
+tailLine s = lineOf (tailBody (count (units s) (unitSingle s)) (count (links s) (linkLone s)))
 
 -- unit lines after the first line, link lines after those
 unfoldable pub report : State → List ℕ

@@ -14,6 +14,7 @@ use Rattle.lists.specs.Tests.{either}
 use Rattle.table.specs.Refusals.{written}
 use Rattle.table.specs.Table.{linkCount, badUnitCount, oddWords, tooManyLinks, endMissing, equalEnds, repeatedLink, tableRefusal}
 use Rattle.frames.specs.Frame.{lineOver}
+use Rattle.frames.specs.Bodies.{refusalBody}
 use Rattle.frames.specs.FrameLaws.{length-line}
 use Rattle.files.specs.File.{linesOf, readRefusal, readReply, endsIn}
 use Rattle.files.specs.TripLaws.{unread-told, read-told}
@@ -47,13 +48,13 @@ laid-fits text places = go (decLt places (length text))
 -- ---- a refusal's line
 
 length-refusal : (k : ℕ) → length (refusalLine k) ≡ 7
-length-refusal k = length-line (0x1E ∷ k ∷ [])
+length-refusal k = length-line (refusalBody k)
 
-pub refusal-line : (k : ℕ) (out : List ℕ) → lineOver (0x1E ∷ k ∷ []) out ≡ laidOver (refusalLine k) out
+pub refusal-line : (k : ℕ) (out : List ℕ) → lineOver (refusalBody k) out ≡ laidOver (refusalLine k) out
 unfolding lineOver laidOver
 refusal-line k out = go (decLt (length out) 7)
   where
-    go : Dec (length out < 7) → lineOver (0x1E ∷ k ∷ []) out ≡ laidOver (refusalLine k) out
+    go : Dec (length out < 7) → lineOver (refusalBody k) out ≡ laidOver (refusalLine k) out
     go (yes l) = rw (length-refusal k, lt-leb 7 (length out) l, lt-ltb (length out) 7 l) refl
     go (no l) =
         let fits : 7 ≤ length out = omega arith in

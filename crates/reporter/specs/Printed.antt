@@ -6,6 +6,7 @@ use lib.Dec.{eqb, ltb}
 use lib.ListN.{length, drop}
 use Rattle.table.specs.Table.{tableRefusal}
 use Rattle.frames.specs.Frame.{lineOf}
+use Rattle.frames.specs.Bodies.{refusalBody}
 use Rattle.files.specs.File.{linesOf, readRefusal, unitsIn, endsIn}
 use Rattle.survey.specs.declared.state.Survey.{Survey}
 use Rattle.survey.specs.Load.{loaded}
@@ -22,7 +23,7 @@ WORDS = 2048
 
 -- a refusal's line: 1E and the number as one byte
 abbrev pub refusalLine : ℕ → List ℕ
-refusalLine k = lineOf (0x1E ∷ k ∷ [])
+refusalLine k = lineOf (refusalBody k)
 
 -- the survey of n units and the table t, run with the greatest budget, which always comes to the end
 abbrev pub surveyed : ℕ → List ℕ → Survey

@@ -5,6 +5,7 @@ ghost use Prim.Native.Nat.{_≤_};
 ghost use lib.ListN.{length};
 ghost use Rattle.reporter.specs.Printed.{WORDS, refusalLine, printedTable, printedFile, printed, laidOver, laidCount};
 use files::Reading;
+use frames::kinds;
 use frames::line;
 
 // The longest input, and the longest output: the report of 256 units and 1,024 links.
@@ -49,7 +50,7 @@ fn refusal(number: u8, out: &mut [u8]) -> u32
     ensures count { λ r. ⌜ r ≡ laidCount (refusalLine number) (length (now (out .entry))) ⌝ }
     ensures bytes { λ _. ⌜ now (out .exit) ≡ laidOver (refusalLine number) (now (out .entry)) ⌝ }
 {
-    let body = [0x1E, number];
+    let body = [kinds::REFUSAL, number];
     line::write(&body, out);
     if out.len() < 7 { 0 } else { 7 }
 }

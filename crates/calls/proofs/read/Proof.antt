@@ -23,7 +23,7 @@ returns c =
     let a = c .before .before .before .before .before .before .before .before .before .args in
     let r = c .before .before .before .before .before .read in
     let told = sym (c .before .found .given .1) ∙ r .ensures .0 in
-    (ap (readingAnswer (a .survey)) told ∙ read-answer (a .file .now) (length (a .words .now)) (a .survey), r .ensures .1)
+    (ap (readingAnswer (a .survey)) told ∙ read-answer (a .file .now) (length (a .words .now)) (a .survey), r .ensures .1 .0)
 
 same-length-2 : tie.Need-same-length-2
 same-length-2 c = search needs
@@ -33,7 +33,7 @@ returns-2 c =
     let a = c .before .before .before .before .before .before .before .before .before .args in
     let r = c .before .before .before .before .before .read in
     let told = sym (c .before .found2 .given .1) ∙ r .ensures .0 in
-    (ap (readingAnswer (a .survey)) told ∙ read-answer (a .file .now) (length (a .words .now)) (a .survey), r .ensures .1)
+    (ap (readingAnswer (a .survey)) told ∙ read-answer (a .file .now) (length (a .words .now)) (a .survey), r .ensures .1 .0)
 
 pub read-spec : {M : Type 1} → statement M
 read-spec =

@@ -23,7 +23,7 @@ returns c =
     let a = c .before .before .before .before .before .before .before .before .before .args in
     let r = c .before .before .before .before .before .write in
     let told = sym (c .before .done .given .1) ∙ r .ensures .0 in
-    (ap (writingAnswer (a .survey)) told ∙ write-answer (a .units) (a .words .now) (length (a .out .now)) (a .survey), r .ensures .1)
+    (ap (writingAnswer (a .survey)) told ∙ write-answer (a .units) (a .words .now) (length (a .out .now)) (a .survey), r .ensures .1 .0)
 
 same-length-2 : tie.Need-same-length-2
 same-length-2 c = search needs
@@ -33,7 +33,7 @@ returns-2 c =
     let a = c .before .before .before .before .before .before .before .before .before .args in
     let r = c .before .before .before .before .before .write in
     let told = sym (c .before .done2 .given .1) ∙ r .ensures .0 in
-    (ap (writingAnswer (a .survey)) told ∙ write-answer (a .units) (a .words .now) (length (a .out .now)) (a .survey), r .ensures .1)
+    (ap (writingAnswer (a .survey)) told ∙ write-answer (a .units) (a .words .now) (length (a .out .now)) (a .survey), r .ensures .1 .0)
 
 pub write-spec : {M : Type 1} → statement M
 write-spec =

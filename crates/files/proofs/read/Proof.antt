@@ -1,9 +1,13 @@
--- A refusal leaves the words; an accepted file has its shape, and its ends are laid down.
-use mathlib.Core.Path.{_≡_, sym, _∙_}
+-- A refusal leaves the words; in an accepted file the ends are laid down, and the first line holds the unit count.
+use mathlib.Core.Path.{_≡_, sym, ap, _∙_}
+use Prim.Native.Nat.{ℕ}
 use native.Mathlib.Omega.{arith}
 use lib.ListN.{length}
 use Rattle.files.specs.File.{linesOf, readRefusal}
-use Rattle.files.specs.ReadLaws.{read-refused, words-refused, accepted-file, accepted-few, accepted-fits, read-accepted, words-accepted}
+use Rattle.files.specs.ReadLaws.{read-refused, words-refused, sound, accepted-fits, accepted-stands, read-accepted, words-accepted}
+use Rattle.files.specs.Replies.{read-tells}
+use Rattle.files.specs.declared.Reading.{Reading}
+use Rattle.files.specs.declared.Reading.the-variants.{Read}
 use borrow.Author.Needs.{needs}
 use Rattle.files.proofs.read.Statement.{statement}
 use Rattle.files.proofs.read.Tie as tie
@@ -25,15 +29,10 @@ refusal-requires c κs = search needs
 returns : tie.Need-returns
 returns c =
     let a = c .before .before .before .before .before .before .args in
-    let r = c .before .refusal in (
-      read-refused (a .file .now) (length (a .words .now)) (r .result) (r .ensures) (c .if1 .taken),
-      words-refused (a .file .now) (a .words .now) (r .result) (r .ensures) (c .if1 .taken),
-    )
-
-sub-links : tie.Need-sub-links
-sub-links c =
-    let a = c .before .before .before .before .before .before .args in
-    omega (arith, accepted-file (a .file .now) (length (a .words .now)) (accepted c) .long)
+    let s = a .file .now in
+    let r = c .before .refusal in
+    let reply = read-refused s (length (a .words .now)) (r .result) (r .ensures) (c .if1 .taken) in
+    (reply, (words-refused s (a .words .now) (r .result) (r .ensures) (c .if1 .taken), read-tells s (length (a .words .now)) (Reading.Refused (r .result)) reply))
 
 slice-aggregate-fill : tie.Need-slice-aggregate-fill
 slice-aggregate-fill c = search needs
@@ -41,31 +40,46 @@ slice-aggregate-fill c = search needs
 fill-requires : tie.Need-fill-requires
 fill-requires c κs =
     let e = c .before .before in
-    let a = e .before .before .before .before .before .before .args in (
+    let a = e .before .before .before .before .before .before .args in
+    let o = accepted e in (
       e .before .before .before .made .ensures,
-      accepted-few (a .file .now) (length (a .words .now)) (accepted e),
-      omega (arith, accepted-file (a .file .now) (length (a .words .now)) (accepted e) .long),
-      accepted-fits (a .file .now) (length (a .words .now)) (accepted e),
+      sound (a .file .now) (length (a .words .now)) o .lines,
+      accepted-fits (a .file .now) (length (a .words .now)) o,
     )
 
+slice-aggregate-word-at : tie.Need-slice-aggregate-word-at
+slice-aggregate-word-at c = search needs
+
 word-at-requires : tie.Need-word-at-requires
-word-at-requires c κs = search needs
+word-at-requires c κs =
+    let e = c .before .before .before .before .before .before in
+    let a = e .before .before .before .before .before .before .args in
+    (e .before .before .before .made .ensures, omega (arith, accepted-stands (a .file .now) (length (a .words .now)) (accepted e)))
 
 cast-t18 : tie.Need-cast-t18
 cast-t18 c =
-    let e = c .before .before .before .before .before .before in
+    let f = c .before .before .before .before in
+    let e = f .before .before .before in
     let a = e .before .before .before .before .before .before .args in
-    omega (arith, accepted-few (a .file .now) (length (a .words .now)) (accepted e))
+    omega (arith, f .fill .ensures .0, sound (a .file .now) (length (a .words .now)) (accepted e) .few)
 
 same-length : tie.Need-same-length
 same-length c = search needs
 
 returns-2 : tie.Need-returns-2
 returns-2 c =
-    let e = c .before .before .before .before .before .before in
-    let a = e .before .before .before .before .before .before .args in (
-      rw (c .word-at .ensures) (read-accepted (a .file .now) (length (a .words .now)) (accepted e)),
-      c .before .before .before .fill .ensures ∙ words-accepted (a .file .now) (a .words .now) (accepted e),
+    let f = c .before .before .before .before in
+    let e = f .before .before .before in
+    let a = e .before .before .before .before .before .before .args in
+    let s = a .file .now in
+    let places = length (a .words .now) in
+    let reply =
+    ap (λ (n : ℕ). Read n (f .fill .result)) (c .word-at .ensures) ∙ read-accepted s places (accepted e) (f .fill .result) (f .fill .ensures .0) in (
+      reply,
+      (
+        f .fill .ensures .1 ∙ words-accepted s (a .words .now) (accepted e),
+        read-tells s places (Read (c .word-at .result) (f .fill .result)) reply,
+      ),
     )
 
 pub read-spec : {M : Type 1} → statement M
@@ -76,9 +90,9 @@ read-spec =
     slice-aggregate-refusal
     refusal-requires
     returns
-    sub-links
     slice-aggregate-fill
     fill-requires
+    slice-aggregate-word-at
     word-at-requires
     cast-t18
     same-length

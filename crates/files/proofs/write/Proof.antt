@@ -1,12 +1,15 @@
 -- A refusal leaves the bytes; a table that passes, in a slice that is long enough, is written line by line.
 use mathlib.Core.Path.{_≡_, sym, _∙_}
-use Prim.Native.Nat.{_≤_}
+use Prim.Native.Nat.{_+_, _*_, _/_, _≤_}
 use native.Mathlib.Omega.{arith}
 use lib.ListN.{length}
 use Rattle.table.specs.Table.{linkCount}
 use Rattle.table.specs.Passes.{passes}
 use Rattle.files.specs.File.{writeRefusal}
 use Rattle.files.specs.WriteLaws.{write-refused, bytes-refused, written-table, written-fits, write-accepted, bytes-accepted}
+use Rattle.files.specs.Replies.{write-tells}
+use Rattle.files.specs.declared.Writing.{Writing}
+use Rattle.files.specs.declared.Writing.the-variants.{Written}
 use borrow.Author.Needs.{needs}
 use Rattle.files.proofs.write.Statement.{statement}
 use Rattle.files.proofs.write.Tie as tie
@@ -25,9 +28,13 @@ refusal-requires c κs = search needs
 returns : tie.Need-returns
 returns c =
     let a = c .before .before .before .before .args in
-    let r = c .before .refusal in (
-      write-refused (a .units) (a .words .now) (length (a .out .now)) (r .result) (r .ensures) (c .if1 .taken),
-      bytes-refused (a .units) (a .words .now) (a .out .now) (r .result) (r .ensures) (c .if1 .taken),
+    let r = c .before .refusal in
+    let reply = write-refused (a .units) (a .words .now) (length (a .out .now)) (r .result) (r .ensures) (c .if1 .taken) in (
+      reply,
+      (
+        bytes-refused (a .units) (a .words .now) (a .out .now) (r .result) (r .ensures) (c .if1 .taken),
+        write-tells (a .units) (a .words .now) (length (a .out .now)) (Writing.Refused (r .result)) reply,
+      ),
     )
 
 lines-requires : tie.Need-lines-requires
@@ -50,9 +57,13 @@ same-length c = search needs
 returns-2 : tie.Need-returns-2
 returns-2 c =
     let a = c .before .before .before .before .before .before .before .before .args in
-    let e = accepted (c .before .before .before .before) in (
-      write-accepted (a .units) (a .words .now) (length (a .out .now)) e,
-      c .before .before .lines .ensures ∙ bytes-accepted (a .units) (a .words .now) (a .out .now) e,
+    let e = accepted (c .before .before .before .before) in
+    let reply = write-accepted (a .units) (a .words .now) (length (a .out .now)) e in (
+      reply,
+      (
+        c .before .before .lines .ensures ∙ bytes-accepted (a .units) (a .words .now) (a .out .now) e,
+        write-tells (a .units) (a .words .now) (length (a .out .now)) (Written (18 + 13 * (length (a .words .now) / 2))) reply,
+      ),
     )
 
 pub write-spec : {M : Type 1} → statement M

@@ -82,7 +82,7 @@ returns-2 c =
     let u = c .before .before .before .before .before .before .found2 .given .0 .0 in
     let m = c .before .before .before .before .before .before .found2 .given .0 .1 .0 in
     let e = found (c .before .before .before .before .before) in
-    let front = ap (take (2 * m)) (r .ensures .1) ∙ read-front (a .input .now) (length (a .words .now)) u m e (a .words .now) refl in
+    let front = ap (take (2 * m)) (r .ensures .1 .0) ∙ read-front (a .input .now) (length (a .words .now)) u m e (a .words .now) refl in
     let whole =
     ap (printedTable u) front ∙ sym (file-read (a .input .now) u m (ap (readReply (a .input .now)) (sym (c .before .before .before .before .before .before .before .before .before .before .before .before .before .before .before .pre)) ∙ e)) in
     let out = a .out .now in (

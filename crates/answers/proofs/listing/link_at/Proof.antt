@@ -9,8 +9,8 @@ word-requires c κs = search needs
 byte-requires : tie.Need-byte-requires
 byte-requires c κs = search needs
 
-link-row-requires : tie.Need-link-row-requires
-link-row-requires c κs = search needs
+label-row-requires : tie.Need-label-row-requires
+label-row-requires c κs = search needs
 
 same-length : tie.Need-same-length
 same-length c = search needs
@@ -20,4 +20,4 @@ returns c = cc
 
 pub link-at-spec : {M : Type 1} → statement M
 link-at-spec =
-    tie.close (tie.spec word-requires byte-requires link-row-requires same-length returns)
+    tie.close (tie.spec word-requires byte-requires label-row-requires same-length returns)

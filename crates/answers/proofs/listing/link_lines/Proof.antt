@@ -5,13 +5,13 @@ use Prim.Native.Nat.{_+_, _≤_, _-_, _*_}
 use native.Mathlib.Omega.{arith}
 use lib.ListN.{length, drop, length-drop}
 use Rattle.lists.specs.Lent.{lent-rest}
-use Rattle.answers.specs.Lines.{linkBody, linesOf, linesOver-fits, linesOver-short, length-lines, lines-next}
+use Rattle.answers.specs.Lines.{labelRow, linesOf, linesOver-fits, linesOver-short, length-lines, lines-next}
 use borrow.Author.Needs.{needs}
 use Rattle.answers.proofs.listing.link_lines.Statement.{statement}
 use Rattle.answers.proofs.listing.link_lines.Tie as tie
 
 abbrev Inv-loop : tie.InvT-loop
-Inv-loop links label lones out₀ pairs j₀ out j = (j ≤ links) × (length out ≡ length out₀) × (out ≡ linesOf j (linkBody label lones) ++ drop (15 * j) out₀)
+Inv-loop links label lones out₀ pairs j₀ out j = (j ≤ links) × (length out ≡ length out₀) × (out ≡ linesOf j (labelRow label lones) ++ drop (15 * j) out₀)
 
 abbrev μ-loop : tie.MeasureT-loop
 μ-loop links label lones out₀ pairs j₀ out j = links - j
@@ -22,7 +22,7 @@ mul-if1 c = search needs
 returns : tie.Need-returns Inv-loop μ-loop
 returns c =
     let a = c .before .before .before .before .args in
-    sym (linesOver-short 15 (a .links) (linkBody (a .label .now) (a .lones .now)) (a .out .now) (c .if1 .taken))
+    sym (linesOver-short 15 (a .links) (labelRow (a .label .now) (a .lones .now)) (a .out .now) (c .if1 .taken))
 
 table-requires : tie.Need-table-requires Inv-loop μ-loop
 table-requires c κs = search needs
@@ -66,7 +66,7 @@ loop-again : tie.Need-loop-again Inv-loop μ-loop
 loop-again c =
     let s = c .before .before .before .before .before .before in
     let a = s .before .before .before .before .before .before .args in
-    let body = linkBody (a .label .now) (a .lones .now) in
+    let body = labelRow (a .label .now) (a .lones .now) in
     let further : 15 * s .loop .j + 15 ≡ 15 * (s .loop .j + 1) = omega arith in (
       search needs,
       search needs,
@@ -82,7 +82,7 @@ returns-2 c =
     let s = c .before in
     let a = s .before .before .before .before .before .before .args in
     let e : s .loop .j ≡ a .links = omega arith in
-    rw (linesOver-fits 15 (a .links) (linkBody (a .label .now) (a .lones .now)) (a .out .now) (s .before .before .if1 .left), ← e) (s .loop .inv .2)
+    rw (linesOver-fits 15 (a .links) (labelRow (a .label .now) (a .lones .now)) (a .out .now) (s .before .before .if1 .left), ← e) (s .loop .inv .2)
 
 pub link-lines-spec : {M : Type 1} → statement M
 link-lines-spec =

@@ -5,13 +5,13 @@ use Prim.Native.Nat.{_+_, _≤_, _-_, _*_}
 use native.Mathlib.Omega.{arith}
 use lib.ListN.{length, drop, length-drop}
 use Rattle.lists.specs.Lent.{lent-rest}
-use Rattle.answers.specs.Lines.{unitBody, linesOf, linesOver-fits, linesOver-short, length-lines, lines-next}
+use Rattle.answers.specs.Lines.{unitRow, linesOf, linesOver-fits, linesOver-short, length-lines, lines-next}
 use borrow.Author.Needs.{needs}
 use Rattle.answers.proofs.listing.unit_lines.Statement.{statement}
 use Rattle.answers.proofs.listing.unit_lines.Tie as tie
 
 abbrev Inv-loop : tie.InvT-loop
-Inv-loop units color parent place singles out₀ pairs v₀ out v = (v ≤ units) × (length out ≡ length out₀) × (out ≡ linesOf v (unitBody color parent place singles) ++ drop (23 * v) out₀)
+Inv-loop units color parent place singles out₀ pairs v₀ out v = (v ≤ units) × (length out ≡ length out₀) × (out ≡ linesOf v (unitRow color parent place singles) ++ drop (23 * v) out₀)
 
 abbrev μ-loop : tie.MeasureT-loop
 μ-loop units color parent place singles out₀ pairs v₀ out v = units - v
@@ -22,7 +22,7 @@ mul-if1 c = search needs
 returns : tie.Need-returns Inv-loop μ-loop
 returns c =
     let a = c .before .before .before .before .before .before .args in
-    sym (linesOver-short 23 (a .units) (unitBody (a .color .now) (a .parent .now) (a .place .now) (a .singles .now)) (a .out .now) (c .if1 .taken))
+    sym (linesOver-short 23 (a .units) (unitRow (a .color .now) (a .parent .now) (a .place .now) (a .singles .now)) (a .out .now) (c .if1 .taken))
 
 table-requires : tie.Need-table-requires Inv-loop μ-loop
 table-requires c κs = search needs
@@ -66,7 +66,7 @@ loop-again : tie.Need-loop-again Inv-loop μ-loop
 loop-again c =
     let s = c .before .before .before .before .before .before in
     let a = s .before .before .before .before .before .before .before .before .args in
-    let body = unitBody (a .color .now) (a .parent .now) (a .place .now) (a .singles .now) in
+    let body = unitRow (a .color .now) (a .parent .now) (a .place .now) (a .singles .now) in
     let further : 23 * s .loop .v + 23 ≡ 23 * (s .loop .v + 1) = omega arith in (
       search needs,
       search needs,
@@ -82,7 +82,7 @@ returns-2 c =
     let s = c .before in
     let a = s .before .before .before .before .before .before .before .before .args in
     let e : s .loop .v ≡ a .units = omega arith in
-    rw (linesOver-fits 23 (a .units) (unitBody (a .color .now) (a .parent .now) (a .place .now) (a .singles .now)) (a .out .now) (s .before .before .if1 .left), ← e) (s .loop .inv .2)
+    rw (linesOver-fits 23 (a .units) (unitRow (a .color .now) (a .parent .now) (a .place .now) (a .singles .now)) (a .out .now) (s .before .before .if1 .left), ← e) (s .loop .inv .2)
 
 pub unit-lines-spec : {M : Type 1} → statement M
 unit-lines-spec =

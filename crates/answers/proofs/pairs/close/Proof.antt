@@ -6,9 +6,6 @@ use borrow.Author.Needs.{needs}
 use Rattle.answers.proofs.pairs.close.Statement.{statement}
 use Rattle.answers.proofs.pairs.close.Tie as tie
 
-low-byte-requires : tie.Need-low-byte-requires
-low-byte-requires c κs = search needs
-
 wrapping-sub-u8-requires : tie.Need-wrapping-sub-u8-requires
 wrapping-sub-u8-requires c κs = search needs
 
@@ -26,15 +23,14 @@ same-length c = search needs
 
 returns : tie.Need-returns
 returns c =
-    let a = c .before .before .before .before .before .before .before .before .args in
-    let e : c .before .before .before .before .wrapping-sub-u8 .result ≡ (256 - a .sum % 256) % 256 = omega arith in
+    let a = c .before .before .before .before .before .before .before .args in
+    let e : c .before .before .before .before .wrapping-sub-u8 .result ≡ (256 - a .sum) % 256 = omega arith in
     rw (c .before .before .put .ensures, e)
 
 pub close-spec : {M : Type 1} → statement M
 close-spec =
     tie.close
     (tie.spec
-    low-byte-requires
     wrapping-sub-u8-requires
     put-requires
     add-out

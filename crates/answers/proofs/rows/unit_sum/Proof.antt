@@ -1,52 +1,41 @@
--- Byte by byte.
-use native.Mathlib.Omega.{arith}
-use Rattle.frames.specs.Frame.{sumOf}
+-- Part by part.
+use Rattle.answers.specs.Pairs.{unit-sum}
 use borrow.Author.Needs.{needs}
 use Rattle.answers.proofs.rows.unit_sum.Statement.{statement}
 use Rattle.answers.proofs.rows.unit_sum.Tie as tie
 
-byte-sum-requires : tie.Need-byte-sum-requires
-byte-sum-requires c κs = search needs
+with-word-requires : tie.Need-with-word-requires
+with-word-requires c κs = search needs
 
-add-result : tie.Need-add-result
-add-result c = search needs
+with-word-requires-2 : tie.Need-with-word-requires-2
+with-word-requires-2 c κs = search needs
 
-byte-sum-requires-2 : tie.Need-byte-sum-requires-2
-byte-sum-requires-2 c κs = search needs
+with-word-requires-3 : tie.Need-with-word-requires-3
+with-word-requires-3 c κs = search needs
 
-add-result-2 : tie.Need-add-result-2
-add-result-2 c = search needs
+with-word-requires-4 : tie.Need-with-word-requires-4
+with-word-requires-4 c κs = search needs
 
-byte-sum-requires-3 : tie.Need-byte-sum-requires-3
-byte-sum-requires-3 c κs = search needs
-
-add-result-3 : tie.Need-add-result-3
-add-result-3 c = search needs
-
-byte-sum-requires-4 : tie.Need-byte-sum-requires-4
-byte-sum-requires-4 c κs = search needs
-
-add-result-4 : tie.Need-add-result-4
-add-result-4 c = search needs
-
-add-result-5 : tie.Need-add-result-5
-add-result-5 c = search needs
+with-byte-requires : tie.Need-with-byte-requires
+with-byte-requires c κs = search needs
 
 returns : tie.Need-returns
-unfolding sumOf
-returns c = omega arith
+returns c =
+    let d = c .before in
+    let p = d .before in
+    let o = p .before in
+    let u = o .before in
+    let a = u .before .args in
+    unit-sum (a .unit) (a .color) (a .parent) (a .place) (a .single) (u .with-word .result) (o .with-word2 .result) (p .with-word3 .result) (d .with-word4 .result) (c .with-byte .result)
+    (u .with-word .ensures) (o .with-word2 .ensures) (p .with-word3 .ensures) (d .with-word4 .ensures) (c .with-byte .ensures)
 
 pub unit-sum-spec : {M : Type 1} → statement M
 unit-sum-spec =
     tie.close
     (tie.spec
-    byte-sum-requires
-    add-result
-    byte-sum-requires-2
-    add-result-2
-    byte-sum-requires-3
-    add-result-3
-    byte-sum-requires-4
-    add-result-4
-    add-result-5
+    with-word-requires
+    with-word-requires-2
+    with-word-requires-3
+    with-word-requires-4
+    with-byte-requires
     returns)

@@ -1,8 +1,8 @@
 -- Digit by digit.
-use mathlib.Core.Path.{_≡_, subst}
-use Prim.Native.Nat.{ℕ, _≤_, _-_}
+use mathlib.Core.Path.{_≡_}
+use Prim.Native.Nat.{_≤_, _-_}
 use native.Mathlib.Omega.{arith}
-use Rattle.files.specs.Marks.{MarksBelow, marks-none, marks-next}
+use Rattle.files.specs.Marks.{MarksBelow, marks-none, marks-next, marks-all}
 use borrow.Author.Needs.{needs}
 use Rattle.files.proofs.marks.made.Statement.{statement}
 use Rattle.files.proofs.marks.made.Tie as tie
@@ -22,12 +22,6 @@ low-digit-requires c κs = search needs
 cast-at : tie.Need-cast-at Inv-loop μ-loop
 cast-at c = search needs
 
-cast-t : tie.Need-cast-t Inv-loop μ-loop
-cast-t c = search needs
-
-mul-t : tie.Need-mul-t Inv-loop μ-loop
-mul-t c = search needs
-
 array-write-t : tie.Need-array-write-t Inv-loop μ-loop
 array-write-t c = search needs
 
@@ -45,7 +39,7 @@ loop-again c =
 returns : tie.Need-returns Inv-loop μ-loop
 returns c =
     let e : c .before .loop .d ≡ 16 = omega (arith, c .before .loop .inv .0, c .loop-test .left) in
-    subst (λ (d : ℕ). MarksBelow d (c .before .loop .t)) e (c .before .loop .inv .1)
+    marks-all (c .before .loop .t) (c .before .loop .d) e (c .before .loop .inv .1)
 
 pub made-spec : {M : Type 1} → statement M
 made-spec =
@@ -56,8 +50,6 @@ made-spec =
     loop-holds
     low-digit-requires
     cast-at
-    cast-t
-    mul-t
     array-write-t
     add-d
     loop-less

@@ -1,5 +1,7 @@
--- Two marks make a byte, and two bytes the number.
-use Rattle.files.specs.Marks.{marks-word}
+-- Two bytes make the number.
+use mathlib.Core.Path.{_≡_}
+use Prim.Native.Nat.{_+_}
+use native.Mathlib.Omega.{arith}
 use borrow.Author.Needs.{needs}
 use Rattle.files.proofs.marks.word_at.Statement.{statement}
 use Rattle.files.proofs.marks.word_at.Tie as tie
@@ -31,19 +33,24 @@ shared-slice-read-byte-4 c = search needs
 byte-requires-2 : tie.Need-byte-requires-2
 byte-requires-2 c κs = search needs
 
+cast-result : tie.Need-cast-result
+cast-result c = search needs
+
 mul-result : tie.Need-mul-result
 mul-result c = search needs
+
+cast-result-2 : tie.Need-cast-result-2
+cast-result-2 c = search needs
 
 add-result : tie.Need-add-result
 add-result c = search needs
 
-cast-result : tie.Need-cast-result
-cast-result c = search needs
-
 returns : tie.Need-returns
 returns c =
-    let a = c .before .before .before .before .before .before .before .before .args in
-    marks-word (a .s .now) (a .i) (c .before .before .before .byte .result) (c .byte2 .result) (c .before .before .before .byte .ensures) (c .byte2 .ensures)
+    let b = c .before .before .before in
+    let i = b .before .before .before .before .before .args .i in
+    let further : i + 2 + 1 ≡ i + 3 = omega arith in
+    rw (b .byte .ensures, c .byte2 .ensures, further)
 
 pub word-at-spec : {M : Type 1} → statement M
 word-at-spec =
@@ -58,7 +65,8 @@ word-at-spec =
     add-byte-3
     shared-slice-read-byte-4
     byte-requires-2
-    mul-result
-    add-result
     cast-result
+    mul-result
+    cast-result-2
+    add-result
     returns)

@@ -1,93 +1,158 @@
--- The ends of the links passed are laid down, and the rest is as it was.
-use mathlib.Core.Path.{_≡_, refl, _∙_}
-use mathlib.Core.List.{_++_}
-use Prim.Native.Nat.{_+_, _*_, _-_, _≤_}
+-- The words of the lines passed are laid down, and those of the lines that are left follow.
+use mathlib.Core.Path.{_≡_, ap, subst, subst⁻¹}
+use mathlib.Core.List.{List}
+use Prim.Native.Nat.{ℕ, _+_, _≤_, _-_}
 use native.Mathlib.Omega.{arith}
-use lib.ListN.{length, drop, set, length-set}
-use Rattle.files.specs.File.{endsFrom}
-use Rattle.files.specs.ReadLaws.{ends-none, ends-more}
+use lib.ListN.{length, set, length-set}
+use Rattle.frames.specs.Kinds.{LINK}
+use Rattle.files.specs.File.{linesOf}
+use Rattle.files.specs.LineSteps.{length-ends}
+use Rattle.files.specs.Walk.{pastAt, LineAt, Filled, line-fits, fill-start, fill-line, fill-reads, two-more, fill-other, fill-link, fill-count, fill-end}
 use borrow.Author.Needs.{needs}
 use Rattle.files.proofs.reader.fill.Statement.{statement}
 use Rattle.files.proofs.reader.fill.Tie as tie
 
 abbrev Inv-loop : tie.InvT-loop
-Inv-loop t file links words₀ j₀ words j =
-    (j ≤ links) × (length words ≡ length words₀) × (words ≡ endsFrom j (drop 9 file) ++ drop (2 * j) words₀)
+Inv-loop t file words₀ at₀ n₀ words at n = Filled file words₀ words at n
 
 abbrev μ-loop : tie.MeasureT-loop
-μ-loop t file links words₀ j₀ words j = links - j
+μ-loop t file words₀ at₀ n₀ words at n = length file - at
+
+-- ---- the line at the cursor
+
+reads : (i : tie.In-loop Inv-loop μ-loop) → i .before .loop .at + 9 ≤ length (i .before .before .before .before .before .args .file .now)
+reads i =
+    let l = i .before in
+    let a = l .before .before .before .before .args in
+    fill-reads (a .file .now) (a .words .now) (l .loop .words) (l .loop .at) (l .loop .n) (l .loop .inv) (i .loop-test .taken)
+
+abbrev loopOf : tie.After-byte Inv-loop μ-loop → tie.At-loop Inv-loop μ-loop
+loopOf c = c .before .before .before .before
+
+abbrev file : tie.After-byte Inv-loop μ-loop → List ℕ
+file c = loopOf c .before .before .before .before .args .file .now
+
+abbrev old : tie.After-byte Inv-loop μ-loop → List ℕ
+old c = loopOf c .before .before .before .before .args .words .now
+
+abbrev kind : tie.After-byte Inv-loop μ-loop → ℕ
+kind c = c .byte .result
+
+line : (c : tie.After-byte Inv-loop μ-loop) → LineAt (file c) (loopOf c .loop .at) (kind c)
+line c =
+    let l = loopOf c in
+    fill-line (file c) (old c) (l .loop .words) (l .loop .at) (l .loop .n) (l .loop .inv) (c .before .before .before .loop-test .taken) (kind c) (c .byte .ensures)
+
+link : (t : tie.Then1 Inv-loop μ-loop) → LineAt (file (t .before)) (loopOf (t .before) .loop .at) LINK
+link t = subst (LineAt (file (t .before)) (loopOf (t .before) .loop .at)) (t .if1 .taken) (line (t .before))
+
+stands : (t : tie.Then1 Inv-loop μ-loop) → pastAt (loopOf (t .before) .loop .at) LINK ≤ length (file (t .before))
+stands t = line-fits (file (t .before)) (loopOf (t .before) .loop .at) LINK (link t)
+
+fits : (t : tie.Then1 Inv-loop μ-loop) → loopOf (t .before) .loop .n + 2 ≤ length (loopOf (t .before) .loop .words)
+fits t =
+    let c = t .before in
+    let l = loopOf c in
+    omega (arith, two-more (file c) (old c) (l .loop .words) (l .loop .at) (l .loop .n) (l .loop .inv) (link t), l .loop .inv .same, l .before .before .before .before .pre .2)
+
+-- ---- the needs
 
 loop-holds : tie.Need-loop-holds Inv-loop μ-loop
-loop-holds c = (omega arith, refl, ends-none (drop 9 (c .before .before .before .args .file .now)) (c .before .before .before .args .words .now))
+loop-holds c = let s = c .before .before .before in fill-start (s .args .file .now) (s .args .words .now) (s .pre .1)
 
-mul-at : tie.Need-mul-at Inv-loop μ-loop
-mul-at c = search needs
+shared-slice-read-byte : tie.Need-shared-slice-read-byte Inv-loop μ-loop
+shared-slice-read-byte c = omega (arith, c .before .loop-test .taken)
 
-add-at : tie.Need-add-at Inv-loop μ-loop
-add-at c = search needs
+add-byte : tie.Need-add-byte Inv-loop μ-loop
+add-byte c = omega (arith, reads (c .before))
+
+shared-slice-read-byte-2 : tie.Need-shared-slice-read-byte-2 Inv-loop μ-loop
+shared-slice-read-byte-2 c = omega (arith, reads (c .before .before))
+
+byte-requires : tie.Need-byte-requires Inv-loop μ-loop
+byte-requires c κs = search needs
 
 add-word-at : tie.Need-add-word-at Inv-loop μ-loop
-add-word-at c = search needs
+add-word-at c = omega (arith, stands c)
 
 word-at-requires : tie.Need-word-at-requires Inv-loop μ-loop
-word-at-requires c κs = search needs
+word-at-requires c κs = (search needs, omega (arith, stands c))
 
 mul-words : tie.Need-mul-words Inv-loop μ-loop
 mul-words c = search needs
 
-mul-words-2 : tie.Need-mul-words-2 Inv-loop μ-loop
-mul-words-2 c = search needs
-
 slice-write-words : tie.Need-slice-write-words Inv-loop μ-loop
-slice-write-words c = search needs
+slice-write-words c = omega (arith, fits (c .before))
 
 add-word-at-2 : tie.Need-add-word-at-2 Inv-loop μ-loop
-add-word-at-2 c = search needs
+add-word-at-2 c = omega (arith, stands (c .before))
 
 word-at-requires-2 : tie.Need-word-at-requires-2 Inv-loop μ-loop
-word-at-requires-2 c κs = search needs
-
-mul-words-3 : tie.Need-mul-words-3 Inv-loop μ-loop
-mul-words-3 c = search needs
+word-at-requires-2 c κs = (search needs, omega (arith, stands (c .before)))
 
 add-words : tie.Need-add-words Inv-loop μ-loop
 add-words c = search needs
 
-mul-words-4 : tie.Need-mul-words-4 Inv-loop μ-loop
-mul-words-4 c = search needs
+mul-words-2 : tie.Need-mul-words-2 Inv-loop μ-loop
+mul-words-2 c = search needs
 
 slice-write-words-2 : tie.Need-slice-write-words-2 Inv-loop μ-loop
 slice-write-words-2 c =
-    let l = c .before .before .before in
-    omega (arith, length-set (l .loop .words) (2 * (l .loop .j)) (c .before .word-at .result), l .loop .inv .1, l .before .before .before .before .pre)
+    let t = c .before .before in
+    let l = loopOf (t .before) in
+    omega (arith, fits t, length-set (l .loop .words) (l .loop .n) (c .before .word-at .result))
 
-add-j : tie.Need-add-j Inv-loop μ-loop
-add-j c = search needs
+add-n : tie.Need-add-n Inv-loop μ-loop
+add-n c = search needs
+
+line-length-requires : tie.Need-line-length-requires Inv-loop μ-loop
+line-length-requires c κs = search needs
+
+add-at : tie.Need-add-at Inv-loop μ-loop
+add-at c = omega (arith, c .line-length .ensures, stands (c .before .before .before))
 
 loop-less : tie.Need-loop-less Inv-loop μ-loop
-loop-less c = search needs
+loop-less c = omega (arith, c .line-length .ensures)
 
 loop-again : tie.Need-loop-again Inv-loop μ-loop
 loop-again c =
-    let l = c .before .before .before in
-    let a = l .before .before .before .before .args in
-    let w = l .loop .words in
-    let j = l .loop .j in
-    let x = c .before .word-at .result in (
-      search needs,
-      length-set (set w (2 * j) x) (2 * j + 1) (c .word-at2 .result) ∙ length-set w (2 * j) x ∙ l .loop .inv .1,
-      rw (c .word-at2 .ensures, c .before .word-at .ensures, l .loop .inv .2)
-          (ends-more (a .file .now) (a .words .now) j (omega (arith, l .before .before .before .before .pre))),
-    )
+    let t = c .before .before .before in
+    let d = t .before in
+    let l = loopOf d in
+    let a = c .before .before .word-at .result in
+    let b = c .before .word-at2 .result in
+    subst⁻¹ (λ (x : ℕ). Filled (file d) (old d) (set (set (l .loop .words) (l .loop .n) a) (l .loop .n + 1) b) (l .loop .at + x) (l .loop .n + 2)) (c .line-length .ensures)
+    (fill-link (file d) (old d) (l .loop .words) (l .loop .at) (l .loop .n) (l .loop .inv) (link t) a b (c .before .before .word-at .ensures) (c .before .word-at2 .ensures) (l .before .before .before .before .pre .2))
+
+line-length-requires-2 : tie.Need-line-length-requires-2 Inv-loop μ-loop
+line-length-requires-2 c κs = search needs
+
+add-at-2 : tie.Need-add-at-2 Inv-loop μ-loop
+add-at-2 c =
+    let d = c .before .before in
+    omega (arith, c .line-length2 .ensures, line-fits (file d) (loopOf d .loop .at) (kind d) (line d))
+
+loop-less-2 : tie.Need-loop-less-2 Inv-loop μ-loop
+loop-less-2 c = omega (arith, c .line-length2 .ensures)
+
+loop-again-2 : tie.Need-loop-again-2 Inv-loop μ-loop
+loop-again-2 c =
+    let d = c .before .before in
+    let l = loopOf d in
+    subst⁻¹ (λ (x : ℕ). Filled (file d) (old d) (l .loop .words) (l .loop .at + x) (l .loop .n)) (c .line-length2 .ensures)
+    (fill-other (file d) (old d) (l .loop .words) (l .loop .at) (l .loop .n) (l .loop .inv) (kind d) (line d) (c .before .if1 .left))
 
 same-length : tie.Need-same-length Inv-loop μ-loop
-same-length c = search needs
+same-length c = c .before .loop .inv .same
 
 returns : tie.Need-returns Inv-loop μ-loop
 returns c =
     let l = c .before in
-    let e : l .loop .j ≡ l .before .before .before .before .args .links = omega arith in
-    l .loop .inv .2 ∙ rw e
+    let a = l .before .before .before .before .args in
+    let s = a .file .now in
+    let e = c .loop-test .left in
+    let n = fill-count s (a .words .now) (l .loop .words) (l .loop .at) (l .loop .n) (l .loop .inv) e in
+    (omega (arith, n, length-ends (linesOf s)), fill-end s (a .words .now) (l .loop .words) (l .loop .at) (l .loop .n) (l .loop .inv) e)
 
 pub fill-spec : {M : Type 1} → statement M
 fill-spec =
@@ -96,21 +161,27 @@ fill-spec =
     Inv-loop
     μ-loop
     loop-holds
-    mul-at
-    add-at
+    shared-slice-read-byte
+    add-byte
+    shared-slice-read-byte-2
+    byte-requires
     add-word-at
     word-at-requires
     mul-words
-    mul-words-2
     slice-write-words
     add-word-at-2
     word-at-requires-2
-    mul-words-3
     add-words
-    mul-words-4
+    mul-words-2
     slice-write-words-2
-    add-j
+    add-n
+    line-length-requires
+    add-at
     loop-less
     loop-again
+    line-length-requires-2
+    add-at-2
+    loop-less-2
+    loop-again-2
     same-length
     returns)

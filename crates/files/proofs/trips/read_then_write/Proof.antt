@@ -8,6 +8,8 @@ use lib.Seq.{length-take-le}
 use Rattle.files.specs.File.{readReply, writeReply, writtenFile}
 use Rattle.files.specs.TripLaws.{rewrite-refused, rewrite-kept, read-front, read-long, rewrite-written, rewrite-bytes}
 use Rattle.files.specs.declared.Reading.the-variants.{Read}
+use Rattle.files.specs.Replies.{rewrite-tells}
+use Rattle.files.specs.declared.Writing.{Writing}
 use borrow.Author.Needs.{needs}
 use Rattle.files.proofs.trips.read_then_write.Statement.{statement}
 use Rattle.files.proofs.trips.read_then_write.Tie as tie
@@ -57,9 +59,13 @@ returns c =
     let a = c .before .before .before .before .before .before .before .before .before .before .args in
     let r = c .before .before .before .before .before .read in
     let k = c .before .found .given .0 .0 in
-    let e = sym (r .ensures .0) ∙ c .before .found .given .1 in (
-      rewrite-refused (a .file .now) (length (a .words .now)) k e (length (a .copy .now)),
-      (r .ensures .1, rewrite-kept (a .file .now) (length (a .words .now)) k e (a .copy .now)),
+    let e = sym (r .ensures .0) ∙ c .before .found .given .1 in
+    let reply = rewrite-refused (a .file .now) (length (a .words .now)) k e (length (a .copy .now)) in (
+      reply,
+      (
+        r .ensures .1 .0,
+        (rewrite-kept (a .file .now) (length (a .words .now)) k e (a .copy .now), rewrite-tells (a .file .now) (length (a .words .now)) (length (a .copy .now)) (Writing.Refused k) reply),
+      ),
     )
 
 same-length-2 : tie.Need-same-length-2
@@ -77,13 +83,16 @@ returns-2 c =
     let m = c .before .before .before .before .before .before .found2 .given .0 .1 .0 in
     let e = found (c .before .before .before .before .before) in
     let places = length (a .words .now) in
-    let front = ap (take (2 * m)) (r .ensures .1) ∙ read-front (a .file .now) places u m e (a .words .now) refl in (
-      w .ensures .0
-          ∙ ap (λ (l : List ℕ). writeReply u l (length (a .copy .now))) front
-          ∙ rewrite-written (a .file .now) places u m e (length (a .copy .now)),
+    let front = ap (take (2 * m)) (r .ensures .1 .0) ∙ read-front (a .file .now) places u m e (a .words .now) refl in
+    let reply =
+    w .ensures .0 ∙ ap (λ (l : List ℕ). writeReply u l (length (a .copy .now))) front ∙ rewrite-written (a .file .now) places u m e (length (a .copy .now)) in (
+      reply,
       (
-        r .ensures .1,
-        w .ensures .1 ∙ ap (λ (l : List ℕ). writtenFile u l (a .copy .now)) front ∙ rewrite-bytes (a .file .now) places u m e (a .copy .now),
+        r .ensures .1 .0,
+        (
+          w .ensures .1 .0 ∙ ap (λ (l : List ℕ). writtenFile u l (a .copy .now)) front ∙ rewrite-bytes (a .file .now) places u m e (a .copy .now),
+          rewrite-tells (a .file .now) places (length (a .copy .now)) (w .result) reply,
+        ),
       ),
     )
 

@@ -8,6 +8,8 @@ use lib.Seq.{length-take-le}
 use Rattle.files.specs.File.{writeReply, readReply, readWords}
 use Rattle.files.specs.TripLaws.{copy-refused, copy-kept, written-front, written-long, copy-read, copy-words}
 use Rattle.files.specs.declared.Writing.the-variants.{Written}
+use Rattle.files.specs.Replies.{copy-tells}
+use Rattle.files.specs.declared.Reading.{Reading}
 use borrow.Author.Needs.{needs}
 use Rattle.files.proofs.trips.write_then_read.Statement.{statement}
 use Rattle.files.proofs.trips.write_then_read.Tie as tie
@@ -53,9 +55,13 @@ returns c =
     let a = c .before .before .before .before .before .before .before .before .before .before .args in
     let w = c .before .before .before .before .before .write in
     let k = c .before .done .given .0 .0 in
-    let e = sym (w .ensures .0) ∙ c .before .done .given .1 in (
-      copy-refused (a .units) (a .words .now) (length (a .file .now)) k e (length (a .copy .now)),
-      (w .ensures .1, copy-kept (a .units) (a .words .now) (length (a .file .now)) k e (a .copy .now)),
+    let e = sym (w .ensures .0) ∙ c .before .done .given .1 in
+    let reply = copy-refused (a .units) (a .words .now) (length (a .file .now)) k e (length (a .copy .now)) in (
+      reply,
+      (
+        w .ensures .1 .0,
+        (copy-kept (a .units) (a .words .now) (length (a .file .now)) k e (a .copy .now), copy-tells (a .units) (a .words .now) (length (a .file .now)) (length (a .copy .now)) (Reading.Refused k) reply),
+      ),
     )
 
 same-length-2 : tie.Need-same-length-2
@@ -72,11 +78,15 @@ returns-2 c =
     let m = c .before .before .before .before .before .before .done2 .given .0 .0 in
     let e = done (c .before .before .before .before .before) in
     let chars = length (a .file .now) in
-    let front = ap (take m) (w .ensures .1) ∙ written-front (a .units) (a .words .now) chars m e (a .file .now) refl in (
-      r .ensures .0 ∙ ap (λ (l : List ℕ). readReply l (length (a .copy .now))) front ∙ copy-read (a .units) (a .words .now) chars m e (length (a .copy .now)),
+    let front = ap (take m) (w .ensures .1 .0) ∙ written-front (a .units) (a .words .now) chars m e (a .file .now) refl in
+    let reply = r .ensures .0 ∙ ap (λ (l : List ℕ). readReply l (length (a .copy .now))) front ∙ copy-read (a .units) (a .words .now) chars m e (length (a .copy .now)) in (
+      reply,
       (
-        w .ensures .1,
-        r .ensures .1 ∙ ap (λ (l : List ℕ). readWords l (a .copy .now)) front ∙ copy-words (a .units) (a .words .now) chars m e (a .copy .now),
+        w .ensures .1 .0,
+        (
+          r .ensures .1 .0 ∙ ap (λ (l : List ℕ). readWords l (a .copy .now)) front ∙ copy-words (a .units) (a .words .now) chars m e (a .copy .now),
+          copy-tells (a .units) (a .words .now) chars (length (a .copy .now)) (r .result) reply,
+        ),
       ),
     )
 

@@ -10,8 +10,8 @@ mul-end c = search needs
 add-end : tie.Need-add-end
 add-end c = search needs
 
-number-line-requires : tie.Need-number-line-requires
-number-line-requires c κs = search needs
+one-number-requires : tie.Need-one-number-requires
+one-number-requires c κs = search needs
 
 sub-link-lines : tie.Need-sub-link-lines
 sub-link-lines c = search needs
@@ -25,20 +25,20 @@ part-link-lines-end c = search needs
 link-lines-requires : tie.Need-link-lines-requires
 link-lines-requires c κs = search needs
 
-cast-number-line : tie.Need-cast-number-line
-cast-number-line c = search needs
+cast-one-number : tie.Need-cast-one-number
+cast-one-number c = search needs
 
-sub-number-line : tie.Need-sub-number-line
-sub-number-line c = search needs
+sub-one-number : tie.Need-sub-one-number
+sub-one-number c = search needs
 
-part-number-line-start : tie.Need-part-number-line-start
-part-number-line-start c = search needs
+part-one-number-start : tie.Need-part-one-number-start
+part-one-number-start c = search needs
 
-part-number-line-end : tie.Need-part-number-line-end
-part-number-line-end c = search needs
+part-one-number-end : tie.Need-part-one-number-end
+part-one-number-end c = search needs
 
-number-line-requires-2 : tie.Need-number-line-requires-2
-number-line-requires-2 c κs = search needs
+one-number-requires-2 : tie.Need-one-number-requires-2
+one-number-requires-2 c κs = search needs
 
 same-length : tie.Need-same-length
 same-length c = search needs
@@ -46,7 +46,7 @@ same-length c = search needs
 returns : tie.Need-returns
 returns c =
     let s = c .before .before .before .before .before .before .before .before .before .before .before .before .before .before in
-    rw (c .before .before .number-line2 .ensures, c .before .before .before .before .before .before .link-lines .ensures, c .before .before .before .before .before .before .before .before .before .before .number-line .ensures)
+    rw (c .before .before .one-number2 .ensures, c .before .before .before .before .before .before .link-lines .ensures, c .before .before .before .before .before .before .before .before .before .before .one-number .ensures)
     (file-laid (s .args .units) (s .args .words .now) (s .args .out .now) (s .pre .1))
 
 pub lines-spec : {M : Type 1} → statement M
@@ -55,15 +55,15 @@ lines-spec =
     (tie.spec
     mul-end
     add-end
-    number-line-requires
+    one-number-requires
     sub-link-lines
     part-link-lines-start
     part-link-lines-end
     link-lines-requires
-    cast-number-line
-    sub-number-line
-    part-number-line-start
-    part-number-line-end
-    number-line-requires-2
+    cast-one-number
+    sub-one-number
+    part-one-number-start
+    part-one-number-end
+    one-number-requires-2
     same-length
     returns)

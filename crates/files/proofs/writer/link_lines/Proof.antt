@@ -43,17 +43,17 @@ add-word c = search needs
 word-requires-2 : tie.Need-word-requires-2 Inv-loop μ-loop
 word-requires-2 c κs = search needs
 
-sub-link-line : tie.Need-sub-link-line Inv-loop μ-loop
-sub-link-line c = search needs
+sub-two-numbers : tie.Need-sub-two-numbers Inv-loop μ-loop
+sub-two-numbers c = search needs
 
-part-link-line-start : tie.Need-part-link-line-start Inv-loop μ-loop
-part-link-line-start c = search needs
+part-two-numbers-start : tie.Need-part-two-numbers-start Inv-loop μ-loop
+part-two-numbers-start c = search needs
 
-part-link-line-end : tie.Need-part-link-line-end Inv-loop μ-loop
-part-link-line-end c = search needs
+part-two-numbers-end : tie.Need-part-two-numbers-end Inv-loop μ-loop
+part-two-numbers-end c = search needs
 
-link-line-requires : tie.Need-link-line-requires Inv-loop μ-loop
-link-line-requires c κs = search needs
+two-numbers-requires : tie.Need-two-numbers-requires Inv-loop μ-loop
+two-numbers-requires c κs = search needs
 
 add-j : tie.Need-add-j Inv-loop μ-loop
 add-j c = search needs
@@ -67,7 +67,7 @@ loop-again c =
     let a = l .before .before .before .args in (
       search needs,
       search needs,
-      rw (c .before .before .link-line .ensures, c .before .before .before .before .before .word .ensures, c .before .before .before .before .word2 .ensures, l .loop .inv .2)
+      rw (c .before .before .two-numbers .ensures, c .before .before .before .before .before .word .ensures, c .before .before .before .before .word2 .ensures, l .loop .inv .2)
           (lines-next (a .words .now) (a .out .now) (l .loop .j) (search needs) (omega (arith, l .before .before .before .pre))),
     )
 
@@ -94,10 +94,10 @@ link-lines-spec =
     mul-word-2
     add-word
     word-requires-2
-    sub-link-line
-    part-link-line-start
-    part-link-line-end
-    link-line-requires
+    sub-two-numbers
+    part-two-numbers-start
+    part-two-numbers-end
+    two-numbers-requires
     add-j
     loop-less
     loop-again
