@@ -1,10 +1,11 @@
 -- Demand 3, one claim about a whole list of calls: `Demand3`, at the end. Its only hypothesis is that load accepts. ClaimProof.antt proves it.
 use mathlib.Core.Path.{_≡_}
 use mathlib.Core.Logic.{_↔_}
-use mathlib.Core.List.{List, [], _∷_, _++_}
+use mathlib.Core.List.{List, []}
 use Prim.Native.Nat.{ℕ, _+_, _*_, _≤_, _<_}
 use lib.ListN.{length, take, drop}
-use Rattle.frames.specs.Frame.{wordBytes, lineOf}
+use Rattle.frames.specs.Frame.{lineOf}
+use Rattle.frames.specs.Bodies.{headBody, unitBody, labelBody}
 use Rattle.state.specs.declared.reply.Reply.{Reply}
 use Rattle.state.specs.declared.reply.Reply.the-variants.{Refused, Done, Made, Status, Unit, Link, Read, Written}
 use Rattle.machine.specs.State.{State, FINISHED}
@@ -26,10 +27,9 @@ abbrev pub lineFor : Reply → List ℕ
 lineFor (Refused k) = []
 lineFor Done = []
 lineFor (Made k) = []
-lineFor (Status stage countdown rounds requests) = lineOf (0x11 ∷ wordBytes rounds ++ wordBytes requests)
-lineFor (Unit v color parent place single) =
-    lineOf (0x12 ∷ wordBytes v ++ wordBytes color ++ wordBytes parent ++ wordBytes place ++ flag single ∷ [])
-lineFor (Link j label lone) = lineOf (0x13 ∷ wordBytes j ++ wordBytes label ++ flag lone ∷ [])
+lineFor (Status stage countdown rounds requests) = lineOf (headBody rounds requests)
+lineFor (Unit v color parent place single) = lineOf (unitBody v color parent place (flag single))
+lineFor (Link j label lone) = lineOf (labelBody j label (flag lone))
 lineFor (Read n m) = []
 lineFor (Written k) = []
 
@@ -42,7 +42,7 @@ pub record EndRight (input : Input) (e : State) (u : ℕ) : Type 0 where
       → reportAnswer (length out) e ≡ record { state = e; reply = Written (reportLength (input .units) (linksIn input)) }
   -- line 11 carries the rounds used; line 12 of v and line 13 of j are the frames of these very answers
   pub headWritten : (out : List ℕ) → reportLength (input .units) (linksIn input) ≤ length out
-      → take 13 (reported e out) ≡ lineOf (0x11 ∷ wordBytes u ++ wordBytes (e .clock .requests))
+      → take 13 (reported e out) ≡ lineOf (headBody u (e .clock .requests))
   pub unitWritten : (out : List ℕ) → reportLength (input .units) (linksIn input) ≤ length out → (v : ℕ) → v < input .units
       → take 23 (drop (13 + 23 * v) (reported e out)) ≡ lineFor (unitAnswer v e .reply)
   pub linkWritten : (out : List ℕ) → reportLength (input .units) (linksIn input) ≤ length out → (j : ℕ) → j < linksIn input

@@ -10,7 +10,8 @@ use lib.Dec.{eqb, ltb}
 use lib.ListN.{length, take, drop}
 use borrow.Author.Tests.{eqb-true, eqb-false, eq-eqb, ne-eqb, lt-ltb, le-ltb}
 use Rattle.lists.specs.Tests.{either, not-both}
-use Rattle.frames.specs.Frame.{wordBytes, lineOf}
+use Rattle.frames.specs.Frame.{lineOf}
+use Rattle.frames.specs.Bodies.{headBody}
 use Rattle.table.specs.Table.{tableRefusal}
 use Rattle.state.specs.declared.reply.Reply.the-variants.{Status, Unit, Link, Written}
 use Rattle.machine.specs.State.{State, units, links, finished, FINISHED}
@@ -130,7 +131,7 @@ module _ (input : Input) (accepted : loadRefusal input ≡ 0) (calls : List Call
     report-written out l = rw (refusal-none out l) refl
 
     head-written : (out : List ℕ) → reportLength (input .units) (linksIn input) ≤ length out
-        → take 13 (reported e out) ≡ lineOf (0x11 ∷ wordBytes u ++ wordBytes (e .clock .requests))
+        → take 13 (reported e out) ≡ lineOf (headBody u (e .clock .requests))
     unfolding headLine
     head-written out l = rw (report-written out l, head-at e (drop (length (report e)) out), rounds-used) refl
 

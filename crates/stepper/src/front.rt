@@ -1,10 +1,7 @@
-// The rounds of each stage on the words of a state: its tables are taken out, changed, and laid down again; in another stage nothing is done.
-use state::Aux;
+// The rounds of each of the stages 1 to 6 on the words of a state: its tables are taken out, changed, and laid down again; in another
+// stage nothing is done.
 use state::Components;
-use state::Global;
-use state::Labels;
 use state::Order;
-use state::Range;
 use state::Ranking;
 use state::Tour;
 use state::Tree;
@@ -26,8 +23,8 @@ pub(crate) fn components_stage(words: &mut [u16; STATE_WORDS], budget: u16) -> u
     let color = components.color;
     let r = components::run(table.units, table.links, budget, &table.ends, clock, color);
     words::lay_clock(r.clock, words);
-    let new = r.color;
-    words::lay_components(Components { color: new }, words);
+    let new_color = r.color;
+    words::lay_components(Components { color: new_color }, words);
     r.made
 }
 
@@ -44,10 +41,203 @@ pub(crate) fn tree_stage(words: &mut [u16; STATE_WORDS], budget: u16) -> u16
     let tree = words::tree_at(words);
     let parent = tree.parent;
     let dist = tree.dist;
-    let r = tree::run(table.units, table.links, budget, &table.ends, &components.color, clock, parent, dist);
+    let r = tree::run(
+        table.units,
+        table.links,
+        budget,
+        &table.ends,
+        &components.color,
+        clock,
+        parent,
+        dist,
+    );
     words::lay_clock(r.clock, words);
     let new_parent = r.parent;
     let new_dist = r.dist;
-    words::lay_tree(Tree { parent: new_parent, dist: new_dist }, words);
+    words::lay_tree(
+        Tree {
+            parent: new_parent,
+            dist: new_dist,
+        },
+        words,
+    );
+    r.made
+}
+
+// Stage 3.
+pub(crate) fn tour_stage(words: &mut [u16; STATE_WORDS], budget: u16) -> u16
+    ensures { λ r. ⌜ Through 3 budget (stateOf (now (words .entry))) r (stateOf (now (words .exit))) ⌝ }
+{
+    let clock = words::clock_at(words);
+    if clock.stage != 3 {
+        return 0;
+    }
+    let table = words::table_at(words);
+    let tree = words::tree_at(words);
+    let tour = words::tour_at(words);
+    let ranking = words::ranking_at(words);
+    let next = tour.next;
+    let pred = tour.pred;
+    let jump = ranking.jump;
+    let sum = ranking.sum;
+    let r = tour::run(
+        table.units,
+        budget,
+        &tree.parent,
+        clock,
+        next,
+        pred,
+        jump,
+        sum,
+    );
+    words::lay_clock(r.clock, words);
+    let new_next = r.next;
+    let new_pred = r.pred;
+    let new_jump = r.jump;
+    let new_sum = r.sum;
+    words::lay_tour(
+        Tour {
+            next: new_next,
+            pred: new_pred,
+        },
+        words,
+    );
+    words::lay_ranking(
+        Ranking {
+            jump: new_jump,
+            sum: new_sum,
+        },
+        words,
+    );
+    r.made
+}
+
+// Stage 4.
+pub(crate) fn ranking_stage(words: &mut [u16; STATE_WORDS], budget: u16) -> u16
+    ensures { λ r. ⌜ Through 4 budget (stateOf (now (words .entry))) r (stateOf (now (words .exit))) ⌝ }
+{
+    let clock = words::clock_at(words);
+    if clock.stage != 4 {
+        return 0;
+    }
+    let table = words::table_at(words);
+    let ranking = words::ranking_at(words);
+    let jump = ranking.jump;
+    let sum = ranking.sum;
+    let r = ranking::run(table.units, budget, clock, jump, sum);
+    words::lay_clock(r.clock, words);
+    let new_jump = r.jump;
+    let new_sum = r.sum;
+    words::lay_ranking(
+        Ranking {
+            jump: new_jump,
+            sum: new_sum,
+        },
+        words,
+    );
+    r.made
+}
+
+// Stage 5.
+pub(crate) fn marks_stage(words: &mut [u16; STATE_WORDS], budget: u16) -> u16
+    ensures { λ r. ⌜ Through 5 budget (stateOf (now (words .entry))) r (stateOf (now (words .exit))) ⌝ }
+{
+    let clock = words::clock_at(words);
+    if clock.stage != 5 {
+        return 0;
+    }
+    let table = words::table_at(words);
+    let components = words::components_at(words);
+    let tree = words::tree_at(words);
+    let tour = words::tour_at(words);
+    let ranking = words::ranking_at(words);
+    let order = words::order_at(words);
+    let forward = order.forward;
+    let nd = order.nd;
+    let pre = order.pre;
+    let jump = ranking.jump;
+    let sum = ranking.sum;
+    let r = marks::run(
+        table.units,
+        budget,
+        &components.color,
+        &tree.parent,
+        &tour.pred,
+        clock,
+        forward,
+        nd,
+        jump,
+        sum,
+    );
+    words::lay_clock(r.clock, words);
+    let new_forward = r.forward;
+    let new_nd = r.nd;
+    let new_jump = r.jump;
+    let new_sum = r.sum;
+    words::lay_order(
+        Order {
+            forward: new_forward,
+            nd: new_nd,
+            pre,
+        },
+        words,
+    );
+    words::lay_ranking(
+        Ranking {
+            jump: new_jump,
+            sum: new_sum,
+        },
+        words,
+    );
+    r.made
+}
+
+// Stage 6.
+pub(crate) fn places_stage(words: &mut [u16; STATE_WORDS], budget: u16) -> u16
+    ensures { λ r. ⌜ Through 6 budget (stateOf (now (words .entry))) r (stateOf (now (words .exit))) ⌝ }
+{
+    let clock = words::clock_at(words);
+    if clock.stage != 6 {
+        return 0;
+    }
+    let table = words::table_at(words);
+    let components = words::components_at(words);
+    let tree = words::tree_at(words);
+    let ranking = words::ranking_at(words);
+    let order = words::order_at(words);
+    let forward = order.forward;
+    let nd = order.nd;
+    let pre = order.pre;
+    let jump = ranking.jump;
+    let sum = ranking.sum;
+    let r = places::run(
+        table.units,
+        budget,
+        &components.color,
+        &tree.parent,
+        clock,
+        pre,
+        jump,
+        sum,
+    );
+    words::lay_clock(r.clock, words);
+    let new_pre = r.pre;
+    let new_jump = r.jump;
+    let new_sum = r.sum;
+    words::lay_order(
+        Order {
+            forward,
+            nd,
+            pre: new_pre,
+        },
+        words,
+    );
+    words::lay_ranking(
+        Ranking {
+            jump: new_jump,
+            sum: new_sum,
+        },
+        words,
+    );
     r.made
 }
