@@ -13,7 +13,6 @@ pub mod Run
 pub mod Going
 pub mod StageRun
 pub mod StageSteps
-pub mod Through
 pub mod RunLaws
 pub mod Report
 pub mod ReportLaws

@@ -19,7 +19,7 @@ use Rattle.machine.specs.StageRun.{stageRun}
 use Rattle.machine.specs.InStage.{ready, inStage, stands, in-stage}
 
 -- s after so many rounds of a run from s₀: it stands in stage k or past it, or the budget is spent
-pub record CameTo (k budget : ℕ) (s₀ : State) (made : ℕ) (s : State) : Type 0 where
+record CameTo (k budget : ℕ) (s₀ : State) (made : ℕ) (s : State) : Type 0 where
   pub going : Going budget s₀ made s
   pub past : (made ≡ budget) ⊎ (k ≤ s .clock .stage)
 
@@ -33,11 +33,11 @@ pub record Stage {X : Type 0} (k n : ℕ) (fits : Bool) (clock : X → Clock) (o
   pub steps : (x : X) → wellFormed (into x) ≡ true → into x .clock .stage ≡ k → into (one x) ≡ Step.step (into x)
 
 -- a run begins in some stage
-pub came-first : (budget : ℕ) (s : State) → wellFormed s ≡ true → CameTo 1 budget s 0 s
+came-first : (budget : ℕ) (s : State) → wellFormed s ≡ true → CameTo 1 budget s 0 s
 came-first budget s w = record { going = begins budget s w; past = inr (kept-exact s .0 w .from) }
 
 -- past the tenth stage, or with the budget spent, it has ended
-pub came-last : (budget : ℕ) (s₀ : State) (made : ℕ) (s : State) → CameTo 11 budget s₀ made s → ran budget 0 s₀ ≡ (s, made)
+came-last : (budget : ℕ) (s₀ : State) (made : ℕ) (s : State) → CameTo 11 budget s₀ made s → ran budget 0 s₀ ≡ (s, made)
 came-last budget s₀ made s r = go (r .past)
   where
     go : (made ≡ budget) ⊎ (11 ≤ s .clock .stage) → ran budget 0 s₀ ≡ (s, made)
@@ -93,7 +93,7 @@ module _ (X : Type 0) (k n : ℕ) (fits : Bool) (clock : X → Clock) (one : X �
           rw h (record { going = g; past = inr (omega (arith, l, other)) })
 
   -- a run that has come to the stage comes to the next by the rounds that its budget has left
-  pub came-next : (budget : ℕ) (s₀ : State) (made : ℕ) (x : X) → count x ≡ 0 → CameTo k budget s₀ made (into x)
+  came-next : (budget : ℕ) (s₀ : State) (made : ℕ) (x : X) → count x ≡ 0 → CameTo k budget s₀ made (into x)
       → CameTo (suc k) budget s₀ (made + count (stageRun on one (budget - made) x)) (into (stageRun on one (budget - made) x))
   unfolding stageRun
   came-next budget s₀ made x none r = go (r .past)
@@ -144,3 +144,15 @@ arm {X} {k} {n} {fits} {clock} {one} {count} {into} st budget s₀ made x y s s�
       rw (after, run) (next .going),
       rw run (moves (λ (x : X). fits && inStage n k (clock x)) one count (st .counts) (budget - made) x on (omega (arith, l))),
     )
+
+-- rounds made from s leave s′, where the clock shows one of the ten stages: a run with so many rounds left goes on, by at least one
+abbrev pub Moved : ℕ → State → ℕ → State → Type 0
+Moved budget s made s′ =
+    (b : ℕ) (s₀ : State) (m : ℕ) → Going b s₀ m s → m < b → b - m ≡ budget → Going b s₀ (m + made) s′ × (1 ≤ made)
+
+pub moved : {X : Type 0} {k n : ℕ} {fits : Bool} {clock : X → Clock} {one : X → X} {count : X → ℕ} {into : X → State} → Stage k n fits clock one count into
+    → (budget : ℕ) (x y : X) (s s′ : State) → s .clock .stage ≡ k
+    → count x ≡ 0 → into x ≡ s → y ≡ stageRun (λ (x : X). fits && inStage n k (clock x)) one budget x → s′ ≡ into y
+    → Moved budget s (count y) s′
+moved st budget x y s s′ e none at run after b s₀ m g l left =
+    arm st b s₀ m x y s s′ g l e none at (rw (sym left) at run) after

@@ -5,17 +5,15 @@ use state::Labels;
 use state::Range;
 use words::STATE_WORDS;
 ghost use mathlib.Core.Path.{_≡_};
-ghost use Rattle.machine.specs.Through.{Through};
+ghost use Rattle.machine.specs.StageSteps.{Moved};
 ghost use Rattle.words.specs.Layout.{stateOf};
 
 // Stage 7.
 pub(crate) fn range_stage(words: &mut [u16; STATE_WORDS], budget: u16) -> u16
-    ensures { λ r. ⌜ Through 7 budget (stateOf (now (words .entry))) r (stateOf (now (words .exit))) ⌝ }
+    requires { ⌜ stateOf (now words) .clock .stage ≡ 7 ⌝ }
+    ensures { λ r. ⌜ Moved budget (stateOf (now (words .entry))) r (stateOf (now (words .exit))) ⌝ }
 {
     let clock = words::clock_at(words);
-    if clock.stage != 7 {
-        return 0;
-    }
     let table = words::table_at(words);
     let tree = words::tree_at(words);
     let order = words::order_at(words);
@@ -71,12 +69,10 @@ pub(crate) fn range_stage(words: &mut [u16; STATE_WORDS], budget: u16) -> u16
 
 // Stage 8.
 pub(crate) fn joins_stage(words: &mut [u16; STATE_WORDS], budget: u16) -> u16
-    ensures { λ r. ⌜ Through 8 budget (stateOf (now (words .entry))) r (stateOf (now (words .exit))) ⌝ }
+    requires { ⌜ stateOf (now words) .clock .stage ≡ 8 ⌝ }
+    ensures { λ r. ⌜ Moved budget (stateOf (now (words .entry))) r (stateOf (now (words .exit))) ⌝ }
 {
     let clock = words::clock_at(words);
-    if clock.stage != 8 {
-        return 0;
-    }
     let table = words::table_at(words);
     let tree = words::tree_at(words);
     let order = words::order_at(words);
@@ -115,12 +111,10 @@ pub(crate) fn joins_stage(words: &mut [u16; STATE_WORDS], budget: u16) -> u16
 
 // Stage 9.
 pub(crate) fn classes_stage(words: &mut [u16; STATE_WORDS], budget: u16) -> u16
-    ensures { λ r. ⌜ Through 9 budget (stateOf (now (words .entry))) r (stateOf (now (words .exit))) ⌝ }
+    requires { ⌜ stateOf (now words) .clock .stage ≡ 9 ⌝ }
+    ensures { λ r. ⌜ Moved budget (stateOf (now (words .entry))) r (stateOf (now (words .exit))) ⌝ }
 {
     let clock = words::clock_at(words);
-    if clock.stage != 9 {
-        return 0;
-    }
     let table = words::table_at(words);
     let tree = words::tree_at(words);
     let aux = words::aux_at(words);
@@ -153,12 +147,10 @@ pub(crate) fn classes_stage(words: &mut [u16; STATE_WORDS], budget: u16) -> u16
 
 // Stage 10.
 pub(crate) fn labels_stage(words: &mut [u16; STATE_WORDS], budget: u16) -> u16
-    ensures { λ r. ⌜ Through 10 budget (stateOf (now (words .entry))) r (stateOf (now (words .exit))) ⌝ }
+    requires { ⌜ stateOf (now words) .clock .stage ≡ 10 ⌝ }
+    ensures { λ r. ⌜ Moved budget (stateOf (now (words .entry))) r (stateOf (now (words .exit))) ⌝ }
 {
     let clock = words::clock_at(words);
-    if clock.stage != 10 {
-        return 0;
-    }
     let table = words::table_at(words);
     let tree = words::tree_at(words);
     let order = words::order_at(words);

@@ -1,5 +1,4 @@
-// The rounds of each of the stages 1 to 6 on the words of a state: its tables are taken out, changed, and laid down again; in another
-// stage nothing is done.
+// The rounds of each of the stages 1 to 6 on the words of a state: its tables are taken out, changed, and laid down again.
 use state::Components;
 use state::Order;
 use state::Ranking;
@@ -7,17 +6,15 @@ use state::Tour;
 use state::Tree;
 use words::STATE_WORDS;
 ghost use mathlib.Core.Path.{_≡_};
-ghost use Rattle.machine.specs.Through.{Through};
+ghost use Rattle.machine.specs.StageSteps.{Moved};
 ghost use Rattle.words.specs.Layout.{stateOf};
 
 // Stage 1.
 pub(crate) fn components_stage(words: &mut [u16; STATE_WORDS], budget: u16) -> u16
-    ensures { λ r. ⌜ Through 1 budget (stateOf (now (words .entry))) r (stateOf (now (words .exit))) ⌝ }
+    requires { ⌜ stateOf (now words) .clock .stage ≡ 1 ⌝ }
+    ensures { λ r. ⌜ Moved budget (stateOf (now (words .entry))) r (stateOf (now (words .exit))) ⌝ }
 {
     let clock = words::clock_at(words);
-    if clock.stage != 1 {
-        return 0;
-    }
     let table = words::table_at(words);
     let components = words::components_at(words);
     let color = components.color;
@@ -30,12 +27,10 @@ pub(crate) fn components_stage(words: &mut [u16; STATE_WORDS], budget: u16) -> u
 
 // Stage 2.
 pub(crate) fn tree_stage(words: &mut [u16; STATE_WORDS], budget: u16) -> u16
-    ensures { λ r. ⌜ Through 2 budget (stateOf (now (words .entry))) r (stateOf (now (words .exit))) ⌝ }
+    requires { ⌜ stateOf (now words) .clock .stage ≡ 2 ⌝ }
+    ensures { λ r. ⌜ Moved budget (stateOf (now (words .entry))) r (stateOf (now (words .exit))) ⌝ }
 {
     let clock = words::clock_at(words);
-    if clock.stage != 2 {
-        return 0;
-    }
     let table = words::table_at(words);
     let components = words::components_at(words);
     let tree = words::tree_at(words);
@@ -66,12 +61,10 @@ pub(crate) fn tree_stage(words: &mut [u16; STATE_WORDS], budget: u16) -> u16
 
 // Stage 3.
 pub(crate) fn tour_stage(words: &mut [u16; STATE_WORDS], budget: u16) -> u16
-    ensures { λ r. ⌜ Through 3 budget (stateOf (now (words .entry))) r (stateOf (now (words .exit))) ⌝ }
+    requires { ⌜ stateOf (now words) .clock .stage ≡ 3 ⌝ }
+    ensures { λ r. ⌜ Moved budget (stateOf (now (words .entry))) r (stateOf (now (words .exit))) ⌝ }
 {
     let clock = words::clock_at(words);
-    if clock.stage != 3 {
-        return 0;
-    }
     let table = words::table_at(words);
     let tree = words::tree_at(words);
     let tour = words::tour_at(words);
@@ -114,12 +107,10 @@ pub(crate) fn tour_stage(words: &mut [u16; STATE_WORDS], budget: u16) -> u16
 
 // Stage 4.
 pub(crate) fn ranking_stage(words: &mut [u16; STATE_WORDS], budget: u16) -> u16
-    ensures { λ r. ⌜ Through 4 budget (stateOf (now (words .entry))) r (stateOf (now (words .exit))) ⌝ }
+    requires { ⌜ stateOf (now words) .clock .stage ≡ 4 ⌝ }
+    ensures { λ r. ⌜ Moved budget (stateOf (now (words .entry))) r (stateOf (now (words .exit))) ⌝ }
 {
     let clock = words::clock_at(words);
-    if clock.stage != 4 {
-        return 0;
-    }
     let table = words::table_at(words);
     let ranking = words::ranking_at(words);
     let jump = ranking.jump;
@@ -140,12 +131,10 @@ pub(crate) fn ranking_stage(words: &mut [u16; STATE_WORDS], budget: u16) -> u16
 
 // Stage 5.
 pub(crate) fn marks_stage(words: &mut [u16; STATE_WORDS], budget: u16) -> u16
-    ensures { λ r. ⌜ Through 5 budget (stateOf (now (words .entry))) r (stateOf (now (words .exit))) ⌝ }
+    requires { ⌜ stateOf (now words) .clock .stage ≡ 5 ⌝ }
+    ensures { λ r. ⌜ Moved budget (stateOf (now (words .entry))) r (stateOf (now (words .exit))) ⌝ }
 {
     let clock = words::clock_at(words);
-    if clock.stage != 5 {
-        return 0;
-    }
     let table = words::table_at(words);
     let components = words::components_at(words);
     let tree = words::tree_at(words);
@@ -194,12 +183,10 @@ pub(crate) fn marks_stage(words: &mut [u16; STATE_WORDS], budget: u16) -> u16
 
 // Stage 6.
 pub(crate) fn places_stage(words: &mut [u16; STATE_WORDS], budget: u16) -> u16
-    ensures { λ r. ⌜ Through 6 budget (stateOf (now (words .entry))) r (stateOf (now (words .exit))) ⌝ }
+    requires { ⌜ stateOf (now words) .clock .stage ≡ 6 ⌝ }
+    ensures { λ r. ⌜ Moved budget (stateOf (now (words .entry))) r (stateOf (now (words .exit))) ⌝ }
 {
     let clock = words::clock_at(words);
-    if clock.stage != 6 {
-        return 0;
-    }
     let table = words::table_at(words);
     let components = words::components_at(words);
     let tree = words::tree_at(words);

@@ -1,28 +1,97 @@
-// Rounds on the words of a state, stage after stage.
+// Rounds and runs on the words of a state.
 mod back;
 mod front;
 
+use state::Clock;
 use words::STATE_WORDS;
 ghost use mathlib.Core.Path.{_≡_};
 ghost use mathlib.Core.Bool.{true, cond};
+ghost use Prim.Native.Nat.{_≤_};
+ghost use lib.Dec.{eqb};
 ghost use Rattle.machine.specs.WellFormed.{wellFormed};
 ghost use Rattle.machine.specs.Run.{ran};
+ghost use Rattle.machine.specs.StageSteps.{Moved};
+ghost use Rattle.machine.specs.Calls.{numberOf, roundRefusal, roundAnswer, runAnswer};
 ghost use Rattle.words.specs.Layout.{stateOf};
 
-// At most `budget` rounds, and how many were made: each stage makes those of its own that the budget has left.
-fn made(words: &mut [u16; STATE_WORDS], budget: u16) -> u16
+// The number of a state that is not kept, and of a finished one.
+const NOT_KEPT: u32 = 10;
+
+const IS_FINISHED: u32 = 11;
+
+// One round: 10, 11.
+pub fn round(words: &mut [u16; STATE_WORDS]) -> u32
+    ensures number { λ r. ⌜ r ≡ numberOf (roundAnswer (stateOf (now (words .entry))) .reply) ⌝ }
+    ensures words { λ _. ⌜ stateOf (now (words .exit)) ≡ roundAnswer (stateOf (now (words .entry))) .state ⌝ }
+{
+    let refused = refusal(words);
+    if refused != 0 {
+        return refused;
+    }
+    go(words, 1);
+    0
+}
+
+// At most `budget` rounds: 10, 11. The rounds made go to `made`.
+pub fn run(words: &mut [u16; STATE_WORDS], budget: u16, made: &mut u16) -> u32
+    ensures number { λ r. ⌜ r ≡ numberOf (runAnswer budget (stateOf (now (words .entry))) .reply) ⌝ }
+    ensures words { λ _. ⌜ stateOf (now (words .exit)) ≡ runAnswer budget (stateOf (now (words .entry))) .state ⌝ }
+    ensures made { λ _. ⌜ now (made .exit)
+        ≡ cond (eqb (roundRefusal (stateOf (now (words .entry)))) 0) (ran budget 0 (stateOf (now (words .entry))) .1) (now (made .entry)) ⌝ }
+{
+    let refused = refusal(words);
+    if refused != 0 {
+        return refused;
+    }
+    *made = go(words, budget);
+    0
+}
+
+// Why no round may be made: 10, 11, else 0.
+fn refusal(words: &[u16; STATE_WORDS]) -> u32
+    ensures { λ r. ⌜ r ≡ roundRefusal (stateOf (now (words .entry))) ⌝ }
+{
+    if !words::kept(words) {
+        return NOT_KEPT;
+    }
+    if words::clock_at(words).stage == Clock::FINISHED {
+        IS_FINISHED
+    } else {
+        0
+    }
+}
+
+// At most `budget` rounds, and how many were made.
+fn go(words: &mut [u16; STATE_WORDS], budget: u16) -> u16
     requires { ⌜ wellFormed (stateOf (now words)) ≡ true ⌝ }
     ensures { λ r. ⌜ ran budget 0 (stateOf (now (words .entry))) ≡ (stateOf (now (words .exit)), r) ⌝ }
 {
-    let mut made = front::components_stage(words, budget);
-    made += front::tree_stage(words, budget - made);
-    made += front::tour_stage(words, budget - made);
-    made += front::ranking_stage(words, budget - made);
-    made += front::marks_stage(words, budget - made);
-    made += front::places_stage(words, budget - made);
-    made += back::range_stage(words, budget - made);
-    made += back::joins_stage(words, budget - made);
-    made += back::classes_stage(words, budget - made);
-    made += back::labels_stage(words, budget - made);
+    let mut made: u16 = 0;
+    while made < budget {
+        let stage = words::clock_at(words).stage;
+        if 10 < stage {
+            return made;
+        }
+        made += rounds(stage, words, budget - made);
+    }
     made
+}
+
+// The rounds of the stage that the clock shows.
+fn rounds(stage: u16, words: &mut [u16; STATE_WORDS], budget: u16) -> u16
+    requires { ⌜ (stateOf (now words) .clock .stage ≡ stage) × ((1 ≤ stage) × (stage ≤ 10)) ⌝ }
+    ensures { λ r. ⌜ Moved budget (stateOf (now (words .entry))) r (stateOf (now (words .exit))) ⌝ }
+{
+    match stage {
+        1 => front::components_stage(words, budget),
+        2 => front::tree_stage(words, budget),
+        3 => front::tour_stage(words, budget),
+        4 => front::ranking_stage(words, budget),
+        5 => front::marks_stage(words, budget),
+        6 => front::places_stage(words, budget),
+        7 => back::range_stage(words, budget),
+        8 => back::joins_stage(words, budget),
+        9 => back::classes_stage(words, budget),
+        _ => back::labels_stage(words, budget),
+    }
 }
