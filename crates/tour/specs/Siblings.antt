@@ -1,4 +1,5 @@
 -- A scan from the greatest unit down: for every unit at once its first child, its next sibling and its first child past its parent.
+-- k is the least unit that the scan has met.
 use mathlib.Core.Path.{_≡_, sym, _∙_}
 use mathlib.Core.Bool.{Bool, cond, _&&_}
 use mathlib.Core.List.{List}

@@ -12,7 +12,7 @@ pub(crate) struct Siblings {
     pub past: [u16; 256],
 }
 
-// What a parent's entries are read and stored by is tested: a root's is absent.
+// A parent's entries are read and stored with a test, for a root's parent is absent.
 pub(crate) fn scan(units: u16, parent: &[u16]) -> Siblings
     requires { ⌜ (units ≤ 256) × (length (now parent) ≡ 256) ⌝ }
     ensures eldest { λ r. ⌜ Eldest 256 units 0 (now (parent .entry)) (r .eldest) ⌝ }

@@ -135,9 +135,8 @@ fn offer(cand: &mut [u16], v: u16, w: u16)
     ensures { λ _. ⌜ now (cand .exit) ≡ takesIn min maxUnits (now (cand .entry)) v w ⌝ }
 {
     let at = v as usize;
-    if w < cand[at] {
-        cand[at] = w;
-    }
+    let x = values::least_of(cand[at], w);
+    cand[at] = x;
 }
 
 // The round, from the chosen parents: one pass over the units, without branches.

@@ -34,7 +34,7 @@ choose-requires : tie.Need-choose-requires
 choose-requires c κs = search needs
 
 returns : tie.Need-returns
-returns c = cc
+returns c = rw (c .choose .ensures, c .before .arc-word .ensures, c .before .before .at .ensures, c .before .before .before .turn-to .ensures)
 
 pub in-by-spec : {M : Type 1} → statement M
 in-by-spec =
