@@ -3,7 +3,6 @@ use borrow.Author.Needs.{needs}
 use mathlib.Core.Path.{_≡_, refl, _∙_}
 use Prim.Native.Nat.{_+_, _*_, _≤_, _-_}
 use native.Mathlib.Nat.{le-antisymm}
-use native.Mathlib.Omega.{arith}
 use Rattle.lists.specs.Tables.{over}
 use Rattle.lists.specs.Rounds.{over-pair}
 use Rattle.rules.specs.Basics.{at}

@@ -1,6 +1,6 @@
 -- Place by place and unit by unit, from the local values.
 use borrow.Author.Needs.{needs}
-use mathlib.Core.Path.{_≡_, _∙_}
+use mathlib.Core.Path.{_∙_}
 use mathlib.Core.Bool.{true, false}
 use Prim.Native.Nat.{min, max}
 use native.Mathlib.Nat.{le-refl}

@@ -1,6 +1,5 @@
 -- One end, then the other.
 use borrow.Author.Needs.{needs}
-use mathlib.Core.Path.{_≡_}
 use borrow.Author.Tests.{lt-ltb}
 use Rattle.lists.specs.Scatter.{takesIn}
 use Rattle.rules.specs.HeardLaws.{hears}
