@@ -7,4 +7,16 @@ mod status;
 mod whole;
 
 pub use answer::Answer;
+pub use state::Aux;
+pub use state::Clock;
+pub use state::Components;
+pub use state::Global;
+pub use state::Labels;
+pub use state::Order;
+pub use state::Range;
+pub use state::Ranking;
+pub use state::Reply;
+pub use state::Table;
+pub use state::Tour;
+pub use state::Tree;
 pub use whole::Survey;
