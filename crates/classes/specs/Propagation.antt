@@ -18,8 +18,8 @@ use Rattle.lists.specs.Tests.{either, cond-true, cond-false}
 use Rattle.lists.specs.Tables.{over, over-cong, getD-over, length-over}
 use Rattle.lists.specs.Folds.{least, every}
 use Rattle.lists.specs.LeastLaws.{least-start}
-use Rattle.lists.specs.Rounds.{over-self, over-same}
-use Rattle.lists.specs.Scatter.{takesIn, fold-start, fold-keeps, single-over}
+use Rattle.lists.specs.Rounds.{over-same, over-cong-in}
+use Rattle.lists.specs.Scatter.{takesIn, fold-again, fold-absorbs, single-over}
 use Rattle.table.specs.Table.{endA, endB}
 use Rattle.rules.specs.Basics.{ABSENT, at, isRoot, heard}
 use Rattle.rules.specs.Bounds.{nameOk}
@@ -47,7 +47,7 @@ overLinks j ends marks said v = least j (λ (i : ℕ). heardIf said (at marks i)
 module _ (n : ℕ) (ends marks said : List ℕ) where
   pub links-none : said ≡ over n (overLinks 0 ends marks said) said
   unfolding overLinks
-  links-none = sym (over-self 0 n said)
+  links-none = over-same 0 n (λ (v : ℕ). at said v) said (λ i l. refl)
 
   pub links-more : (j : ℕ) (t new : List ℕ) → t ≡ over n (overLinks j ends marks said) said
       → new ≡ cond (not (eqb (at marks j) 0)) (hears false n said (endA ends j) (endB ends j) t) t
@@ -56,7 +56,7 @@ module _ (n : ℕ) (ends marks said : List ℕ) where
   links-more j t new was put =
       rw (put, was, add-one j)
       (hears-over-if (not (eqb (at marks j) 0)) false n said (endA ends j) (endB ends j) (overLinks j ends marks said) said
-      (λ (v : ℕ). fold-start false j (λ (i : ℕ). heardIf said (at marks i) (endA ends i) (endB ends i) v) (at said v)))
+      (λ (v : ℕ). fold-again false j (λ (i : ℕ). heardIf said (at marks i) (endA ends i) (endB ends i) v) (at said v)))
 
   unmarked : (mark a b v : ℕ) → mark ≡ 0 → heardIf said mark a b v ≡ at said v
   unmarked mark a b v e = rw e
@@ -144,7 +144,7 @@ module _ (n : ℕ) (heads said : List ℕ) where
       rw (to-over k before own)
       (single-over false n (λ (v : ℕ). least k (λ (u : ℕ). cond (eqb (at heads u) v) (at said u) (at said v)) (before v)) (at said) said
       (at heads k) (at said k)
-      (λ (v : ℕ). fold-keeps false k (λ (u : ℕ). cond (eqb (at heads u) v) (at said u) (at said v)) (before v) (at said v) (own v)))
+      (λ (v : ℕ). fold-absorbs false k (λ (u : ℕ). cond (eqb (at heads u) v) (at said u) (at said v)) (before v) (at said v) (own v)))
 
 -- ---- roots say nothing that lowers a word
 
@@ -260,7 +260,7 @@ pub heads-round : (n m made : ℕ) (ends parent links marks color value heads sa
     → over n (leastOf parent heads said t) value ≡ auxRound n m made ends parent links marks color
 unfolding auxRound leastJoined overLinks
 heads-round n m made ends parent links marks color value heads said t from long within by words is was =
-    over-same 0 n (leastOf parent heads said t) (leastJoined n m ends parent links marks value) value
+    over-cong-in 0 n (leastOf parent heads said t) (leastJoined n m ends parent links marks value) value
     (λ (v : ℕ) (h : v < n) (l : v < length value). go v h (either (isRoot parent v)))
     ∙ rw from (over-said (eqb made 0) n (leastJoined n m ends parent links marks (auxSaid n made color)) color)
   where
@@ -272,7 +272,7 @@ heads-round n m made ends parent links marks color value heads said t from long 
 
     read : (v : ℕ) → v < n → at t v ≡ least n (over-head v) (least m (over-link v) (at said v))
     read v h =
-        rw (was, to-over n heads said n (λ (i : ℕ). least m (over-link i) (at said i)) (λ (i : ℕ). fold-start false m (over-link i) (at said i)))
+        rw (was, to-over n heads said n (λ (i : ℕ). least m (over-link i) (at said i)) (λ (i : ℕ). fold-again false m (over-link i) (at said i)))
         (getD-over n (λ (i : ℕ). least n (over-head i) (least m (over-link i) (at said i))) said v 0 h
         (omega (arith, h, long, ap length is, length-over n (saidBy parent value) value)))
 

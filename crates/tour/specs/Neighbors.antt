@@ -12,7 +12,7 @@ use lib.Dec.{eqb, ltb, leb}
 use lib.ListN.{length}
 use borrow.Author.Tests.{ltb-true, le-leb, eqb-true, eq-eqb, ne-eqb}
 use Rattle.lists.specs.Folds.{every}
-use Rattle.lists.specs.FoldLaws.{every-at}
+use Rattle.lists.specs.All.{every-at}
 use Rattle.lists.specs.LeastLaws.{least-start, least-le, least-greatest}
 use Rattle.lists.specs.Tests.{or-cases}
 use Rattle.rules.specs.Basics.{ABSENT, at}
@@ -28,7 +28,7 @@ Parents n parent = (n ≤ 256) × ((length parent ≡ 256) × (every (nameOk n) 
 
 module _ (n : ℕ) (parent : List ℕ) (fit : Parents n parent) (v : ℕ) (below : v < n) where
   kept : nameOk n (at parent v) ≡ true
-  kept = every-at (nameOk n) parent v (fit .1 .1) (omega (arith, below, fit .0, fit .1 .0))
+  kept = every-at (nameOk n) parent v 0 (fit .1 .1) (omega (arith, below, fit .0, fit .1 .0))
 
   pub unit-of : (at parent v ≡ ABSENT → ⊥) → at parent v < n
   unit-of e = go (or-cases (ltb (at parent v) n) (eqb (at parent v) ABSENT) kept)

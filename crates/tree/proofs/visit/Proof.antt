@@ -6,7 +6,7 @@ use lib.ListN.{length}
 use Rattle.lists.specs.Tables.{over}
 use Rattle.lists.specs.Folds.{some}
 use Rattle.lists.specs.Rounds.{over-more, over-all}
-use Rattle.lists.specs.Counts.{some-more, some-all}
+use Rattle.lists.specs.Some.{some-more, some-all}
 use Rattle.rules.specs.TreeLaws.{visitsBy, parentBy, distBy}
 use borrow.Author.Needs.{needs}
 use Rattle.tree.proofs.visit.Statement.{statement}
