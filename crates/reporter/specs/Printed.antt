@@ -4,14 +4,13 @@ use mathlib.Core.List.{List, [], _∷_, _++_}
 use Prim.Native.Nat.{ℕ}
 use lib.Dec.{eqb, ltb}
 use lib.ListN.{length, drop}
-use Rattle.table.specs.Table.{tableRefusal}
 use Rattle.frames.specs.Frame.{lineOf}
 use Rattle.frames.specs.Bodies.{refusalBody}
 use Rattle.files.specs.File.{linesOf, readRefusal, unitsIn, endsIn}
-use Rattle.survey.specs.declared.state.Survey.{Survey}
-use Rattle.survey.specs.Load.{loaded}
-use Rattle.survey.specs.Run.{ran}
-use Rattle.survey.specs.Report.{report}
+use Rattle.machine.specs.State.{State}
+use Rattle.machine.specs.Load.{Input, loadRefusal, loaded}
+use Rattle.machine.specs.Run.{ran}
+use Rattle.machine.specs.Report.{report}
 
 -- the program's input is at most this long
 abbrev pub MAX-INPUT : ℕ
@@ -25,21 +24,21 @@ WORDS = 2048
 abbrev pub refusalLine : ℕ → List ℕ
 refusalLine k = lineOf (refusalBody k)
 
--- the survey of n units and the table t, run with the greatest budget, which always comes to the end
-abbrev pub surveyed : ℕ → List ℕ → Survey
-surveyed n t = ran 65535 0 (loaded n t) .0
+-- the survey of what was loaded, run with the greatest budget, which always comes to the end
+abbrev pub surveyed : Input → State
+surveyed input = ran 65535 0 (loaded input) .0
 
 -- loaded and surveyed, or refused by 4 to 9
-unfoldable pub printedTable : ℕ → List ℕ → List ℕ
-printedTable n t =
-    let whole = report (surveyed n t) in
-    cond (eqb (tableRefusal n t) 0) whole (refusalLine (tableRefusal n t))
+unfoldable pub printedTable : Input → List ℕ
+printedTable input =
+    let whole = report (surveyed input) in
+    cond (eqb (loadRefusal input) 0) whole (refusalLine (loadRefusal input))
 
 -- read, or refused by 1, 2, 3 or 6
 unfoldable pub printedFile : List ℕ → List ℕ
-printedFile input =
-    let whole = printedTable (unitsIn (linesOf input)) (endsIn (linesOf input)) in
-    cond (eqb (readRefusal (linesOf input) WORDS) 0) whole (refusalLine (readRefusal (linesOf input) WORDS))
+printedFile file =
+    let whole = printedTable (record { units = unitsIn (linesOf file); words = endsIn (linesOf file) }) in
+    cond (eqb (readRefusal (linesOf file) WORDS) 0) whole (refusalLine (readRefusal (linesOf file) WORDS))
 
 unfoldable pub printed : List ℕ → List ℕ
 printed input = let whole = printedFile input in cond (ltb MAX-INPUT (length input)) (refusalLine 1) whole
@@ -50,10 +49,3 @@ laidOver text out = cond (ltb (length out) (length text)) out (text ++ drop (len
 
 unfoldable pub laidCount : List ℕ → ℕ → ℕ
 laidCount text places = cond (ltb places (length text)) 0 (length text)
-
--- the lent slice after printing, and the number of bytes printed
-abbrev pub printedOver : List ℕ → List ℕ → List ℕ
-printedOver input out = laidOver (printed input) out
-
-abbrev pub printedCount : List ℕ → ℕ → ℕ
-printedCount input places = laidCount (printed input) places

@@ -11,8 +11,8 @@ use Rattle.files.specs.TripLaws.{read-front, read-long}
 use Rattle.files.specs.declared.Reading.the-variants.{Read}
 use Rattle.reporter.specs.Printed.{WORDS, printedTable, laidCount, laidOver}
 use Rattle.reporter.specs.LaidLaws.{file-refused, file-read}
-use Rattle.reporter.proofs.filed.Statement.{statement}
-use Rattle.reporter.proofs.filed.Tie as tie
+use Rattle.reporter.proofs.on_words.filed.Statement.{statement}
+use Rattle.reporter.proofs.on_words.filed.Tie as tie
 
 -- the reply of the reading where a file was accepted, and its words
 found : (c : tie.After-known-told2)
@@ -84,7 +84,7 @@ returns-2 c =
     let e = found (c .before .before .before .before .before) in
     let front = ap (take (2 * m)) (r .ensures .1 .0) ∙ read-front (a .input .now) (length (a .words .now)) u m e (a .words .now) refl in
     let whole =
-    ap (printedTable u) front ∙ sym (file-read (a .input .now) u m (ap (readReply (a .input .now)) (sym (c .before .before .before .before .before .before .before .before .before .before .before .before .before .before .before .pre)) ∙ e)) in
+    ap (λ (w : List ℕ). printedTable (record { units = u; words = w })) front ∙ sym (file-read (a .input .now) u m (ap (readReply (a .input .now)) (sym (c .before .before .before .before .before .before .before .before .before .before .before .before .before .before .before .pre)) ∙ e)) in
     let out = a .out .now in (
       t .ensures .0 ∙ ap (λ (x : List ℕ). laidCount x (length out)) whole,
       t .ensures .1 ∙ ap (λ (x : List ℕ). laidOver x out) whole,
