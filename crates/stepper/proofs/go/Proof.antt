@@ -1,0 +1,79 @@
+-- Stage after stage, each by at least one round, until the budget is spent or the last stage is past.
+use mathlib.Core.Path.{_≡_, refl, sym, ap, _∙_}
+use Prim.Native.Nat.{_-_, _+_, _≤_}
+use native.Mathlib.Omega.{arith}
+use borrow.Author.Needs.{needs}
+use Rattle.state.specs.declared.groups.Clock.{Clock}
+use Rattle.machine.specs.Kept.{kept-exact}
+use Rattle.machine.specs.Going.{Going, begins, spent, ended}
+use Rattle.words.specs.Layout.{stateOf}
+use Rattle.stepper.proofs.go.Statement.{statement}
+use Rattle.stepper.proofs.go.Tie as tie
+
+abbrev Inv-loop : tie.InvT-loop
+Inv-loop words₀ budget made₀ words made = Going budget (stateOf words₀) made (stateOf words)
+
+abbrev μ-loop : tie.MeasureT-loop
+μ-loop words₀ budget made₀ words made = budget - made
+
+-- the run goes on by the rounds of a stage
+further : (c : tie.After-rounds Inv-loop μ-loop)
+    → (let l = c .before .before .before .before .before .before in
+    Going (l .before .args .budget) (stateOf (l .before .args .words .now)) (l .loop .made + c .rounds .result) (stateOf (c .rounds .last .1 .0)) × (1 ≤ c .rounds .result))
+further c =
+    let l = c .before .before .before .before .before .before in
+    c .rounds .ensures _ _ _ (l .loop .inv) (c .before .before .before .before .before .loop-test .taken) refl
+
+loop-holds : tie.Need-loop-holds Inv-loop μ-loop
+loop-holds c = begins _ _ (c .pre)
+
+clock-at-requires : tie.Need-clock-at-requires Inv-loop μ-loop
+clock-at-requires c κs = search needs
+
+returns : tie.Need-returns Inv-loop μ-loop
+returns c =
+    let k = c .before in
+    let l = k .before .before .before in
+    ended _ _ _ _ (l .loop .inv) (rw (k .clock-at .ensures) at (c .if1 .taken))
+
+sub-rounds : tie.Need-sub-rounds Inv-loop μ-loop
+sub-rounds c = omega (arith, c .before .before .before .before .before .loop .inv .within)
+
+rounds-requires : tie.Need-rounds-requires Inv-loop μ-loop
+rounds-requires c κs =
+    let k = c .before .before in
+    let l = k .before .before .before in
+    let e = sym (ap (λ (x : Clock). x .stage) (k .clock-at .ensures)) in
+    (e, (rw e at (kept-exact _ .0 (l .loop .inv .well) .from), omega (arith, c .before .if1 .left)))
+
+add-made : tie.Need-add-made Inv-loop μ-loop
+add-made c =
+    let m = further c in
+    omega (arith, m .0 .within, c .before .before .before .before .before .before .before .fits .budget)
+
+loop-less : tie.Need-loop-less Inv-loop μ-loop
+loop-less c =
+    let m = further c in
+    omega (arith, m .1, m .0 .within)
+
+loop-again : tie.Need-loop-again Inv-loop μ-loop
+loop-again c = further c .0
+
+returns-2 : tie.Need-returns-2 Inv-loop μ-loop
+returns-2 c = spent _ _ _ _ (c .before .loop .inv) (c .loop-test .left)
+
+pub go-spec : {M : Type 1} → statement M
+go-spec =
+    tie.close
+    (tie.spec
+    Inv-loop
+    μ-loop
+    loop-holds
+    clock-at-requires
+    returns
+    sub-rounds
+    rounds-requires
+    add-made
+    loop-less
+    loop-again
+    returns-2)
