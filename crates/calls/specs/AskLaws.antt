@@ -13,16 +13,16 @@ use Rattle.files.specs.declared.Reading.{Reading}
 use Rattle.files.specs.declared.Reading.the-variants as reading
 use Rattle.files.specs.declared.Writing.{Writing}
 use Rattle.files.specs.declared.Writing.the-variants as writing
-use Rattle.survey.specs.declared.state.Survey.{Survey}
-use Rattle.survey.specs.declared.reply.Answer.{Answer}
-use Rattle.survey.specs.declared.reply.Reply.{Reply}
-use Rattle.survey.specs.declared.reply.Reply.the-variants.{Refused, Read, Written}
-use Rattle.survey.specs.State.{units, links, finished, FINISHED}
-use Rattle.survey.specs.WellFormed.{wellFormed}
-use Rattle.survey.specs.Report.{report, reportLength}
-use Rattle.survey.specs.Calls.{questionRefusal, reportRefusal, reported, readAnswer, writeAnswer}
+use Rattle.machine.specs.State.{State}
+use Rattle.machine.specs.Calls.{Answer}
+use Rattle.state.specs.declared.reply.Reply.{Reply}
+use Rattle.state.specs.declared.reply.Reply.the-variants.{Refused, Read, Written}
+use Rattle.machine.specs.State.{units, links, finished, FINISHED}
+use Rattle.machine.specs.WellFormed.{wellFormed}
+use Rattle.machine.specs.Report.{report, reportLength}
+use Rattle.machine.specs.Calls.{questionRefusal, reportRefusal, reported, readAnswer, writeAnswer}
 
-module _ (s : Survey) where
+module _ (s : State) where
   -- ---- questions
 
   pub question-malformed : (exists : Bool) → wellFormed s ≡ false → 10 ≡ questionRefusal s exists
@@ -55,15 +55,15 @@ written-refused k l out h = rw (ne-eqb k 0 h) refl
 -- ---- files
 
 -- the answer of a file call, from the reply of `files`
-abbrev pub readingAnswer : Survey → Reading → Answer
-readingAnswer s (reading.Read n m) = record { survey = s; reply = Read n m }
-readingAnswer s (reading.Refused k) = record { survey = s; reply = Refused k }
+abbrev pub readingAnswer : State → Reading → Answer
+readingAnswer s (reading.Read n m) = record { state = s; reply = Read n m }
+readingAnswer s (reading.Refused k) = record { state = s; reply = Refused k }
 
-abbrev pub writingAnswer : Survey → Writing → Answer
-writingAnswer s (writing.Written k) = record { survey = s; reply = Written k }
-writingAnswer s (writing.Refused k) = record { survey = s; reply = Refused k }
+abbrev pub writingAnswer : State → Writing → Answer
+writingAnswer s (writing.Written k) = record { state = s; reply = Written k }
+writingAnswer s (writing.Refused k) = record { state = s; reply = Refused k }
 
-pub read-answer : (input : List ℕ) (places : ℕ) (s : Survey)
+pub read-answer : (input : List ℕ) (places : ℕ) (s : State)
     → readingAnswer s (readReply input places) ≡ readAnswer input places s
 unfolding readAnswer readReply
 read-answer input places s = go (either (eqb (readRefusal (linesOf input) places) 0))
@@ -73,7 +73,7 @@ read-answer input places s = go (either (eqb (readRefusal (linesOf input) places
     go (inl e) = rw e refl
     go (inr e) = rw e refl
 
-pub write-answer : (n : ℕ) (t : List ℕ) (places : ℕ) (s : Survey)
+pub write-answer : (n : ℕ) (t : List ℕ) (places : ℕ) (s : State)
     → writingAnswer s (writeReply n t places) ≡ writeAnswer n t places s
 unfolding writeAnswer writeReply
 write-answer n t places s = go (either (eqb (writeRefusal n t places) 0))

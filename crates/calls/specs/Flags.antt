@@ -2,7 +2,7 @@
 use mathlib.Core.Path.{_≡_, refl}
 use mathlib.Core.Bool.{Bool, true, false}
 use mir.Val.{boolByte}
-use Rattle.survey.specs.Report.{flag}
+use Rattle.machine.specs.Report.{flag}
 
 -- what a cast makes of a flag
 pub byte-flag : (b : Bool) → boolByte b ≡ flag b

@@ -9,16 +9,16 @@ use lib.ListN.{length}
 use borrow.Author.Tests.{ltb-false, not-false}
 use Rattle.table.specs.RefusalLaws.{passed-test}
 use Rattle.table.specs.Passes.{passes}
-use Rattle.survey.specs.declared.state.Survey.{Survey}
-use Rattle.survey.specs.State.{units, links, words, finished}
-use Rattle.survey.specs.Kept.{Kept, kept-exact}
-use Rattle.survey.specs.WellFormed.{wellFormed}
-use Rattle.survey.specs.Report.{reportLength}
-use Rattle.survey.specs.ReportLaws.{length-report}
+use Rattle.machine.specs.State.{State}
+use Rattle.machine.specs.State.{units, links, words, finished}
+use Rattle.machine.specs.Kept.{Kept, kept-exact}
+use Rattle.machine.specs.WellFormed.{wellFormed}
+use Rattle.machine.specs.Report.{reportLength}
+use Rattle.machine.specs.ReportLaws.{length-report}
 use Rattle.calls.specs.ReportWritten.{partsOver, report-fits, parts-report}
-use Rattle.survey.specs.Calls.{reportRefusal, reported}
+use Rattle.machine.specs.Calls.{reportRefusal, reported}
 
-module _ (s : Survey) (out : List ℕ) (accepted : reportRefusal s (length out) ≡ 0) where
+module _ (s : State) (out : List ℕ) (accepted : reportRefusal s (length out) ≡ 0) where
   kept : Kept s
   unfolding reportRefusal
   kept = kept-exact s .0 (not-false (wellFormed s) (passed-test (not (wellFormed s)) 10 _ (omega arith) accepted .0))

@@ -17,14 +17,14 @@ use Rattle.frames.specs.FrameRests.{lineOver-fits, line-next}
 use Rattle.rules.specs.Labels.{single, lone}
 use Rattle.answers.specs.Flags.{flagTable, flag-at}
 use Rattle.answers.specs.Lines.{unitRow, labelRow, linesOf, linesOver, linesOver-fits}
-use Rattle.survey.specs.declared.state.Survey.{Survey}
-use Rattle.survey.specs.State.{units, links}
-use Rattle.survey.specs.Report.{unitSingle, linkLone, headLine, unitLine, linkLine, tailLine, report, reportLength, reportOver}
-use Rattle.survey.specs.ReportLaws.{length-head, length-report, units-long, links-long}
+use Rattle.machine.specs.State.{State}
+use Rattle.machine.specs.State.{units, links}
+use Rattle.machine.specs.Report.{unitSingle, linkLone, headLine, unitLine, linkLine, tailLine, report, reportLength, reportOver}
+use Rattle.machine.specs.ReportLaws.{length-head, length-report, units-long, links-long}
 
 -- ---- by the tests
 
-pub report-fits : (s : Survey) (out : List ℕ) → units s ≤ maxUnits → links s ≤ maxLinks → reportLength (units s) (links s) ≤ length out
+pub report-fits : (s : State) (out : List ℕ) → units s ≤ maxUnits → links s ≤ maxLinks → reportLength (units s) (links s) ≤ length out
     → reportOver s out ≡ report s ++ drop (reportLength (units s) (links s)) out
 unfolding reportOver
 report-fits s out n m h =
@@ -39,13 +39,13 @@ unitLines n m ends label color parent place out = linesOver 23 n (unitRow color 
 abbrev pub linkLines : ℕ → List ℕ → List ℕ → List ℕ
 linkLines m label out = linesOver 15 m (labelRow label (flagTable maxLinks m (lone m label))) out
 
-abbrev pub singleFlags : Survey → List ℕ
+abbrev pub singleFlags : State → List ℕ
 singleFlags s = flagTable maxUnits (units s) (unitSingle s)
 
-abbrev pub loneFlags : Survey → List ℕ
+abbrev pub loneFlags : State → List ℕ
 loneFlags s = flagTable maxLinks (links s) (linkLone s)
 
-module _ (s : Survey) (out : List ℕ) (n : units s ≤ maxUnits) (fits : 23 * units s ≤ length out) where
+module _ (s : State) (out : List ℕ) (n : units s ≤ maxUnits) (fits : 23 * units s ≤ length out) where
   abbrev unitSays : ℕ → List ℕ
   unitSays = unitRow (s .components .color) (s .tree .parent) (s .order .pre) (singleFlags s)
 
@@ -59,7 +59,7 @@ module _ (s : Survey) (out : List ℕ) (n : units s ≤ maxUnits) (fits : 23 * u
       ≡ gathered (units s) (unitLine s) ++ drop (23 * units s) out
   units-laid = linesOver-fits 23 (units s) unitSays out fits ∙ ap (λ (l : List ℕ). l ++ drop (23 * units s) out) units-same
 
-module _ (s : Survey) (out : List ℕ) (m : links s ≤ maxLinks) (fits : 15 * links s ≤ length out) where
+module _ (s : State) (out : List ℕ) (m : links s ≤ maxLinks) (fits : 15 * links s ≤ length out) where
   abbrev linkSays : ℕ → List ℕ
   linkSays = labelRow (s .labels .label) (loneFlags s)
 
@@ -74,16 +74,16 @@ module _ (s : Survey) (out : List ℕ) (m : links s ≤ maxLinks) (fits : 15 * l
 
 -- ---- the parts one after the other
 
-abbrev pub headSays : Survey → List ℕ
+abbrev pub headSays : State → List ℕ
 headSays s = headBody (s .clock .rounds) (s .clock .requests)
 
-abbrev pub tailSays : Survey → List ℕ
+abbrev pub tailSays : State → List ℕ
 tailSays s = tailBody (count (units s) (unitSingle s)) (count (links s) (linkLone s))
 
-abbrev pub unitEnd : Survey → ℕ
+abbrev pub unitEnd : State → ℕ
 unitEnd s = 13 + 23 * units s
 
-abbrev pub linkEnd : Survey → ℕ
+abbrev pub linkEnd : State → ℕ
 linkEnd s = unitEnd s + 15 * links s
 
 -- a slice whose rest from a place on went through a part
@@ -133,7 +133,7 @@ pub parts-down : (n m r q : ℕ) (ends label color parent place out z u l t : Li
 unfolding partsDown
 parts-down n m r q ends label color parent place out z u l t singles lones ez eu el et es eo = rw (et, es, eo, el, eu, ez)
 
-module _ (s : Survey) (out : List ℕ) (n : units s ≤ maxUnits) (m : links s ≤ maxLinks) (fits : reportLength (units s) (links s) ≤ length out) where
+module _ (s : State) (out : List ℕ) (n : units s ≤ maxUnits) (m : links s ≤ maxLinks) (fits : reportLength (units s) (links s) ≤ length out) where
   abbrev unitPart : List ℕ
   unitPart = gathered (units s) (unitLine s)
 
@@ -176,7 +176,7 @@ module _ (s : Survey) (out : List ℕ) (n : units s ≤ maxUnits) (m : links s �
   report-laid = rw (after-head, after-units, after-links) after-tail
 
 -- the parts from a state's numbers and tables are its report
-pub parts-report : (s : Survey) (out : List ℕ) → units s ≤ maxUnits → links s ≤ maxLinks → reportLength (units s) (links s) ≤ length out
+pub parts-report : (s : State) (out : List ℕ) → units s ≤ maxUnits → links s ≤ maxLinks → reportLength (units s) (links s) ≤ length out
     → partsOver (units s) (links s) (s .clock .rounds) (s .clock .requests) (s .table .ends) (s .labels .label) (s .components .color) (s .tree .parent) (s .order .pre) out
     ≡ reportOver s out
 parts-report s out n m h =

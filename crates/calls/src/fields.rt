@@ -1,12 +1,13 @@
 // The fields of a report's lines, as the questions answer them.
 ghost use mathlib.Core.Path.{_≡_};
-ghost use Rattle.survey.specs.Report.{unitColor, unitParent, unitPlace, unitSingle, linkLabel, linkLone};
+ghost use Rattle.machine.specs.Report.{unitColor, unitParent, unitPlace, unitSingle, linkLabel, linkLone};
+ghost use Rattle.survey.specs.View.{of};
 use survey::Reply;
 use survey::Survey;
 
 // The fields of unit `v`'s line.
 pub(crate) fn unit_reply(s: Survey, v: u16) -> Reply
-    ensures { λ r. ⌜ r ≡ Reply.Unit v (unitColor s v) (unitParent s v) (unitPlace s v) (unitSingle s v) ⌝ }
+    ensures { λ r. ⌜ r ≡ Reply.Unit v (unitColor (of s) v) (unitParent (of s) v) (unitPlace (of s) v) (unitSingle (of s) v) ⌝ }
 {
     let i = v as usize;
     Reply::Unit {
@@ -20,7 +21,7 @@ pub(crate) fn unit_reply(s: Survey, v: u16) -> Reply
 
 // The fields of link `j`'s line.
 pub(crate) fn link_reply(s: Survey, j: u16) -> Reply
-    ensures { λ r. ⌜ r ≡ Reply.Link j (linkLabel s j) (linkLone s j) ⌝ }
+    ensures { λ r. ⌜ r ≡ Reply.Link j (linkLabel (of s) j) (linkLone (of s) j) ⌝ }
 {
     Reply::Link {
         position: j,

@@ -7,11 +7,13 @@ ghost use lib.Dec.{eqb, ltb};
 ghost use lib.ListN.{length};
 ghost use Rattle.table.specs.Refusals.{firstOf};
 ghost use Rattle.files.specs.File.{readWords, writtenFile};
-ghost use Rattle.survey.specs.Report.{reportLength};
-ghost use Rattle.survey.specs.Calls.{questionRefusal, unitAnswer, linkAnswer, reportAnswer, reported, readAnswer, writeAnswer};
+ghost use Rattle.machine.specs.Report.{reportLength};
+ghost use Rattle.machine.specs.Calls.{questionRefusal, unitAnswer, linkAnswer, reportAnswer, reported, readAnswer, writeAnswer};
+ghost use Rattle.survey.specs.View.{of, answerOf};
 use files::Reading;
 use files::Writing;
 use survey::Answer;
+use survey::Clock;
 use survey::Reply;
 use survey::Survey;
 
@@ -20,12 +22,9 @@ mod lines;
 
 pub use lines::report_lines;
 
-// The stage of a finished survey.
-const FINISHED: u16 = 11;
-
 // What is known of a unit: 10, 12, 13.
 pub fn unit(survey: Survey, unit: u16) -> Answer
-    ensures { λ r. ⌜ r ≡ unitAnswer unit survey ⌝ }
+    ensures { λ r. ⌜ answerOf r ≡ unitAnswer unit (of survey) ⌝ }
 {
     let refused = question_refusal(survey, unit < survey.table.units);
     if refused != 0 {
@@ -42,7 +41,7 @@ pub fn unit(survey: Survey, unit: u16) -> Answer
 
 // What is known of a link: 10, 12, 13.
 pub fn link(survey: Survey, position: u16) -> Answer
-    ensures { λ r. ⌜ r ≡ linkAnswer position survey ⌝ }
+    ensures { λ r. ⌜ answerOf r ≡ linkAnswer position (of survey) ⌝ }
 {
     let refused = question_refusal(survey, position < survey.table.links);
     if refused != 0 {
@@ -59,12 +58,12 @@ pub fn link(survey: Survey, position: u16) -> Answer
 
 // The number of the first cause, given whether the unit or position exists.
 fn question_refusal(s: Survey, exists: bool) -> u8
-    ensures { λ r. ⌜ r ≡ questionRefusal s exists ⌝ }
+    ensures { λ r. ⌜ r ≡ questionRefusal (of s) exists ⌝ }
 {
     if !s.well_formed() {
         return 10;
     }
-    if s.clock.stage != FINISHED {
+    if s.clock.stage != Clock::FINISHED {
         return 12;
     }
     if exists { 0 } else { 13 }
@@ -72,8 +71,8 @@ fn question_refusal(s: Survey, exists: bool) -> u8
 
 // The report at the front of `out`: 10, 12, 14. Bytes past it stay.
 pub fn report(survey: Survey, out: &mut [u8]) -> Answer
-    ensures reply { λ r. ⌜ r ≡ reportAnswer (length (now (out .entry))) survey ⌝ }
-    ensures lent { λ _. ⌜ now (out .exit) ≡ reported survey (now (out .entry)) ⌝ }
+    ensures reply { λ r. ⌜ answerOf r ≡ reportAnswer (length (now (out .entry))) (of survey) ⌝ }
+    ensures lent { λ _. ⌜ now (out .exit) ≡ reported (of survey) (now (out .entry)) ⌝ }
 {
     let units = survey.table.units;
     let links = survey.table.links;
@@ -116,7 +115,7 @@ pub fn report_refusal(well: bool, stage: u16, units: u16, links: u16, places: us
     if !well {
         return 10;
     }
-    if stage != FINISHED {
+    if stage != Clock::FINISHED {
         return 12;
     }
     if places < 26 + 23 * (units as usize) + 15 * (links as usize) {
@@ -127,7 +126,7 @@ pub fn report_refusal(well: bool, stage: u16, units: u16, links: u16, places: us
 
 // A file's ends into words: 1, 2, 3, 6, 14. Words past the last end stay.
 pub fn read(survey: Survey, file: &[u8], words: &mut [u16]) -> Answer
-    ensures reply { λ r. ⌜ r ≡ readAnswer (now (file .entry)) (length (now (words .entry))) survey ⌝ }
+    ensures reply { λ r. ⌜ answerOf r ≡ readAnswer (now (file .entry)) (length (now (words .entry))) (of survey) ⌝ }
     ensures lent { λ _. ⌜ now (words .exit) ≡ readWords (now (file .entry)) (now (words .entry)) ⌝ }
 {
     let found = files::read(file, words);
@@ -145,7 +144,7 @@ pub fn read(survey: Survey, file: &[u8], words: &mut [u16]) -> Answer
 
 // The file of a unit count and a table: 4 to 9, 14. Bytes past it stay.
 pub fn write(survey: Survey, units: u16, words: &[u16], out: &mut [u8]) -> Answer
-    ensures reply { λ r. ⌜ r ≡ writeAnswer units (now (words .entry)) (length (now (out .entry))) survey ⌝ }
+    ensures reply { λ r. ⌜ answerOf r ≡ writeAnswer units (now (words .entry)) (length (now (out .entry))) (of survey) ⌝ }
     ensures lent { λ _. ⌜ now (out .exit) ≡ writtenFile units (now (words .entry)) (now (out .entry)) ⌝ }
 {
     let done = files::write(units, words, out);

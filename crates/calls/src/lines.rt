@@ -4,7 +4,7 @@ ghost use Prim.Native.Nat.{_≤_};
 ghost use lib.ListN.{length};
 ghost use Rattle.lists.specs.Folds.{count};
 ghost use Rattle.rules.specs.Labels.{single, lone};
-ghost use Rattle.survey.specs.Report.{reportLength};
+ghost use Rattle.machine.specs.Report.{reportLength};
 ghost use Rattle.calls.specs.ReportWritten.{unitLines, linkLines, partsDown, partsOver};
 
 // The lines of all units, and the number of single points.

@@ -1,8 +1,8 @@
 -- By whether the question is refused.
 use mathlib.Core.Path.{refl, sym, _∙_}
 use borrow.Author.Needs.{needs}
-use Rattle.survey.specs.Calls.{linkAnswer, linkRefusal}
-use Rattle.survey.specs.AnswerLaws.{answered-refused, answered-made}
+use Rattle.machine.specs.Calls.{linkAnswer, linkRefusal}
+use Rattle.machine.specs.AnswerLaws.{answered-refused, answered-made}
 use Rattle.calls.proofs.link.Statement.{statement}
 use Rattle.calls.proofs.link.Tie as tie
 

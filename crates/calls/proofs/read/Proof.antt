@@ -3,6 +3,7 @@ use mathlib.Core.Path.{sym, ap, _∙_}
 use lib.ListN.{length}
 use borrow.Author.Needs.{needs}
 use Rattle.calls.specs.AskLaws.{readingAnswer, read-answer}
+use Rattle.survey.specs.View.{of}
 use Rattle.calls.proofs.read.Statement.{statement}
 use Rattle.calls.proofs.read.Tie as tie
 
@@ -23,7 +24,7 @@ returns c =
     let a = c .before .before .before .before .before .before .before .before .before .args in
     let r = c .before .before .before .before .before .read in
     let told = sym (c .before .found .given .1) ∙ r .ensures .0 in
-    (ap (readingAnswer (a .survey)) told ∙ read-answer (a .file .now) (length (a .words .now)) (a .survey), r .ensures .1 .0)
+    (ap (readingAnswer (of (a .survey))) told ∙ read-answer (a .file .now) (length (a .words .now)) (of (a .survey)), r .ensures .1 .0)
 
 same-length-2 : tie.Need-same-length-2
 same-length-2 c = search needs
@@ -33,7 +34,7 @@ returns-2 c =
     let a = c .before .before .before .before .before .before .before .before .before .args in
     let r = c .before .before .before .before .before .read in
     let told = sym (c .before .found2 .given .1) ∙ r .ensures .0 in
-    (ap (readingAnswer (a .survey)) told ∙ read-answer (a .file .now) (length (a .words .now)) (a .survey), r .ensures .1 .0)
+    (ap (readingAnswer (of (a .survey))) told ∙ read-answer (a .file .now) (length (a .words .now)) (of (a .survey)), r .ensures .1 .0)
 
 pub read-spec : {M : Type 1} → statement M
 read-spec =

@@ -1,9 +1,10 @@
 -- By whether the report is refused.
 use mathlib.Core.Path.{_≡_, sym, _∙_}
 use lib.ListN.{length}
-use Rattle.survey.specs.Report.{report}
-use Rattle.survey.specs.Calls.{reportRefusal, reportAnswer, reported}
-use Rattle.survey.specs.AnswerLaws.{answered-refused, answered-made}
+use Rattle.machine.specs.Report.{report}
+use Rattle.machine.specs.Calls.{reportRefusal, reportAnswer, reported}
+use Rattle.machine.specs.AnswerLaws.{answered-refused, answered-made}
+use Rattle.survey.specs.View.{of}
 use Rattle.calls.specs.AskLaws.{report-told, written-refused}
 use Rattle.calls.specs.ReportCalled.{reported-parts}
 use borrow.Author.Needs.{needs}
@@ -14,8 +15,8 @@ well-formed-requires : tie.Need-well-formed-requires
 well-formed-requires c κs = search needs
 
 -- the refusal is the report's
-told : (r : tie.After-report-refusal) → r .report-refusal .result ≡ reportRefusal (r .before .before .before .args .t1) (length (r .before .before .before .args .out .now))
-told r = report-told (r .before .before .before .args .t1) _ _ _ (r .before .well-formed .ensures) (r .report-refusal .ensures)
+told : (r : tie.After-report-refusal) → r .report-refusal .result ≡ reportRefusal (of (r .before .before .before .args .t1)) (length (r .before .before .before .args .out .now))
+told r = report-told (of (r .before .before .before .args .t1)) _ _ _ (r .before .well-formed .ensures) (r .report-refusal .ensures)
 
 report-refusal-requires : tie.Need-report-refusal-requires
 report-refusal-requires c κs = search needs
@@ -25,7 +26,7 @@ unfolding reportAnswer reported
 returns c =
     let a = c .before .before .before .before .args in
     let r = c .before .report-refusal in
-    (answered-refused _ (r .result) (a .t1) _ _ (told (c .before)) (c .if1 .taken), written-refused _ (report (a .t1)) (a .out .now) (λ z. c .if1 .taken (told (c .before) ∙ z)))
+    (answered-refused _ (r .result) (of (a .t1)) _ _ (told (c .before)) (c .if1 .taken), written-refused _ (report (of (a .t1))) (a .out .now) (λ z. c .if1 .taken (told (c .before) ∙ z)))
 
 cast-length : tie.Need-cast-length
 cast-length c = search needs
@@ -56,7 +57,7 @@ unfolding reportAnswer
 returns-2 c =
     let s = c .before .before .before .before .before .before .before .before .before .before .before .before .before .before .before .before .before .before .before .args in
     let none = sym (told (c .before .before .before .before .before .before .before .before .before .before .before .before .before .before .before .before)) ∙ c .before .before .before .before .before .before .before .before .before .before .before .before .before .before .before .if1 .left in
-    (answered-made _ _ _ _ none, c .before .before .report-lines .ensures ∙ reported-parts (s .t1) (s .out .now) none)
+    (answered-made _ _ _ _ none, c .before .before .report-lines .ensures ∙ reported-parts (of (s .t1)) (s .out .now) none)
 
 pub report-spec : {M : Type 1} → statement M
 report-spec =

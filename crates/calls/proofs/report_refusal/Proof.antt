@@ -2,7 +2,7 @@
 use mathlib.Core.Path.{refl}
 use borrow.Author.Tests.{not-true, not-false, eq-eqb, ne-eqb, lt-ltb, le-ltb}
 use borrow.Author.Needs.{needs}
-use Rattle.survey.specs.Report.{reportLength}
+use Rattle.machine.specs.Report.{reportLength}
 use Rattle.calls.proofs.report_refusal.Statement.{statement}
 use Rattle.calls.proofs.report_refusal.Tie as tie
 

@@ -1,8 +1,8 @@
 -- By whether the question is refused.
 use mathlib.Core.Path.{refl, sym, _∙_}
 use borrow.Author.Needs.{needs}
-use Rattle.survey.specs.Calls.{unitAnswer, unitRefusal}
-use Rattle.survey.specs.AnswerLaws.{answered-refused, answered-made}
+use Rattle.machine.specs.Calls.{unitAnswer, unitRefusal}
+use Rattle.machine.specs.AnswerLaws.{answered-refused, answered-made}
 use Rattle.calls.proofs.unit.Statement.{statement}
 use Rattle.calls.proofs.unit.Tie as tie
 
