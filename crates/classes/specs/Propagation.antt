@@ -37,7 +37,7 @@ saidBy parent value v = cond (isRoot parent v) ABSENT (at value v)
 -- ---- joins of links
 
 -- what v hears over a join that may be marked
-abbrev pub heardIf : List ℕ → ℕ → ℕ → ℕ → ℕ → ℕ
+abbrev heardIf : List ℕ → ℕ → ℕ → ℕ → ℕ → ℕ
 heardIf said mark a b v = cond (not (eqb mark 0)) (heard said a b v) (at said v)
 
 -- what v has heard over the joins of the first j links
