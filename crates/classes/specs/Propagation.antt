@@ -1,34 +1,13 @@
--- Stage 9 as the code propagates classes. A root says the absent mark, which lowers no word: so no join asks for roots, and what a root takes in does not
--- matter.
-use mathlib.Core.Path.{_≡_, refl, sym, ap, _∙_}
-use mathlib.Core.Bool.{Bool, true, false, cond, not, _&&_, _||_, true≢false}
-use mathlib.Core.Logic.{_⊎_, inl, inr}
+-- How the code of stage 9 propagates classes: over the joins of links, then between each unit and its head.
+use mathlib.Core.Path.{_≡_}
+use mathlib.Core.Bool.{cond, not, _||_}
 use mathlib.Core.List.{List}
-use Prim.Native.Nat.{ℕ, zero, suc, _+_, _*_, _≤_, _<_, min}
-use native.Mathlib.Nat.{le-refl}
-use native.Mathlib.Numerals.{add-one}
-use native.Mathlib.Decide.{decLt, ℕ-discrete}
-use native.Mathlib.Omega.{arith}
+use Prim.Native.Nat.{ℕ, zero, suc, _<_, min}
 use lib.Dec.{eqb}
-use lib.ListN.{length, getD, set}
-use borrow.Author.Tests.{not-false, eqb-true, eq-eqb, ne-eqb, lt-ltb}
-use Rattle.lists.specs.All.{All, every-exact}
-use Rattle.lists.specs.Bools.{or-false-left, or-false-right}
-use Rattle.lists.specs.Tests.{either, cond-true, cond-false}
-use Rattle.lists.specs.Tables.{over, over-cong, getD-over, length-over}
-use Rattle.lists.specs.Folds.{least, every}
-use Rattle.lists.specs.LeastLaws.{least-start}
-use Rattle.lists.specs.Rounds.{over-self, over-same}
-use Rattle.lists.specs.Scatter.{takesIn, fold-start, fold-keeps, single-over}
+use Rattle.lists.specs.Folds.{least}
+use Rattle.lists.specs.Scatter.{takesIn}
 use Rattle.table.specs.Table.{endA, endB}
 use Rattle.rules.specs.Basics.{ABSENT, at, isRoot, heard}
-use Rattle.rules.specs.Bounds.{nameOk}
-use Rattle.rules.specs.BoundLaws.{Names, name-exact, names-at}
-use Rattle.rules.specs.Fits.{EndsWithin}
-use Rattle.rules.specs.HeardLaws.{hears, hears-over-if}
-use Rattle.rules.specs.ComponentsLaws.{over-said}
-use Rattle.rules.specs.Aux.{heardOver, leastJoined, auxSaid, auxRound}
-use Rattle.classes.specs.Absorbed.{least-alike, least-rest, least-aside}
 
 -- what unit v says: a root takes no part
 abbrev pub saidBy : List ℕ → List ℕ → ℕ → ℕ
@@ -37,62 +16,12 @@ saidBy parent value v = cond (isRoot parent v) ABSENT (at value v)
 -- ---- joins of links
 
 -- what v hears over a join that may be marked
-abbrev heardIf : List ℕ → ℕ → ℕ → ℕ → ℕ → ℕ
+abbrev pub heardIf : List ℕ → ℕ → ℕ → ℕ → ℕ → ℕ
 heardIf said mark a b v = cond (not (eqb mark 0)) (heard said a b v) (at said v)
 
 -- what v has heard over the joins of the first j links
 unfoldable pub overLinks : ℕ → List ℕ → List ℕ → List ℕ → ℕ → ℕ
 overLinks j ends marks said v = least j (λ (i : ℕ). heardIf said (at marks i) (endA ends i) (endB ends i) v) (at said v)
-
-module _ (n : ℕ) (ends marks said : List ℕ) where
-  pub links-none : said ≡ over n (overLinks 0 ends marks said) said
-  unfolding overLinks
-  links-none = sym (over-self 0 n said)
-
-  pub links-more : (j : ℕ) (t new : List ℕ) → t ≡ over n (overLinks j ends marks said) said
-      → new ≡ cond (not (eqb (at marks j) 0)) (hears false n said (endA ends j) (endB ends j) t) t
-      → new ≡ over n (overLinks (j + 1) ends marks said) said
-  unfolding overLinks
-  links-more j t new was put =
-      rw (put, was, add-one j)
-      (hears-over-if (not (eqb (at marks j) 0)) false n said (endA ends j) (endB ends j) (overLinks j ends marks said) said
-      (λ (v : ℕ). fold-start false j (λ (i : ℕ). heardIf said (at marks i) (endA ends i) (endB ends i) v) (at said v)))
-
-  unmarked : (mark a b v : ℕ) → mark ≡ 0 → heardIf said mark a b v ≡ at said v
-  unmarked mark a b v e = rw e
-
-  -- links that are not marked
-  pub links-rest : (k m : ℕ) (t : List ℕ) → k ≤ m → ((i : ℕ) → k ≤ i → i < m → at marks i ≡ 0)
-      → t ≡ over n (overLinks k ends marks said) said → t ≡ over n (overLinks m ends marks said) said
-  unfolding overLinks
-  links-rest k m t l none was =
-      was
-      ∙ over-cong n (overLinks k ends marks said) (overLinks m ends marks said) said
-      (λ (v : ℕ) (h : v < n).
-      least-rest m k (λ (i : ℕ). heardIf said (at marks i) (endA ends i) (endB ends i) v) (at said v) l
-      (λ (i : ℕ) (a : k ≤ i) (b : i < m). unmarked (at marks i) (endA ends i) (endB ends i) v (none i a b)))
-
--- a test of some mark from `from` on, one more
-pub none-more : (from k : ℕ) (marks : List ℕ) (any new : Bool) → (any ≡ false → (i : ℕ) → from ≤ i → i < k → at marks i ≡ 0)
-    → new ≡ (any || not (eqb (at marks k) 0)) → new ≡ false → (i : ℕ) → from ≤ i → i < k + 1 → at marks i ≡ 0
-none-more from k marks any new before put e i a l = go (decLt i k)
-  where
-    failed : (any || not (eqb (at marks k) 0)) ≡ false
-    failed = sym put ∙ e
-
-    last : i ≡ k → at marks i ≡ 0
-    last q = rw q (eqb-true (at marks k) 0 (not-false (eqb (at marks k) 0) (or-false-right any (not (eqb (at marks k) 0)) failed)))
-
-    go : Dec (i < k) → at marks i ≡ 0
-    go (yes h) = before (or-false-left any (not (eqb (at marks k) 0)) failed) i a h
-    go (no h) = last (omega arith)
-
--- a link of two units, as the code lowers their entries
-pub hears-within : (n : ℕ) (said t new : List ℕ) (a b : ℕ) → a < n → b < n
-    → new ≡ set (set t a (min (getD t a 0) (at said b))) b (min (getD (set t a (min (getD t a 0) (at said b))) b 0) (at said a))
-    → new ≡ hears false n said a b t
-unfolding hears takesIn
-hears-within n said t new a b ha hb put = rw (lt-ltb a n ha, lt-ltb b n hb) put
 
 -- ---- joins with parents
 
@@ -105,199 +34,13 @@ pub record Heads (n : ℕ) (parent marks heads : List ℕ) : Type 0 where
   pub are : (u : ℕ) → u < n → at heads u ≡ headOf parent marks u
   pub exist : (u : ℕ) → u < n → at heads u < n
 
-pub heads-exist : (n : ℕ) (parent marks heads : List ℕ) → every (nameOk n) parent ≡ true → ((u : ℕ) → u < n → at heads u ≡ headOf parent marks u)
-    → Heads n parent marks heads
-heads-exist n parent marks heads fit are = record { are = are; exist = λ u h. rw (are u h) (go u h (either (eqb (at marks u) 0 || isRoot parent u))) }
-  where
-    names : All (Names n) parent
-    names = every-exact (nameOk n) (Names n) (name-exact n) parent .0 fit
-
-    named : (u : ℕ) → Names n (at parent u) → isRoot parent u ≡ false → at parent u < n
-    named u (inl h) e = h
-    named u (inr q) e = absurd (true≢false (sym (eq-eqb (at parent u) ABSENT q) ∙ e))
-
-    go : (u : ℕ) → u < n → ((eqb (at marks u) 0 || isRoot parent u) ≡ true) ⊎ ((eqb (at marks u) 0 || isRoot parent u) ≡ false) → headOf parent marks u < n
-    go u h (inl e) = rw e h
-    go u h (inr e) = rw e (named u (names-at n parent u (omega (arith, h)) names) (or-false-right (eqb (at marks u) 0) (isRoot parent u) e))
-
 -- the first k units tell their heads
 unfoldable pub toHeads : ℕ → ℕ → List ℕ → List ℕ → List ℕ → List ℕ
 toHeads zero n heads said t = t
 toHeads (suc k) n heads said t = takesIn min n (toHeads k n heads said t) (at heads k) (at said k)
-
-module _ (n : ℕ) (heads said : List ℕ) where
-  pub to-none : (old : List ℕ) → old ≡ toHeads 0 n heads said old
-  unfolding toHeads
-  to-none old = refl
-
-  pub to-more : (k : ℕ) (old t new : List ℕ) → t ≡ toHeads k n heads said old → at heads k < n
-      → new ≡ set t (at heads k) (min (getD t (at heads k) 0) (at said k)) → new ≡ toHeads (k + 1) n heads said old
-  unfolding toHeads takesIn
-  to-more k old t new was low put = rw (put, add-one k, ← was, lt-ltb (at heads k) n low)
-
-  to-over : (k : ℕ) (before : ℕ → ℕ) → ((v : ℕ) → min (before v) (at said v) ≡ before v)
-      → toHeads k n heads said (over n before said)
-      ≡ over n (λ (v : ℕ). least k (λ (u : ℕ). cond (eqb (at heads u) v) (at said u) (at said v)) (before v)) said
-  unfolding toHeads
-  to-over zero before own = refl
-  to-over (suc k) before own =
-      rw (to-over k before own)
-      (single-over false n (λ (v : ℕ). least k (λ (u : ℕ). cond (eqb (at heads u) v) (at said u) (at said v)) (before v)) (at said) said
-      (at heads k) (at said k)
-      (λ (v : ℕ). fold-keeps false k (λ (u : ℕ). cond (eqb (at heads u) v) (at said u) (at said v)) (before v) (at said v) (own v)))
-
--- ---- roots say nothing that lowers a word
-
--- a link of a and b: x and y are their values, x′ and y′ what they say, and it is known of each end whether it is a root and whether it is v
-module _ (most z x y x′ y′ own : ℕ) (low : z ≤ own) (word : own ≤ most) where
-  link-alike : (unmarked root-a root-b is-a is-b : Bool) → (root-a ≡ false → x′ ≡ x) → (root-b ≡ false → y′ ≡ y)
-      → (root-a ≡ true → x′ ≡ most) → (root-b ≡ true → y′ ≡ most)
-      → (is-a ≡ true → root-a ≡ false) → (is-b ≡ true → root-b ≡ false)
-      → min z (cond (not unmarked) (cond is-a y′ (cond is-b x′ own)) own)
-      ≡ min z (cond (not unmarked && not root-a && not root-b) (cond is-a y (cond is-b x own)) own)
-  link-alike true ra rb ea eb ua ub sa sb na nb = refl
-  link-alike false false false ea eb ua ub sa sb na nb = rw (ua refl, ub refl)
-  link-alike false true rb true eb ua ub sa sb na nb = absurd (true≢false (na refl))
-  link-alike false true rb false true ua ub sa sb na nb = rw (sa refl) (omega arith)
-  link-alike false true rb false false ua ub sa sb na nb = refl
-  link-alike false false true true eb ua ub sa sb na nb = rw (sb refl) (omega arith)
-  link-alike false false true false true ua ub sa sb na nb = absurd (true≢false (nb refl))
-  link-alike false false true false false ua ub sa sb na nb = refl
-
--- a join that is not marked, or of a root, does not count
-no-join : (unmarked root other : Bool) (p q : ℕ) → (unmarked || root) ≡ true → cond (not unmarked && not root && not other) p q ≡ q
-no-join true root other p q e = refl
-no-join false true other p q e = refl
-no-join false false other p q e = absurd (true≢false (sym e))
-
-same-either : (b : Bool) (x : ℕ) → cond b x x ≡ x
-same-either true x = refl
-same-either false x = refl
 
 -- ---- a round
 
 -- what it leaves of unit v: what v took in, as a link's end and as others' head, and what its own head says; roots are absent
 abbrev pub leastOf : List ℕ → List ℕ → List ℕ → List ℕ → ℕ → ℕ
 leastOf parent heads said t v = cond (isRoot parent v) ABSENT (min (at t v) (at said (at heads v)))
-
-module _ (n : ℕ) (parent value : List ℕ) (long : n ≤ length value) where
-  abbrev said : List ℕ
-  said = over n (saidBy parent value) value
-
-  unit-says : (i : ℕ) → i < n → isRoot parent i ≡ false → at said i ≡ at value i
-  unit-says i h e = getD-over n (saidBy parent value) value i 0 h (omega (arith, h, long)) ∙ cond-false (isRoot parent i) ABSENT (at value i) e
-
-  root-says : (i : ℕ) → i < n → isRoot parent i ≡ true → at said i ≡ ABSENT
-  root-says i h e = getD-over n (saidBy parent value) value i 0 h (omega (arith, h, long)) ∙ cond-true (isRoot parent i) ABSENT (at value i) e
-
-  -- of a unit v that is no root
-  module _ (v : ℕ) (here : v < n) (unit : isRoot parent v ≡ false) (word : at value v ≤ ABSENT) where
-    own : at said v ≡ at value v
-    own = unit-says v here unit
-
-    is-unit : (a : ℕ) → eqb a v ≡ true → isRoot parent a ≡ false
-    is-unit a e = rw (eqb-true a v e) unit
-
-    marked-alike : (mark a b z : ℕ) → a < n → b < n → z ≤ at value v → min z (heardIf said mark a b v) ≡ min z (heardOver parent value mark a b v)
-    marked-alike mark a b z ha hb low =
-        rw own
-        (link-alike ABSENT z (at value a) (at value b) (at said a) (at said b) (at value v) low word
-        (eqb mark 0) (isRoot parent a) (isRoot parent b) (eqb a v) (eqb b v)
-        (unit-says a ha) (unit-says b hb) (root-says a ha) (root-says b hb) (is-unit a) (is-unit b))
-
-    module _ (marks heads : List ℕ) (by : Heads n parent marks heads) where
-      -- what another unit tells its head
-      other-alike : (u : ℕ) → u < n → (u ≡ v → ⊥)
-          → cond (eqb (at heads u) v) (at said u) (at said v) ≡ heardOver parent value (at marks u) u (at parent u) v
-      other-alike u l ne = go (either (eqb (at marks u) 0 || isRoot parent u))
-        where
-          marked : eqb (at marks u) 0 ≡ false → isRoot parent u ≡ false → at heads u ≡ at parent u → Dec (at parent u ≡ v)
-              → cond (eqb (at heads u) v) (at said u) (at said v) ≡ heardOver parent value (at marks u) u (at parent u) v
-          marked e ru h (yes q) =
-              let rp : isRoot parent (at parent u) ≡ false = rw q unit in
-              rw (h, eq-eqb (at parent u) v q, e, ru, rp, ne-eqb u v ne) (unit-says u l ru)
-          marked e ru h (no q) =
-              rw (h, ne-eqb (at parent u) v q, e, ru, ne-eqb u v ne) (own ∙ sym (same-either (not (isRoot parent (at parent u))) (at value v)))
-
-          go : ((eqb (at marks u) 0 || isRoot parent u) ≡ true) ⊎ ((eqb (at marks u) 0 || isRoot parent u) ≡ false)
-              → cond (eqb (at heads u) v) (at said u) (at said v) ≡ heardOver parent value (at marks u) u (at parent u) v
-          go (inl e) =
-              let h : at heads u ≡ u = by .are u l ∙ cond-true (eqb (at marks u) 0 || isRoot parent u) u (at parent u) e in
-              rw (h, ne-eqb u v ne)
-              (own
-              ∙ sym (no-join (eqb (at marks u) 0) (isRoot parent u) (isRoot parent (at parent u)) (cond (eqb (at parent u) v) (at value u) (at value v)) (at value v) e))
-          go (inr e) =
-              let h : at heads u ≡ at parent u = by .are u l ∙ cond-false (eqb (at marks u) 0 || isRoot parent u) u (at parent u) e in
-              marked (or-false-left (eqb (at marks u) 0) (isRoot parent u) e) (or-false-right (eqb (at marks u) 0) (isRoot parent u) e) h
-              (ℕ-discrete (at parent u) v)
-
-      -- what v hears from its head
-      own-alike : (z : ℕ) → z ≤ at value v
-          → min (min z (cond (eqb (at heads v) v) (at said v) (at said v))) (at said (at heads v))
-          ≡ min z (heardOver parent value (at marks v) v (at parent v) v)
-      own-alike z low = rw (same-either (eqb (at heads v) v) (at said v), own) (go (either (eqb (at marks v) 0)))
-        where
-          marked : (isRoot parent (at parent v) ≡ true) ⊎ (isRoot parent (at parent v) ≡ false) → at parent v < n
-              → min (min z (at value v)) (at said (at parent v))
-              ≡ min z (cond (not (isRoot parent v) && not (isRoot parent (at parent v))) (cond (eqb v v) (at value (at parent v)) (cond (eqb (at parent v) v) (at value v) (at value v))) (at value v))
-          marked (inl e) h = rw (unit, e, root-says (at parent v) h e) (omega arith)
-          marked (inr e) h = rw (unit, e, unit-says (at parent v) h e, eq-eqb v v refl) (omega arith)
-
-          go : (eqb (at marks v) 0 ≡ true) ⊎ (eqb (at marks v) 0 ≡ false)
-              → min (min z (at value v)) (at said (at heads v)) ≡ min z (heardOver parent value (at marks v) v (at parent v) v)
-          go (inl e) =
-              let h : at heads v ≡ v = by .are v here ∙ rw e refl in
-              rw (h, e, own) (omega arith)
-          go (inr e) =
-              let h : at heads v ≡ at parent v = by .are v here ∙ rw (e, unit) refl in
-              rw (h, e) (marked (either (isRoot parent (at parent v))) (rw h at (by .exist v here)))
-
--- as the loops leave it, of what the units say in any round
-pub heads-round : (n m made : ℕ) (ends parent links marks color value heads said t : List ℕ) → value ≡ auxSaid n made color → n ≤ length value
-    → EndsWithin n m ends → Heads n parent marks heads → ((i : ℕ) → at value i ≤ ABSENT)
-    → said ≡ over n (saidBy parent value) value
-    → t ≡ toHeads n n heads said (over n (overLinks m ends links said) said)
-    → over n (leastOf parent heads said t) value ≡ auxRound n m made ends parent links marks color
-unfolding auxRound leastJoined overLinks
-heads-round n m made ends parent links marks color value heads said t from long within by words is was =
-    over-same 0 n (leastOf parent heads said t) (leastJoined n m ends parent links marks value) value
-    (λ (v : ℕ) (h : v < n) (l : v < length value). go v h (either (isRoot parent v)))
-    ∙ rw from (over-said (eqb made 0) n (leastJoined n m ends parent links marks (auxSaid n made color)) color)
-  where
-    over-link : ℕ → ℕ → ℕ
-    over-link v j = heardIf said (at links j) (endA ends j) (endB ends j) v
-
-    over-head : ℕ → ℕ → ℕ
-    over-head v u = cond (eqb (at heads u) v) (at said u) (at said v)
-
-    read : (v : ℕ) → v < n → at t v ≡ least n (over-head v) (least m (over-link v) (at said v))
-    read v h =
-        rw (was, to-over n heads said n (λ (i : ℕ). least m (over-link i) (at said i)) (λ (i : ℕ). fold-start false m (over-link i) (at said i)))
-        (getD-over n (λ (i : ℕ). least n (over-head i) (least m (over-link i) (at said i))) said v 0 h
-        (omega (arith, h, long, ap length is, length-over n (saidBy parent value) value)))
-
-    unit : (v : ℕ) → v < n → isRoot parent v ≡ false
-        → min (at t v) (at said (at heads v))
-        ≡ least n (λ (u : ℕ). heardOver parent value (at marks u) u (at parent u) v)
-        (least m (λ (j : ℕ). heardOver parent value (at links j) (endA ends j) (endB ends j) v) (at value v))
-    unit v h e =
-        let same : at said v ≡ at value v = rw is (unit-says n parent value long v h e) in
-        let by-link : ℕ → ℕ = λ (j : ℕ). heardOver parent value (at links j) (endA ends j) (endB ends j) v in
-        let by-parent : ℕ → ℕ = λ (u : ℕ). heardOver parent value (at marks u) u (at parent u) v in
-        let linked : least m (over-link v) (at said v) ≡ least m by-link (at value v) =
-        ap (λ (x : ℕ). least m (over-link v) x) same
-        ∙ least-alike m (over-link v) by-link (at value v) (at value v) (le-refl (at value v))
-        (λ (j z : ℕ) (l : j < m) (a : z ≤ at value v).
-        rw is (marked-alike n parent value long v h e (words v) (at links j) (endA ends j) (endB ends j) z
-        (within .1 (2 * j) (omega (arith, l))) (within .1 (2 * j + 1) (omega (arith, l))) a)) in
-        let all : min (least n (over-head v) (least m by-link (at value v))) (at said (at heads v)) ≡ least n by-parent (least m by-link (at value v)) =
-        least-aside n v (at said (at heads v)) (over-head v) by-parent (least m by-link (at value v)) (at value v)
-        (least-start m by-link (at value v)) h
-        (λ (z : ℕ) (a : z ≤ at value v). rw is (own-alike n parent value long v h e (words v) marks heads by z a))
-        (λ (u z : ℕ) (l : u < n) (ne : u ≡ v → ⊥) (a : z ≤ at value v).
-        ap (λ (x : ℕ). min z x) (rw is (other-alike n parent value long v h e (words v) marks heads by u l ne))) in
-        rw (read v h, linked) all
-
-    go : (v : ℕ) → v < n → (isRoot parent v ≡ true) ⊎ (isRoot parent v ≡ false) → leastOf parent heads said t v ≡ leastJoined n m ends parent links marks value v
-    go v h (inl e) = rw e
-    go v h (inr e) = rw e (unit v h e)
