@@ -6,7 +6,7 @@ use lib.ListN.{length}
 use mir.Syntax.{w16}
 use mir.Val.{Fits}
 use Rattle.rules.specs.Basics.{at}
-use Rattle.classes.specs.Propagation.{heads-round}
+use Rattle.classes.specs.RoundLaws.{heads-round}
 use borrow.Author.Needs.{needs}
 use Rattle.classes.proofs.round.Statement.{statement}
 use Rattle.classes.proofs.round.Tie as tie

@@ -11,7 +11,8 @@ use Rattle.rules.specs.Bounds.{nameOk}
 use Rattle.rules.specs.Fits.{linksFit, fit-few, fit-within}
 use Rattle.machine.specs.InStage.{Goes, goes}
 use Rattle.machine.specs.StageRun.{Turning, turns-begin, turns-on, turns-over}
-use Rattle.classes.specs.Propagation.{Heads, heads-exist}
+use Rattle.classes.specs.Propagation.{Heads}
+use Rattle.classes.specs.HeadLaws.{heads-exist}
 use Rattle.classes.specs.Rounds.{fits, on, one}
 use borrow.Author.Needs.{needs}
 use Rattle.classes.proofs.run.Statement.{statement}

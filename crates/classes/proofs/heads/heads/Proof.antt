@@ -1,10 +1,10 @@
 -- Unit by unit.
-use mathlib.Core.Path.{_≡_, refl, _∙_}
+use mathlib.Core.Path.{_≡_, refl}
 use Prim.Native.Nat.{_≤_, _-_}
 use native.Mathlib.Omega.{arith}
 use lib.ListN.{length}
 use Rattle.lists.specs.Tables.{over, getD-over}
-use Rattle.lists.specs.Rounds.{over-more, over-all}
+use Rattle.lists.specs.Rounds.{over-more}
 use Rattle.classes.specs.Propagation.{headOf}
 use borrow.Author.Needs.{needs}
 use Rattle.classes.proofs.heads.heads.Statement.{statement}

@@ -4,7 +4,8 @@ use Prim.Native.Nat.{_≤_, _<_, _-_}
 use native.Mathlib.Nat.{le-antisymm}
 use native.Mathlib.Omega.{arith}
 use lib.ListN.{getD}
-use Rattle.classes.specs.Propagation.{toHeads, to-none, to-more}
+use Rattle.classes.specs.Propagation.{toHeads}
+use Rattle.classes.specs.HeadLaws.{to-none, to-more}
 use borrow.Author.Needs.{needs}
 use Rattle.classes.proofs.heads.propagate.Statement.{statement}
 use Rattle.classes.proofs.heads.propagate.Tie as tie

@@ -1,11 +1,10 @@
 -- Mark by mark.
 use mathlib.Core.Path.{_≡_}
-use mathlib.Core.Bool.{false, not, _||_}
+use mathlib.Core.Bool.{false}
 use Prim.Native.Nat.{ℕ, _≤_, _<_, _-_}
 use native.Mathlib.Omega.{arith}
-use lib.Dec.{eqb}
 use lib.ListN.{getD}
-use Rattle.classes.specs.Propagation.{none-more}
+use Rattle.classes.specs.LinkLaws.{none-more}
 use borrow.Author.Needs.{needs}
 use Rattle.classes.proofs.links.any_marked.Statement.{statement}
 use Rattle.classes.proofs.links.any_marked.Tie as tie

@@ -1,5 +1,5 @@
 -- Both entries, one after the other.
-use Rattle.classes.specs.Propagation.{hears-within}
+use Rattle.classes.specs.LinkLaws.{hears-within}
 use borrow.Author.Needs.{needs}
 use Rattle.classes.proofs.links.hear.Statement.{statement}
 use Rattle.classes.proofs.links.hear.Tie as tie

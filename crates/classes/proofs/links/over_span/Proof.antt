@@ -6,7 +6,8 @@ use native.Mathlib.Omega.{arith}
 use borrow.Author.Tests.{ne-eqb}
 use Rattle.lists.specs.Tables.{over}
 use Rattle.rules.specs.Basics.{at}
-use Rattle.classes.specs.Propagation.{overLinks, links-more}
+use Rattle.classes.specs.Propagation.{overLinks}
+use Rattle.classes.specs.LinkLaws.{links-more}
 use borrow.Author.Needs.{needs}
 use Rattle.classes.proofs.links.over_span.Statement.{statement}
 use Rattle.classes.proofs.links.over_span.Tie as tie

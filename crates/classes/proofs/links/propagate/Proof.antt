@@ -5,7 +5,8 @@ use native.Mathlib.Nat.{le-antisymm}
 use native.Mathlib.Omega.{arith}
 use borrow.Author.Tests.{not-true}
 use Rattle.lists.specs.Tables.{over}
-use Rattle.classes.specs.Propagation.{overLinks, links-none, links-rest}
+use Rattle.classes.specs.Propagation.{overLinks}
+use Rattle.classes.specs.LinkLaws.{links-none, links-rest}
 use borrow.Author.Needs.{needs}
 use Rattle.classes.proofs.links.propagate.Statement.{statement}
 use Rattle.classes.proofs.links.propagate.Tie as tie
