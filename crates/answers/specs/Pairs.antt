@@ -1,11 +1,11 @@
 -- The two characters of a byte as one word, a table of them for all bytes, and a line laid down by stores of pairs, one after the other.
-use mathlib.Core.Path.{_≡_, refl, sym, _∙_}
+use mathlib.Core.Path.{_≡_, refl, _∙_}
 use mathlib.Core.List.{List, [], _∷_, _++_, append-assoc}
 use Prim.Native.Nat.{ℕ, _+_, _*_, _-_, _/_, _%_, _≤_, _<_}
 use native.Mathlib.Decide.{decLt}
 use native.Mathlib.Numerals.{add-one}
 use native.Mathlib.Omega.{arith}
-use lib.ListN.{length, getD, set, drop, length-set, length-append, replicate, length-replicate}
+use lib.ListN.{length, getD, set, drop, length-append, replicate, length-replicate}
 use borrow.Author.Tests.{lt-ltb, le-ltb}
 use Rattle.lists.specs.Tables.{over, length-over, getD-over, set-over}
 use Rattle.lists.specs.Puts.{put-two}

@@ -1,6 +1,6 @@
 -- What the program prints for its input: the report of the finished survey, or only the 1E line of the refusal. Reading comes before loading.
 use mathlib.Core.Bool.{Bool, cond}
-use mathlib.Core.List.{List, [], _∷_, _++_}
+use mathlib.Core.List.{List, _++_}
 use Prim.Native.Nat.{ℕ}
 use lib.Dec.{eqb, ltb}
 use lib.ListN.{length, drop}

@@ -1,10 +1,10 @@
 -- The sum and the marks so far, with those of the characters from `i` on, are the sum and the marks of all.
-use mathlib.Core.Path.{_≡_, refl, sym, ap, _∙_}
+use mathlib.Core.Path.{_≡_, refl, _∙_}
 use mathlib.Core.Bool.{_&&_}
 use Prim.Native.Nat.{_+_, _≤_, _<_, _-_, _%_}
 use native.Mathlib.Omega.{arith}
 use lib.Dec.{ltb}
-use lib.ListN.{length, drop, getD}
+use lib.ListN.{length, drop}
 use borrow.Author.Tests.{lt-ltb, le-ltb}
 use Rattle.frames.specs.Frame.{byteAt, sumOf, bytesOf, allDigits}
 use Rattle.frames.specs.FrameRests.{digitSum-end}

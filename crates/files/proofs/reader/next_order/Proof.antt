@@ -1,5 +1,5 @@
 -- By how far the order has come, then by the kind.
-use borrow.Author.Tests.{eq-eqb, ne-eqb}
+use borrow.Author.Tests.{ne-eqb}
 use Rattle.frames.specs.Kinds.{UNITS, LINK, END}
 use Rattle.files.specs.Walk.{START, LINKS}
 use Rattle.files.proofs.reader.next_order.Statement.{statement}
