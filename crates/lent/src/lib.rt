@@ -2,7 +2,6 @@
 // the call was not refused; on a refusal nothing lent is altered.
 mod questions;
 
-use state::Clock;
 use words::STATE_WORDS;
 ghost use mathlib.Core.Path.{_≡_};
 ghost use lib.ListN.{length};
@@ -28,12 +27,7 @@ pub fn status(state: &[u16; STATE_WORDS], reply: &mut [u16; 4]) -> u32
     if !words::kept(state) {
         return 10;
     }
-    let table = words::table_at(state);
-    let c = words::clock_at(state);
-    reply[0] = c.stage;
-    reply[1] = clock::countdown(table.units, c.stage, c.made);
-    reply[2] = c.rounds;
-    reply[3] = c.requests;
+    *reply = questions::status_values(state);
     0
 }
 
@@ -47,16 +41,7 @@ pub fn unit(state: &[u16; STATE_WORDS], unit: u16, reply: &mut [u16; 5]) -> u32
     if refused != 0 {
         return refused;
     }
-    let i = unit as usize;
-    let components = words::components_at(state);
-    let tree = words::tree_at(state);
-    let order = words::order_at(state);
-    let labels = words::labels_at(state);
-    reply[0] = unit;
-    reply[1] = slices::word(&components.color, i);
-    reply[2] = slices::word(&tree.parent, i);
-    reply[3] = slices::word(&order.pre, i);
-    reply[4] = answers::single(table.links, &table.ends, &labels.label, unit) as u16;
+    *reply = questions::unit_values(state, unit);
     0
 }
 
@@ -70,10 +55,7 @@ pub fn link(state: &[u16; STATE_WORDS], position: u16, reply: &mut [u16; 3]) -> 
     if refused != 0 {
         return refused;
     }
-    let labels = words::labels_at(state);
-    reply[0] = position;
-    reply[1] = slices::word(&labels.label, position as usize);
-    reply[2] = answers::lone(table.links, &labels.label, position) as u16;
+    *reply = questions::link_values(state, position);
     0
 }
 

@@ -68,14 +68,6 @@ refusal-long k places l = rw (length-refusal k, le-ltb places 7 l) refl
 -- ---- load, run and report
 
 module _ (input : Input) where
-  pub load-number : (s : State) → numberOf (loadAnswer input s .reply) ≡ loadRefusal input
-  unfolding loadAnswer
-  load-number s = go (either (eqb (loadRefusal input) 0))
-    where
-      go : (eqb (loadRefusal input) 0 ≡ true) ⊎ (eqb (loadRefusal input) 0 ≡ false) → numberOf (loadAnswer input s .reply) ≡ loadRefusal input
-      go (inl q) = rw q (sym (eqb-true (loadRefusal input) 0 q))
-      go (inr q) = rw q refl
-
   -- a number of 4 to 9, or 0, is a byte
   pub number-byte : loadRefusal input < 256
   unfolding tableRefusal

@@ -1,21 +1,25 @@
+-- The number, and the state by it.
+use mathlib.Core.Path.{_≡_, refl, sym, _∙_}
+use mathlib.Core.Bool.{Bool, true, false, cond}
+use lib.Dec.{eqb}
+use Rattle.machine.specs.Load.{loaded, loadRefusal}
+use Rattle.machine.specs.Calls.{loadAnswer}
+use Rattle.lent.specs.FaceLaws.{load-number, load-state}
+use Rattle.words.specs.Layout.{stateOf}
 use borrow.Author.Needs.{needs}
 use Rattle.lent.proofs.load.Statement.{statement}
 use Rattle.lent.proofs.load.Tie as tie
-use Rattle.lent.proofs.load.Reads as reads
-use Rattle.lent.proofs.load.Lts as lts
-use Rattle.words.proofs.load.Reads as load-reads
 
--- src/lib.rt:20:5
 load-requires : tie.Need-load-requires
 load-requires c κs = search needs
 
--- src/lib.rt:20:5
 cast-result : tie.Need-cast-result
 cast-result c = search needs
 
--- src/lib.rt:16:1
 returns : tie.Need-returns
-returns c = ?
+returns c =
+    let a = c .before .before .before .args in
+    (c .load .ensures .0 ∙ sym (load-number _ (stateOf (a .state .now))), c .load .ensures .1 ∙ sym (load-state _ (stateOf (a .state .now))))
 
 pub load-spec : {M : Type 1} → statement M
 load-spec = tie.close (tie.spec load-requires cast-result returns)

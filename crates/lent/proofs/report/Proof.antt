@@ -1,69 +1,71 @@
+-- By whether the report is refused.
+use mathlib.Core.Path.{_≡_, refl, sym, _∙_}
+use lib.ListN.{length}
+use borrow.Author.Tests.{ne-eqb}
+use Rattle.machine.specs.Report.{report}
+use Rattle.machine.specs.Calls.{reportRefusal, reportAnswer, reported}
+use Rattle.calls.specs.AskLaws.{report-told, written-refused}
+use Rattle.calls.specs.ReportCalled.{reported-parts}
+use Rattle.words.specs.Layout.{stateOf}
 use borrow.Author.Needs.{needs}
 use Rattle.lent.proofs.report.Statement.{statement}
 use Rattle.lent.proofs.report.Tie as tie
-use Rattle.lent.proofs.report.Reads as reads
-use Rattle.lent.proofs.report.Lts as lts
-use Rattle.calls.proofs.report_lines.Reads as report-lines-reads
-use Rattle.calls.proofs.report_refusal.Reads as report-refusal-reads
-use Rattle.words.proofs.kept.Reads as kept-reads
-use Rattle.words.proofs.clock_at.Reads as clock-at-reads
-use Rattle.words.proofs.components_at.Reads as components-at-reads
-use Rattle.words.proofs.labels_at.Reads as labels-at-reads
-use Rattle.words.proofs.order_at.Reads as order-at-reads
-use Rattle.words.proofs.table_at.Reads as table-at-reads
-use Rattle.words.proofs.tree_at.Reads as tree-at-reads
 
--- src/lib.rt:85:17
+-- the refusal is the report's
+told : (r : tie.After-report-refusal)
+    → r .report-refusal .result ≡ reportRefusal (stateOf (r .before .before .before .before .before .args .state .now)) (length (r .before .before .before .before .before .args .out .now))
+told r =
+    report-told (stateOf (r .before .before .before .before .before .args .state .now)) _ _ _ (r .before .kept .ensures)
+    (rw (r .before .before .clock-at .ensures, r .before .before .before .table-at .ensures) at (r .report-refusal .ensures))
+
 table-at-requires : tie.Need-table-at-requires
 table-at-requires c κs = search needs
 
--- src/lib.rt:86:9
 clock-at-requires : tie.Need-clock-at-requires
 clock-at-requires c κs = search needs
 
--- src/lib.rt:88:9
 kept-requires : tie.Need-kept-requires
 kept-requires c κs = search needs
 
--- src/lib.rt:87:9
 report-refusal-requires : tie.Need-report-refusal-requires
 report-refusal-requires c κs = search needs
 
--- src/lib.rt:95:16
 cast-result : tie.Need-cast-result
 cast-result c = search needs
 
--- src/lib.rt:95:9
 returns : tie.Need-returns
-returns c = ?
+unfolding reportAnswer reported
+returns c = 
+    let r = c .before .report-refusal in
+    let a = c .before .before .before .before .before .before .args in
+    (rw (sym (told (c .before)), ne-eqb (r .result) 0 (c .if1 .taken)) refl, written-refused _ (report (stateOf (a .state .now))) (a .out .now) (λ z. c .if1 .taken (told (c .before) ∙ z)))
 
--- src/lib.rt:97:18
 labels-at-requires : tie.Need-labels-at-requires
 labels-at-requires c κs = search needs
 
--- src/lib.rt:98:22
 components-at-requires : tie.Need-components-at-requires
 components-at-requires c κs = search needs
 
--- src/lib.rt:99:16
 tree-at-requires : tie.Need-tree-at-requires
 tree-at-requires c κs = search needs
 
--- src/lib.rt:100:17
 order-at-requires : tie.Need-order-at-requires
 order-at-requires c κs = search needs
 
--- src/lib.rt:101:5
 report-lines-requires : tie.Need-report-lines-requires
 report-lines-requires c κs = search needs
 
--- src/lib.rt:81:1
 same-length : tie.Need-same-length
 same-length c = search needs
 
--- src/lib.rt:81:1
 returns-2 : tie.Need-returns-2
-returns-2 c = ?
+unfolding reportAnswer
+returns-2 c = 
+    let o = c .before .before .before .before .before .before .before .before .before .before .before .before .before .before .before .before .before .before .before in
+    let r = o .before .before .before .before .before in
+    let a = r .before .before .before .before .before .args in
+    let none = sym (told r) ∙ o .before .before .before .before .if1 .left in
+    (rw none refl, rw (o .order-at .ensures, o .before .tree-at .ensures, o .before .before .components-at .ensures, o .before .before .before .labels-at .ensures, r .before .before .clock-at .ensures, r .before .before .before .table-at .ensures) at (c .before .before .report-lines .ensures) ∙ reported-parts (stateOf (a .state .now)) (a .out .now) none)
 
 pub report-spec : {M : Type 1} → statement M
 report-spec =

@@ -1,64 +1,25 @@
+-- By whether the state is well formed.
+use mathlib.Core.Path.{_≡_, refl, sym, _∙_}
+use borrow.Author.Tests.{not-true, not-false}
+use Rattle.machine.specs.Calls.{statusAnswer, statusRefusal}
 use borrow.Author.Needs.{needs}
 use Rattle.lent.proofs.status.Statement.{statement}
 use Rattle.lent.proofs.status.Tie as tie
-use Rattle.lent.proofs.status.Reads as reads
-use Rattle.lent.proofs.status.Lts as lts
-use Rattle.clock.proofs.countdown.Reads as countdown-reads
-use Rattle.words.proofs.kept.Reads as kept-reads
-use Rattle.words.proofs.clock_at.Reads as clock-at-reads
-use Rattle.words.proofs.table_at.Reads as table-at-reads
 
--- src/lib.rt:28:9
 kept-requires : tie.Need-kept-requires
 kept-requires c κs = search needs
 
--- src/lib.rt:29:9
 returns : tie.Need-returns
-returns c = ?
+unfolding statusAnswer statusRefusal
+returns c = rw (sym (c .before .kept .ensures) ∙ not-true _ (c .if1 .taken)) (refl, refl)
 
--- src/lib.rt:31:9
-table-at-requires : tie.Need-table-at-requires
-table-at-requires c κs = search needs
+status-values-requires : tie.Need-status-values-requires
+status-values-requires c κs = sym (c .before .kept .ensures) ∙ not-false _ (c .if1 .left)
 
--- src/lib.rt:32:9
-clock-at-requires : tie.Need-clock-at-requires
-clock-at-requires c κs = search needs
-
--- src/lib.rt:33:5
-element-write-reply : tie.Need-element-write-reply
-element-write-reply c = search needs
-
--- src/lib.rt:34:16
-countdown-requires : tie.Need-countdown-requires
-countdown-requires c κs = search needs
-
--- src/lib.rt:34:5
-element-write-reply-2 : tie.Need-element-write-reply-2
-element-write-reply-2 c = search needs
-
--- src/lib.rt:35:5
-element-write-reply-3 : tie.Need-element-write-reply-3
-element-write-reply-3 c = search needs
-
--- src/lib.rt:36:5
-element-write-reply-4 : tie.Need-element-write-reply-4
-element-write-reply-4 c = search needs
-
--- src/lib.rt:24:1
 returns-2 : tie.Need-returns-2
-returns-2 c = ?
+unfolding statusAnswer statusRefusal
+returns-2 c = 
+    rw (sym (c .before .before .kept .ensures) ∙ not-false _ (c .before .if1 .left)) (refl, c .status-values .ensures)
 
 pub status-spec : {M : Type 1} → statement M
-status-spec =
-    tie.close
-    (tie.spec
-    kept-requires
-    returns
-    table-at-requires
-    clock-at-requires
-    element-write-reply
-    countdown-requires
-    element-write-reply-2
-    element-write-reply-3
-    element-write-reply-4
-    returns-2)
+status-spec = tie.close (tie.spec kept-requires returns status-values-requires returns-2)

@@ -1,34 +1,34 @@
+-- By the tests in order.
+use mathlib.Core.Path.{_≡_, refl, sym, _∙_}
+use borrow.Author.Tests.{not-true, not-false}
+use Rattle.calls.specs.AskLaws.{question-malformed, question-early, question-none, question-missing}
 use borrow.Author.Needs.{needs}
 use Rattle.lent.proofs.questions.refusal.Statement.{statement}
 use Rattle.lent.proofs.questions.refusal.Tie as tie
-use Rattle.lent.proofs.questions.refusal.Reads as reads
-use Rattle.lent.proofs.questions.refusal.Lts as lts
-use Rattle.words.proofs.kept.Reads as kept-reads
-use Rattle.words.proofs.clock_at.Reads as clock-at-reads
 
--- src/questions.rt:12:9
 kept-requires : tie.Need-kept-requires
 kept-requires c κs = search needs
 
--- src/questions.rt:13:9
 returns : tie.Need-returns
-returns c = ?
+returns c = question-malformed _ _ (sym (c .before .kept .ensures) ∙ not-true _ (c .if1 .taken))
 
--- src/questions.rt:15:8
 clock-at-requires : tie.Need-clock-at-requires
 clock-at-requires c κs = search needs
 
--- src/questions.rt:16:9
 returns-2 : tie.Need-returns-2
-returns-2 c = ?
+returns-2 c =
+    let k = c .before .before in
+    question-early _ _ (sym (k .before .before .kept .ensures) ∙ not-false _ (k .before .if1 .left)) (rw (k .clock-at .ensures) at (c .if2 .taken))
 
--- src/questions.rt:9:1
 returns-3 : tie.Need-returns-3
-returns-3 c = ?
+returns-3 c =
+    let k = c .before .before .before in
+    question-none _ _ (sym (k .before .before .kept .ensures) ∙ not-false _ (k .before .if1 .left)) (rw (k .clock-at .ensures) at (c .before .if2 .left)) (c .if3 .taken)
 
--- src/questions.rt:9:1
 returns-4 : tie.Need-returns-4
-returns-4 c = ?
+returns-4 c =
+    let k = c .before .before .before in
+    question-missing _ _ (sym (k .before .before .kept .ensures) ∙ not-false _ (k .before .if1 .left)) (rw (k .clock-at .ensures) at (c .before .if2 .left)) (c .if3 .left)
 
 pub refusal-spec : {M : Type 1} → statement M
 refusal-spec =
