@@ -175,10 +175,15 @@ fn ended(s: Survey) -> Survey {
     ran.survey
 }
 
-// The library's survey and the second one. Where they differ the table is printed.
+// The library's survey and the second one.
+fn both(units: u16, links: u16, words: &[u16], pairs: &[u16; 1024], counts: &mut [u64; 7]) {
+    asked(ended(begun(units, words)), units, links, pairs, counts);
+}
+
+// Where they differ the table is printed.
 fn surveyed(units: u16, links: u16, words: &[u16], pairs: &[u16; 1024], counts: &mut [u64; 7]) {
     let before = counts[DIFFERENCES];
-    asked(ended(begun(units, words)), units, links, pairs, counts);
+    both(units, links, words, pairs, counts);
     counted(units, links, counts);
     if counts[DIFFERENCES] != before {
         shown(units, words);
