@@ -5,6 +5,7 @@ use mathlib.Core.List.{List, [], _∷_}
 use Prim.Native.Nat.{ℕ, _+_, _*_}
 use lib.Seq.{sets}
 use Rattle.machine.specs.State.{State}
+use Rattle.machine.specs.Load.{Input}
 use Rattle.state.specs.declared.reply.Reply.{Reply}
 use Rattle.claim.specs.Play.{Call, answerTo, play, used}
 use Rattle.player.specs.Words.{callOf, outAfter, encoded, playWords, callsIn}
@@ -34,6 +35,6 @@ words-replies (k ∷ a ∷ b ∷ ws) i s replies out =
     words-replies ws (i + 1) (answerTo (callOf k a b out) s .state) (sets replies (8 * i) (encoded (answerTo (callOf k a b out) s .reply))) (outAfter k a b out s)
 
 -- the claim, of calls given as words
-pub words-claim : (n : ℕ) (t : List ℕ) (s : State) → Loaded n t s → (ws replies out : List ℕ)
-    → Claim n t s (callsIn ws s out) (playWords ws 0 s replies out .last) (used (callsIn ws s out) (play (callsIn ws s out) s .replies))
-words-claim n t s l ws replies out = rw (words-last ws 0 s replies out) (claim n t s l (callsIn ws s out))
+pub words-claim : (input : Input) (s : State) → Loaded input s → (ws replies out : List ℕ)
+    → Claim input s (callsIn ws s out) (playWords ws 0 s replies out .last) (used (callsIn ws s out) (play (callsIn ws s out) s .replies))
+words-claim input s l ws replies out = rw (words-last ws 0 s replies out) (claim input s l (callsIn ws s out))

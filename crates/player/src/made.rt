@@ -3,7 +3,8 @@ ghost use mathlib.Core.Path.{_≡_};
 ghost use mathlib.Core.List.{_++_};
 ghost use Prim.Native.Nat.{min};
 ghost use lib.ListN.{length, take, drop};
-ghost use Rattle.survey.specs.Calls.{reportAnswer, reported};
+ghost use Rattle.machine.specs.Calls.{reportAnswer, reported};
+ghost use Rattle.survey.specs.View.{of, answerOf};
 ghost use Rattle.claim.specs.Play.{answerTo};
 ghost use Rattle.player.specs.Words.{partFrom, partTo, part, callOf, outAfter};
 use survey::Answer;
@@ -11,8 +12,8 @@ use survey::Survey;
 
 // The call of a kind with the numbers `a` and `b`; only a report writes to `out`.
 pub(crate) fn call(s: Survey, kind: u16, a: u16, b: u16, out: &mut [u8]) -> Answer
-    ensures answer { λ r. ⌜ r ≡ answerTo (callOf kind a b (now (out .entry))) s ⌝ }
-    ensures bytes { λ _. ⌜ now (out .exit) ≡ outAfter kind a b (now (out .entry)) s ⌝ }
+    ensures answer { λ r. ⌜ answerOf r ≡ answerTo (callOf kind a b (now (out .entry))) (of s) ⌝ }
+    ensures bytes { λ _. ⌜ now (out .exit) ≡ outAfter kind a b (now (out .entry)) (of s) ⌝ }
 {
     match kind {
         1 => s.round(),
@@ -26,8 +27,8 @@ pub(crate) fn call(s: Survey, kind: u16, a: u16, b: u16, out: &mut [u8]) -> Answ
 
 // A report into so many places from a start on, as far as there are any.
 fn report_into(s: Survey, start: u16, places: u16, out: &mut [u8]) -> Answer
-    ensures answer { λ r. ⌜ r ≡ reportAnswer (length (part start places (now (out .entry)))) s ⌝ }
-    ensures bytes { λ _. ⌜ now (out .exit) ≡ take (partFrom start (now (out .entry))) (now (out .entry)) ++ (reported s (part start places (now (out .entry))) ++ drop (partTo start places (now (out .entry))) (now (out .entry))) ⌝ }
+    ensures answer { λ r. ⌜ answerOf r ≡ reportAnswer (length (part start places (now (out .entry)))) (of s) ⌝ }
+    ensures bytes { λ _. ⌜ now (out .exit) ≡ take (partFrom start (now (out .entry))) (now (out .entry)) ++ (reported (of s) (part start places (now (out .entry))) ++ drop (partTo start places (now (out .entry))) (now (out .entry))) ⌝ }
 {
     let from = least(start as usize, out.len());
     let to = least(from + (places as usize), out.len());

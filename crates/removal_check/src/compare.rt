@@ -54,10 +54,14 @@ fn words_of(pairs: &[u16], count: u16, words: &mut [u16]) {
     }
 }
 
-// Unit `v`, which the second survey calls a single point or not.
-fn unit_asked(s: Survey, v: u16, second: bool, counts: &mut [u64; 7]) {
+// What the library answers of unit `v`. The state ends here: a function that holds it is long to prove.
+fn unit_reply(s: Survey, v: u16) -> Reply {
     let answer = calls::unit(s, v);
-    let reply = answer.reply;
+    answer.reply
+}
+
+// A unit, which the second survey calls a single point or not.
+fn unit_seen(reply: Reply, second: bool, counts: &mut [u64; 7]) {
     match reply {
         Reply::Unit {
             unit,
@@ -70,10 +74,13 @@ fn unit_asked(s: Survey, v: u16, second: bool, counts: &mut [u64; 7]) {
     }
 }
 
-// Link `j`, which the second survey calls lone or not and gives a label.
-fn link_asked(s: Survey, j: u16, second: bool, second_label: u16, counts: &mut [u64; 7]) {
+fn link_reply(s: Survey, j: u16) -> Reply {
     let answer = calls::link(s, j);
-    let reply = answer.reply;
+    answer.reply
+}
+
+// Link `j`, which the second survey calls lone or not and gives a label.
+fn link_seen(reply: Reply, j: u16, second: bool, second_label: u16, counts: &mut [u64; 7]) {
     match reply {
         Reply::Link {
             position,
@@ -98,7 +105,7 @@ fn units_asked(
     let mut v: u16 = 0;
     while v < units {
         let single = removal::unit(pairs, joins, v, labels);
-        unit_asked(s, v, single, counts);
+        unit_seen(unit_reply(s, v), single, counts);
         v += 1;
     }
 }
@@ -114,7 +121,13 @@ fn links_asked(
     let mut j: u16 = 0;
     while j < links {
         let lone = removal::link(pairs, joins, j);
-        link_asked(s, j, lone, slices::word(labels, j as usize), counts);
+        link_seen(
+            link_reply(s, j),
+            j,
+            lone,
+            slices::word(labels, j as usize),
+            counts,
+        );
         j += 1;
     }
 }
@@ -126,6 +139,9 @@ fn asked(s: Survey, units: u16, links: u16, pairs: &[u16; 1024], counts: &mut [u
     groups::alone(&mut labels);
     units_asked(s, units, pairs, joins, &mut labels, counts);
     links_asked(s, links, pairs, joins, &labels, counts);
+}
+
+fn counted(units: u16, links: u16, counts: &mut [u64; 7]) {
     add(counts, TABLES, 1);
     add(counts, UNITS, units);
     add(counts, LINKS, links);
@@ -148,13 +164,27 @@ fn said(word: u16) {
     io::print_decimal(STDOUT_FILENO, word as u64);
 }
 
-// The library's survey, made to its end, and the second survey. Where they differ the table is printed.
-fn surveyed(units: u16, links: u16, words: &[u16], pairs: &[u16; 1024], counts: &mut [u64; 7]) {
+// The library's survey of a table, begun, and made to its end.
+fn begun(units: u16, words: &[u16]) -> Survey {
     let loaded = Survey::new().load(units, words);
-    let begun = loaded.survey;
-    let ran = begun.run(65535);
+    loaded.survey
+}
+
+fn ended(s: Survey) -> Survey {
+    let ran = s.run(65535);
+    ran.survey
+}
+
+// The library's survey and the second one.
+fn both(units: u16, links: u16, words: &[u16], pairs: &[u16; 1024], counts: &mut [u64; 7]) {
+    asked(ended(begun(units, words)), units, links, pairs, counts);
+}
+
+// Where they differ the table is printed.
+fn surveyed(units: u16, links: u16, words: &[u16], pairs: &[u16; 1024], counts: &mut [u64; 7]) {
     let before = counts[DIFFERENCES];
-    asked(ran.survey, units, links, pairs, counts);
+    both(units, links, words, pairs, counts);
+    counted(units, links, counts);
     if counts[DIFFERENCES] != before {
         shown(units, words);
     }

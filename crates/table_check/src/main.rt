@@ -1,30 +1,53 @@
 // Surveys each file that an argument names, round by round: a line with its name, then every table after the load and after each round.
 use files::Reading;
+use survey::Aux;
+use survey::Components;
+use survey::Global;
+use survey::Labels;
+use survey::Order;
+use survey::Range;
 use survey::Reply;
 use survey::Survey;
+use survey::Tree;
 
 mod say;
 
-// The tables by unit, by place and by link.
+// The tables by unit, by place and by link, a group or two at a time: a function that holds the whole state is long to prove.
+fn trees(units: u16, components: Components, tree: Tree) {
+    say::row(b"color", units, &components.color);
+    say::row(b"parent", units, &tree.parent);
+    say::row(b"dist", units, &tree.dist);
+}
+
+fn ordered(units: u16, order: Order) {
+    say::row(b"descendants", units, &order.nd);
+    say::row(b"place", units, &order.pre);
+}
+
+fn ranged(units: u16, range: Range, global: Global) {
+    say::row(b"least", units, &range.low);
+    say::row(b"greatest", units, &range.high);
+    say::row(b"little", units, &range.little);
+    say::row(b"big", units, &range.big);
+    say::row(b"segments-least", units, &global.low);
+    say::row(b"segments-greatest", units, &global.high);
+}
+
+fn joined(units: u16, links: u16, aux: Aux, labels: Labels) {
+    say::row(b"joins-parent", units, &aux.parents);
+    say::row(b"joins-link", links, &aux.links);
+    say::row(b"class", units, &aux.color);
+    say::row(b"link-class", links, &labels.class);
+    say::row(b"label", links, &labels.label);
+}
+
 fn plain(s: Survey) {
     let units = s.table.units;
     let links = s.table.links;
-    say::row(b"color", units, &s.components.color);
-    say::row(b"parent", units, &s.tree.parent);
-    say::row(b"dist", units, &s.tree.dist);
-    say::row(b"descendants", units, &s.order.nd);
-    say::row(b"place", units, &s.order.pre);
-    say::row(b"least", units, &s.range.low);
-    say::row(b"greatest", units, &s.range.high);
-    say::row(b"little", units, &s.range.little);
-    say::row(b"big", units, &s.range.big);
-    say::row(b"segments-least", units, &s.global.low);
-    say::row(b"segments-greatest", units, &s.global.high);
-    say::row(b"joins-parent", units, &s.aux.parents);
-    say::row(b"joins-link", links, &s.aux.links);
-    say::row(b"class", units, &s.aux.color);
-    say::row(b"link-class", links, &s.labels.class);
-    say::row(b"label", links, &s.labels.label);
+    trees(units, s.components, s.tree);
+    ordered(units, s.order);
+    ranged(units, s.range, s.global);
+    joined(units, links, s.aux, s.labels);
 }
 
 // The tables by directed tree link.

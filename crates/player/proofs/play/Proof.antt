@@ -4,10 +4,11 @@ use Prim.Native.Nat.{_+_, _*_, _-_, _/_, _^_, _≤_, _<_}
 use native.Mathlib.Omega.{arith}
 use lib.ListN.{length, drop}
 use borrow.Author.Needs.{needs}
+use Rattle.survey.specs.View.{of, answerOf}
 use Rattle.player.specs.Words.{PlayedWords, playWords}
 use Rattle.player.specs.WordSteps.{next-call, call-made, last-call}
-use Rattle.claim.proofs.play.Statement.{statement}
-use Rattle.claim.proofs.play.Tie as tie
+use Rattle.player.proofs.play.Statement.{statement}
+use Rattle.player.proofs.play.Tie as tie
 
 abbrev Inv-loop : tie.InvT-loop
 Inv-loop calls replies₀ out₀ s₀ i₀ replies out s i =
@@ -15,7 +16,7 @@ Inv-loop calls replies₀ out₀ s₀ i₀ replies out s i =
     × (i ≤ length calls / 3)
     × (length replies ≡ length replies₀)
     × (length out ≡ length out₀)
-    × (playWords calls 0 s₀ replies₀ out₀ ≡ playWords (drop (3 * i) calls) i s replies out)
+    × (playWords calls 0 (of s₀) replies₀ out₀ ≡ playWords (drop (3 * i) calls) i (of s) replies out)
 
 abbrev μ-loop : tie.MeasureT-loop
 μ-loop calls replies₀ out₀ s₀ i₀ replies out s i = length calls / 3 - i
@@ -68,11 +69,11 @@ loop-again c =
     let a = c .before .before .before .before .before .before .before .before .before .before .before .before .before .before .before .before .before .args in
     let w = l .loop in
     let going = c .before .before .before .before .before .before .before .before .before .before .before .before .loop-test .taken in
-    let next = next-call (a .calls .now) (w .i) (w .s) (w .replies) (w .out) (omega (arith, going)) in
+    let next = next-call (a .calls .now) (w .i) (of (w .s)) (w .replies) (w .out) (omega (arith, going)) in
     let m = c .before .before .before .before .before .before .before .call in
     let t = c .before .before .store in
     let made =
-    call-made (drop (3 * (w .i + 1)) (a .calls .now)) (w .i) _ _ _ (w .s) (w .replies) (w .out) _ _ _ (m .result) _ _ (c .before .before .before .before .before .before .before .before .before .before .before .word .ensures) (c .before .before .before .before .before .before .before .before .before .before .word2 .ensures) (c .before .before .before .before .before .before .before .before .before .word3 .ensures) (m .ensures .0) (t .ensures) (m .ensures .1) in
+    call-made (drop (3 * (w .i + 1)) (a .calls .now)) (w .i) _ _ _ (of (w .s)) (w .replies) (w .out) _ _ _ (answerOf (m .result)) _ _ (c .before .before .before .before .before .before .before .before .before .before .before .word .ensures) (c .before .before .before .before .before .before .before .before .before .before .word2 .ensures) (c .before .before .before .before .before .before .before .before .before .word3 .ensures) (m .ensures .0) (t .ensures) (m .ensures .1) in
     (w .inv .0, search needs, search needs, search needs, w .inv .4 ∙ next ∙ made)
 
 same-length : tie.Need-same-length Inv-loop μ-loop
@@ -85,7 +86,7 @@ returns : tie.Need-returns Inv-loop μ-loop
 returns c =
     let w = c .before .loop in
     let a = c .before .before .before .before .before .args in
-    let e = w .inv .4 ∙ last-call (a .calls .now) (w .i) (w .s) (w .replies) (w .out) (search needs) in
+    let e = w .inv .4 ∙ last-call (a .calls .now) (w .i) (of (w .s)) (w .replies) (w .out) (search needs) in
     rw e (refl, (refl, refl))
 
 pub play-spec : {M : Type 1} → statement M

@@ -2,11 +2,12 @@
 use mathlib.Core.Path.{refl, sym, ap, _∙_}
 use Prim.Native.Nat.{_-_}
 use lib.ListN.{take, drop}
-use Rattle.survey.specs.Calls.{reported}
+use Rattle.machine.specs.Calls.{reported}
 use borrow.Author.Needs.{needs}
+use Rattle.survey.specs.View.{of}
 use Rattle.player.specs.WordSteps.{part-back}
-use Rattle.claim.proofs.made.report_into.Statement.{statement}
-use Rattle.claim.proofs.made.report_into.Tie as tie
+use Rattle.player.proofs.made.report_into.Statement.{statement}
+use Rattle.player.proofs.made.report_into.Tie as tie
 
 least-requires : tie.Need-least-requires
 least-requires c κs = search needs
@@ -38,7 +39,7 @@ returns c =
     let from = c .before .before .before .before .before .least in
     let to = c .before .before .before .before .least2 in
     let r = c .before .before .report in
-    rw (sym (from .ensures), sym (to .ensures)) (r .ensures .0, rw (r .ensures .1) (part-back (from .result) (to .result) (a .out .now) (reported (a .s) (take (to .result - from .result) (drop (from .result) (a .out .now)))) (search needs)))
+    rw (sym (from .ensures), sym (to .ensures)) (r .ensures .0, rw (r .ensures .1) (part-back (from .result) (to .result) (a .out .now) (reported (of (a .s)) (take (to .result - from .result) (drop (from .result) (a .out .now)))) (search needs)))
 
 pub report-into-spec : {M : Type 1} → statement M
 report-into-spec =

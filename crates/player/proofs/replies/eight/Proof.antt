@@ -2,8 +2,8 @@
 use mathlib.Core.Path.{refl}
 use borrow.Author.Needs.{needs}
 use Rattle.calls.specs.Flags.{byte-flag}
-use Rattle.claim.proofs.replies.eight.Statement.{statement}
-use Rattle.claim.proofs.replies.eight.Tie as tie
+use Rattle.player.proofs.replies.eight.Statement.{statement}
+use Rattle.player.proofs.replies.eight.Tie as tie
 
 enum-known-reply : tie.Need-enum-known-reply
 enum-known-reply c = search needs

@@ -6,8 +6,8 @@ use lib.ListN.{length, drop}
 use lib.Seq.{sets}
 use borrow.Author.Needs.{needs}
 use Rattle.player.specs.StoreLaws.{store-next, store-end, store-begin}
-use Rattle.claim.proofs.replies.put_eight.Statement.{statement}
-use Rattle.claim.proofs.replies.put_eight.Tie as tie
+use Rattle.player.proofs.replies.put_eight.Statement.{statement}
+use Rattle.player.proofs.replies.put_eight.Tie as tie
 
 -- what is still to be stored makes the whole
 abbrev Inv-loop : tie.InvT-loop

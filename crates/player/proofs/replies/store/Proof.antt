@@ -4,8 +4,8 @@ use mathlib.Core.List.{List}
 use Prim.Native.Nat.{ℕ}
 use lib.Seq.{sets}
 use borrow.Author.Needs.{needs}
-use Rattle.claim.proofs.replies.store.Statement.{statement}
-use Rattle.claim.proofs.replies.store.Tie as tie
+use Rattle.player.proofs.replies.store.Statement.{statement}
+use Rattle.player.proofs.replies.store.Tie as tie
 
 eight-requires : tie.Need-eight-requires
 eight-requires c κs = search needs

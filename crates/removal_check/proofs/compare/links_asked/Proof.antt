@@ -16,14 +16,17 @@ loop-holds c = search needs
 link-requires : tie.Need-link-requires Inv-loop μ-loop
 link-requires c κs = tt
 
+link-reply-requires : tie.Need-link-reply-requires Inv-loop μ-loop
+link-reply-requires c κs = tt
+
 cast-word : tie.Need-cast-word Inv-loop μ-loop
 cast-word c = search needs
 
 word-requires : tie.Need-word-requires Inv-loop μ-loop
 word-requires c κs = tt
 
-link-asked-requires : tie.Need-link-asked-requires Inv-loop μ-loop
-link-asked-requires c κs = tt
+link-seen-requires : tie.Need-link-seen-requires Inv-loop μ-loop
+link-seen-requires c κs = tt
 
 add-j : tie.Need-add-j Inv-loop μ-loop
 add-j c = search needs
@@ -45,9 +48,10 @@ links-asked-spec =
     μ-loop
     loop-holds
     link-requires
+    link-reply-requires
     cast-word
     word-requires
-    link-asked-requires
+    link-seen-requires
     add-j
     loop-less
     loop-again

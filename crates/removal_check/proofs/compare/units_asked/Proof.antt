@@ -18,8 +18,11 @@ loop-holds c = search needs
 unit-requires : tie.Need-unit-requires Inv-loop μ-loop
 unit-requires c κs = tt
 
-unit-asked-requires : tie.Need-unit-asked-requires Inv-loop μ-loop
-unit-asked-requires c κs = tt
+unit-reply-requires : tie.Need-unit-reply-requires Inv-loop μ-loop
+unit-reply-requires c κs = tt
+
+unit-seen-requires : tie.Need-unit-seen-requires Inv-loop μ-loop
+unit-seen-requires c κs = tt
 
 add-v : tie.Need-add-v Inv-loop μ-loop
 add-v c = search needs
@@ -44,7 +47,8 @@ units-asked-spec =
     μ-loop
     loop-holds
     unit-requires
-    unit-asked-requires
+    unit-reply-requires
+    unit-seen-requires
     add-v
     loop-less
     loop-again
