@@ -29,7 +29,7 @@ use Rattle.machine.specs.StepLaws.{loaded-wellFormed}
 use Rattle.machine.specs.Report.{report, reportLength}
 use Rattle.machine.specs.ReportLaws.{length-report}
 use Rattle.machine.specs.Calls.{numberOf, answered, loadAnswer, roundRefusal, runAnswer, reportRefusal, reportAnswer, reported}
-use Rattle.reporter.specs.Printed.{MAX-INPUT, WORDS, refusalLine, surveyed, printedTable, printedFile, printed, laidOver, laidCount}
+use Rattle.reporter.specs.Printed.{MAX-INPUT, WORDS, countOf, refusalLine, surveyed, printedTable, printedFile, printed, laidOver, laidCount}
 use Rattle.reporter.specs.PrintedLaws.{surveyed-table, surveyed-finished, surveyed-wellFormed}
 
 -- ---- laying down
@@ -134,6 +134,15 @@ module _ (input : Input) where
     report-laid out = rw (report-refusal (length out), sym table-printed) (go (ltb (length out) (length (printedTable input))))
       where
         go : (b : Bool) → written (cond b 14 0) (printedTable input) out ≡ cond b out (printedTable input ++ drop (length (printedTable input)) out)
+        go true = refl
+        go false = refl
+
+    -- and then so many characters are written
+    pub report-count : (places : ℕ) → countOf (reportAnswer places (surveyed input) .reply) ≡ laidCount (printedTable input) places
+    unfolding reportAnswer laidCount
+    report-count places = rw (report-refusal places, sym (length-report (surveyed input)), sym table-printed) (go (ltb places (length (printedTable input))))
+      where
+        go : (b : Bool) → countOf (answered (cond b 14 0) (surveyed input) (surveyed input) (Written (length (printedTable input))) .reply) ≡ cond b 0 (length (printedTable input))
         go true = refl
         go false = refl
 

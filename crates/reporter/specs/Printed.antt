@@ -7,6 +7,8 @@ use lib.ListN.{length, drop}
 use Rattle.frames.specs.Frame.{lineOf}
 use Rattle.frames.specs.Bodies.{refusalBody}
 use Rattle.files.specs.File.{linesOf, readRefusal, unitsIn, endsIn}
+use Rattle.state.specs.declared.reply.Reply.{Reply}
+use Rattle.state.specs.declared.reply.Reply.the-variants.{Refused, Done, Made, Status, Unit, Link, Read, Written}
 use Rattle.machine.specs.State.{State}
 use Rattle.machine.specs.Load.{Input, loadRefusal, loaded}
 use Rattle.machine.specs.Run.{ran}
@@ -49,3 +51,14 @@ laidOver text out = cond (ltb (length out) (length text)) out (text ++ drop (len
 
 unfoldable pub laidCount : List ℕ → ℕ → ℕ
 laidCount text places = cond (ltb places (length text)) 0 (length text)
+
+-- the characters that a call wrote
+abbrev pub countOf : Reply → ℕ
+countOf (Refused k) = 0
+countOf Done = 0
+countOf (Made k) = 0
+countOf (Status stage countdown rounds requests) = 0
+countOf (Unit unit color parent place single) = 0
+countOf (Link position label lone) = 0
+countOf (Read units links) = 0
+countOf (Written k) = k

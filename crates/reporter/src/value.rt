@@ -4,7 +4,8 @@ use survey::Reply;
 use survey::Survey;
 ghost use mathlib.Core.Path.{_≡_};
 ghost use lib.ListN.{length};
-ghost use Rattle.reporter.specs.Printed.{WORDS, printedTable, printedFile, laidOver, laidCount};
+ghost use Rattle.machine.specs.Calls.{numberOf};
+ghost use Rattle.reporter.specs.Printed.{WORDS, countOf, printedTable, printedFile, laidOver, laidCount};
 
 // A file read into `words`, then surveyed.
 pub(crate) fn filed(input: &[u8], words: &mut [u16], out: &mut [u8]) -> u32
@@ -28,17 +29,45 @@ fn surveyed(units: u16, table: &[u16], out: &mut [u8]) -> u32
     ensures bytes { λ _. ⌜ now (out .exit) ≡ laidOver (printedTable (record { units = units; words = now (table .entry) })) (now (out .entry)) ⌝ }
 {
     let loaded = Survey::new().load(units, table);
-    let reply = loaded.reply;
-    if let Reply::Refused(number) = reply {
+    let number = number_of(loaded.reply);
+    if number != 0 {
         return super::refusal(number, out);
     }
     let begun = loaded.survey;
     let ran = begun.run(65535);
     let ended = ran.survey;
     let done = calls::report(ended, out);
-    let written = done.reply;
-    if let Reply::Written(count) = written {
-        return count;
+    count_of(done.reply)
+}
+
+// The number of a refusal, else 0.
+fn number_of(reply: Reply) -> u8
+    ensures { λ r. ⌜ r ≡ numberOf reply ⌝ }
+{
+    match reply {
+        Reply::Refused(number) => number,
+        Reply::Done => 0,
+        Reply::Made(_) => 0,
+        Reply::Status { .. } => 0,
+        Reply::Unit { .. } => 0,
+        Reply::Link { .. } => 0,
+        Reply::Read { .. } => 0,
+        Reply::Written(_) => 0,
     }
-    0
+}
+
+// The characters that were written.
+fn count_of(reply: Reply) -> u32
+    ensures { λ r. ⌜ r ≡ countOf reply ⌝ }
+{
+    match reply {
+        Reply::Refused(_) => 0,
+        Reply::Done => 0,
+        Reply::Made(_) => 0,
+        Reply::Status { .. } => 0,
+        Reply::Unit { .. } => 0,
+        Reply::Link { .. } => 0,
+        Reply::Read { .. } => 0,
+        Reply::Written(count) => count,
+    }
 }

@@ -35,7 +35,7 @@ cast-result c = search needs
 
 returns : tie.Need-returns
 unfolding reportAnswer reported
-returns c = 
+returns c =
     let r = c .before .report-refusal in
     let a = c .before .before .before .before .before .before .args in
     (rw (sym (told (c .before)), ne-eqb (r .result) 0 (c .if1 .taken)) refl, written-refused _ (report (stateOf (a .state .now))) (a .out .now) (λ z. c .if1 .taken (told (c .before) ∙ z)))
@@ -60,7 +60,7 @@ same-length c = search needs
 
 returns-2 : tie.Need-returns-2
 unfolding reportAnswer
-returns-2 c = 
+returns-2 c =
     let o = c .before .before .before .before .before .before .before .before .before .before .before .before .before .before .before .before .before .before .before in
     let r = o .before .before .before .before .before in
     let a = r .before .before .before .before .before .args in

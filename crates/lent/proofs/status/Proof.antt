@@ -18,7 +18,7 @@ status-values-requires c κs = sym (c .before .kept .ensures) ∙ not-false _ (c
 
 returns-2 : tie.Need-returns-2
 unfolding statusAnswer statusRefusal
-returns-2 c = 
+returns-2 c =
     rw (sym (c .before .before .kept .ensures) ∙ not-false _ (c .before .if1 .left)) (refl, c .status-values .ensures)
 
 pub status-spec : {M : Type 1} → statement M

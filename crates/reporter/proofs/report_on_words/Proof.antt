@@ -1,9 +1,6 @@
 -- By the input's length.
-use mathlib.Core.Path.{sym}
-use lib.ListN.{length}
 use borrow.Author.Needs.{needs}
-use Rattle.reporter.specs.Printed.{refusalLine, printedFile}
-use Rattle.reporter.specs.LaidLaws.{laid-fits, input-long, input-short}
+use Rattle.reporter.specs.LaidLaws.{input-long, input-short}
 use Rattle.reporter.proofs.report_on_words.Statement.{statement}
 use Rattle.reporter.proofs.report_on_words.Tie as tie
 
@@ -17,8 +14,7 @@ returns : tie.Need-returns
 returns c =
     let a = c .before .before .before .before .before .before .before .args in
     let r = c .before .before .refusal in
-    let fits = rw (sym (r .ensures .0)) at (laid-fits (refusalLine 1) (length (a .out .now))) in
-    rw (input-long (a .input .now) (c .before .before .before .before .if1 .taken)) (r .ensures .0, (r .ensures .1, fits))
+    rw (input-long (a .input .now) (c .before .before .before .before .if1 .taken)) (r .ensures .0, r .ensures .1)
 
 slice-aggregate-filed : tie.Need-slice-aggregate-filed
 slice-aggregate-filed c = search needs
@@ -33,8 +29,7 @@ returns-2 : tie.Need-returns-2
 returns-2 c =
     let a = c .before .before .before .before .before .before .before .before .before .args in
     let r = c .before .before .before .filed in
-    let fits = rw (sym (r .ensures .0)) at (laid-fits (printedFile (a .input .now)) (length (a .out .now))) in
-    rw (input-short (a .input .now) (c .before .before .before .before .before .before .if1 .left)) (r .ensures .0, (r .ensures .1, fits))
+    rw (input-short (a .input .now) (c .before .before .before .before .before .before .if1 .left)) (r .ensures .0, r .ensures .1)
 
 pub report-on-words-spec : {M : Type 1} → statement M
 report-on-words-spec =

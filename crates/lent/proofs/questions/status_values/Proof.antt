@@ -16,7 +16,7 @@ countdown-requires : tie.Need-countdown-requires
 countdown-requires c κs = search needs
 
 returns : tie.Need-returns
-returns c = 
+returns c =
     let start = c .before .before .before in
     rw (c .countdown .ensures, c .before .clock-at .ensures, c .before .before .table-at .ensures, kept-countdown (stateOf (start .args .state .now)) (start .pre)) refl
 

@@ -26,7 +26,7 @@ single-requires : tie.Need-single-requires
 single-requires c κs = search needs
 
 returns : tie.Need-returns
-returns c = 
+returns c =
     let o = c .before .before .before .before .before .before .before .before .before .before .before .before .before in
     rw (c .single .ensures, c .before .word3 .ensures, c .before .before .before .before .before .word2 .ensures, c .before .before .before .before .before .before .before .before .before .word .ensures, o .order-at .ensures, o .before .tree-at .ensures, o .before .before .components-at .ensures) refl
 
