@@ -29,7 +29,8 @@ fn surveyed(units: u16, table: &[u16], out: &mut [u8]) -> u32
     ensures bytes { λ _. ⌜ now (out .exit) ≡ laidOver (printedTable (record { units = units; words = now (table .entry) })) (now (out .entry)) ⌝ }
 {
     let loaded = Survey::new().load(units, table);
-    let number = number_of(loaded.reply);
+    let reply = loaded.reply;
+    let number = number_of(reply);
     if number != 0 {
         return super::refusal(number, out);
     }
@@ -37,7 +38,8 @@ fn surveyed(units: u16, table: &[u16], out: &mut [u8]) -> u32
     let ran = begun.run(65535);
     let ended = ran.survey;
     let done = calls::report(ended, out);
-    count_of(done.reply)
+    let said = done.reply;
+    count_of(said)
 }
 
 // The number of a refusal, else 0.
