@@ -1,5 +1,5 @@
 -- The refusals of the questions and of the report by their tests, in order, and the answers of the file calls by what `files` replies.
-use mathlib.Core.Path.{_≡_, refl, sym}
+use mathlib.Core.Path.{_≡_, refl}
 use mathlib.Core.Bool.{Bool, true, false, not}
 use mathlib.Core.Logic.{_⊎_, inl, inr}
 use mathlib.Core.List.{List, [], _∷_}
@@ -14,13 +14,12 @@ use Rattle.files.specs.declared.Reading.the-variants as reading
 use Rattle.files.specs.declared.Writing.{Writing}
 use Rattle.files.specs.declared.Writing.the-variants as writing
 use Rattle.machine.specs.State.{State}
-use Rattle.machine.specs.Calls.{Answer}
 use Rattle.state.specs.declared.reply.Reply.{Reply}
 use Rattle.state.specs.declared.reply.Reply.the-variants.{Refused, Read, Written}
 use Rattle.machine.specs.State.{units, links, finished, FINISHED}
 use Rattle.machine.specs.WellFormed.{wellFormed}
-use Rattle.machine.specs.Report.{report, reportLength}
-use Rattle.machine.specs.Calls.{questionRefusal, reportRefusal, reported, readAnswer, writeAnswer}
+use Rattle.machine.specs.Report.{reportLength}
+use Rattle.machine.specs.Calls.{Answer, questionRefusal, reportRefusal, readAnswer, writeAnswer}
 
 module _ (s : State) where
   -- ---- questions

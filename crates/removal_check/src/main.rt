@@ -30,20 +30,30 @@ fn tables_of(kind: u16) -> u16 {
     }
 }
 
-// Draws and compares one table of a kind: the small one with that number, or the one of that turn.
-fn one(kind: u16, i: u16, counts: &mut [u64; 7]) {
+// The small table of so many units with that number.
+fn small_one(units: u16, number: u16, counts: &mut [u64; 7]) {
     let mut pairs = [0u16; 1024];
+    let links = small::drawn(&mut pairs, units, number);
+    compare::table(units, links, &pairs, counts);
+}
+
+// The table of a shape at that turn.
+fn shaped_one(shape: u16, turn: u16, seed: u64, counts: &mut [u64; 7]) {
+    let mut pairs = [0u16; 1024];
+    let units = shapes::unit_count(shape, turn, seed);
+    let links = shapes::drawn(shape, &mut pairs, seed, units);
+    shuffle::shuffled(&mut pairs, units, links, seed);
+    compare::table(units, links, &pairs, counts);
+}
+
+// Draws and compares one table of a kind.
+fn one(kind: u16, i: u16, counts: &mut [u64; 7]) {
     if kind < SMALL {
-        let units = kind + 1;
-        let links = small::drawn(&mut pairs, units, i);
-        compare::table(units, links, &pairs, counts);
+        small_one(kind + 1, i, counts);
     } else {
         let shape = kind - SMALL;
         let seed = (shape as u64) * 65536 + (i as u64) * 16 + 16;
-        let units = shapes::unit_count(shape, i, seed);
-        let links = shapes::drawn(shape, &mut pairs, seed, units);
-        shuffle::shuffled(&mut pairs, units, links, seed);
-        compare::table(units, links, &pairs, counts);
+        shaped_one(shape, i, seed, counts);
     }
 }
 

@@ -1,5 +1,5 @@
 -- By whether the question is refused.
-use mathlib.Core.Path.{refl, sym, _∙_}
+use mathlib.Core.Path.{sym, _∙_}
 use borrow.Author.Needs.{needs}
 use Rattle.machine.specs.Calls.{unitAnswer, unitRefusal}
 use Rattle.machine.specs.AnswerLaws.{answered-refused, answered-made}

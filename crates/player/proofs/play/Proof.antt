@@ -1,11 +1,11 @@
 -- One call after the other; what is still to be played makes the whole.
-use mathlib.Core.Path.{_≡_, refl, sym, ap, _∙_}
+use mathlib.Core.Path.{_≡_, refl, _∙_}
 use Prim.Native.Nat.{_+_, _*_, _-_, _/_, _^_, _≤_, _<_}
 use native.Mathlib.Omega.{arith}
 use lib.ListN.{length, drop}
 use borrow.Author.Needs.{needs}
 use Rattle.survey.specs.View.{of, answerOf}
-use Rattle.player.specs.Words.{PlayedWords, playWords}
+use Rattle.player.specs.Words.{playWords}
 use Rattle.player.specs.WordSteps.{next-call, call-made, last-call}
 use Rattle.player.proofs.play.Statement.{statement}
 use Rattle.player.proofs.play.Tie as tie

@@ -1,5 +1,5 @@
 -- The part that is lent, and the whole after it.
-use mathlib.Core.Path.{refl, sym, ap, _∙_}
+use mathlib.Core.Path.{sym}
 use Prim.Native.Nat.{_-_}
 use lib.ListN.{take, drop}
 use Rattle.machine.specs.Calls.{reported}

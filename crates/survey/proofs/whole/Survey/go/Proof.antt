@@ -1,5 +1,5 @@
 -- Each arm makes the rounds of its stage, at least one, so the run goes on; the budget or the last stage ends it.
-use mathlib.Core.Path.{_≡_, refl}
+use mathlib.Core.Path.{refl}
 use Prim.Native.Nat.{ℕ, _+_, _-_, _≤_}
 use native.Mathlib.Omega.{arith}
 use borrow.Author.Needs.{needs}
