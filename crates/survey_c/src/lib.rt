@@ -1,10 +1,15 @@
-// The survey for callers in C: the state is a slice of words that the caller lends (lent/specs/Layout.antt). A number that comes back is document 01's
-// number of the refusal, 0 where the call was not refused; on a refusal nothing lent is altered.
+// The survey for callers in C: the state is an array of words that the caller lends (words/specs/Layout.antt), a reply an array of its fixed size. A
+// number that comes back is document 01's number of the refusal, 0 where the call was not refused; on a refusal nothing lent is altered.
+use words::STATE_WORDS;
 ghost use mathlib.Core.Path.{_≡_};
+ghost use mathlib.Core.Bool.{cond};
+ghost use lib.Dec.{eqb};
 ghost use lib.ListN.{length};
-ghost use Rattle.survey.specs.Calls.{loadAnswer, roundAnswer, runAnswer, statusAnswer, unitAnswer, linkAnswer, reportAnswer};
+ghost use Rattle.machine.specs.Run.{ran};
+ghost use Rattle.machine.specs.Calls.{numberOf, loadAnswer, roundRefusal, roundAnswer, runAnswer, statusAnswer, unitAnswer, linkAnswer, reportAnswer, reported};
+ghost use Rattle.words.specs.Layout.{stateOf};
+ghost use Rattle.lent.specs.Face.{said};
 ghost use Rattle.reporter.specs.Printed.{printed, laidOver, laidCount};
-ghost use Rattle.lent.specs.Face.{numberOn, numberInto, stateAfter, replyAfter, reportAfter};
 
 // No state: what the program prints for the bytes of a file, at the front of `out`, and the number of bytes; nothing and 0 where `out` is too short.
 #[no_mangle]
@@ -12,69 +17,82 @@ pub extern "C" fn link_survey_report(input: &[u8], out: &mut [u8]) -> u32
     ensures count { λ r. ⌜ r ≡ laidCount (printed (now (input .entry))) (length (now (out .entry))) ⌝ }
     ensures bytes { λ _. ⌜ now (out .exit) ≡ laidOver (printed (now (input .entry))) (now (out .entry)) ⌝ }
 {
-    reporter::report(input, out)
+    reporter::report_on_words(input, out)
 }
 
-// Load: 10 for the length alone, 4 to 9.
+// Load: 4 to 9.
 #[no_mangle]
-pub extern "C" fn link_survey_load(state: &mut [u16], units: u16, table: &[u16]) -> u32
-    ensures number { λ r. ⌜ r ≡ numberOn (loadAnswer units (now (table .entry))) (now (state .entry)) ⌝ }
-    ensures words { λ _. ⌜ now (state .exit) ≡ stateAfter (numberOn (loadAnswer units (now (table .entry))) (now (state .entry))) (loadAnswer units (now (table .entry))) (now (state .entry)) ⌝ }
+pub extern "C" fn link_survey_load(state: &mut [u16; STATE_WORDS], units: u16, table: &[u16]) -> u32
+    ensures number { λ r. ⌜ r ≡ numberOf (loadAnswer (record { units = units; words = now (table .entry) }) (stateOf (now (state .entry))) .reply) ⌝ }
+    ensures words { λ _. ⌜ stateOf (now (state .exit)) ≡ loadAnswer (record { units = units; words = now (table .entry) }) (stateOf (now (state .entry))) .state ⌝ }
 {
     lent::load(state, units, table)
 }
 
 // One round: 10, 11.
 #[no_mangle]
-pub extern "C" fn link_survey_round(state: &mut [u16]) -> u32
-    ensures number { λ r. ⌜ r ≡ numberOn roundAnswer (now (state .entry)) ⌝ }
-    ensures words { λ _. ⌜ now (state .exit) ≡ stateAfter (numberOn roundAnswer (now (state .entry))) roundAnswer (now (state .entry)) ⌝ }
+pub extern "C" fn link_survey_round(state: &mut [u16; STATE_WORDS]) -> u32
+    ensures number { λ r. ⌜ r ≡ numberOf (roundAnswer (stateOf (now (state .entry))) .reply) ⌝ }
+    ensures words { λ _. ⌜ stateOf (now (state .exit)) ≡ roundAnswer (stateOf (now (state .entry))) .state ⌝ }
 {
     lent::round(state)
 }
 
-// At most `budget` rounds: 10, 11, 14. The reply is the rounds made.
+// At most `budget` rounds: 10, 11. The rounds made go to `made`.
 #[no_mangle]
-pub extern "C" fn link_survey_run(state: &mut [u16], budget: u16, reply: &mut [u16]) -> u32
-    ensures number { λ r. ⌜ r ≡ numberInto (runAnswer budget) (now (state .entry)) (length (now (reply .entry))) ⌝ }
-    ensures words { λ _. ⌜ now (state .exit) ≡ stateAfter (numberInto (runAnswer budget) (now (state .entry)) (length (now (reply .entry)))) (runAnswer budget) (now (state .entry)) ⌝ }
-    ensures said { λ _. ⌜ now (reply .exit) ≡ replyAfter (numberInto (runAnswer budget) (now (state .entry)) (length (now (reply .entry)))) (runAnswer budget) (now (state .entry)) (now (reply .entry)) ⌝ }
+pub extern "C" fn link_survey_run(
+    state: &mut [u16; STATE_WORDS],
+    budget: u16,
+    made: &mut u16,
+) -> u32
+    ensures number { λ r. ⌜ r ≡ numberOf (runAnswer budget (stateOf (now (state .entry))) .reply) ⌝ }
+    ensures words { λ _. ⌜ stateOf (now (state .exit)) ≡ runAnswer budget (stateOf (now (state .entry))) .state ⌝ }
+    ensures made { λ _. ⌜ now (made .exit)
+        ≡ cond (eqb (roundRefusal (stateOf (now (state .entry)))) 0) (ran budget 0 (stateOf (now (state .entry))) .1) (now (made .entry)) ⌝ }
 {
-    lent::run(state, budget, reply)
+    lent::run(state, budget, made)
 }
 
-// Status: 10, 14. The reply is stage, countdown, all rounds, requests.
+// Status: 10. The reply is stage, countdown, all rounds, requests.
 #[no_mangle]
-pub extern "C" fn link_survey_status(state: &[u16], reply: &mut [u16]) -> u32
-    ensures number { λ r. ⌜ r ≡ numberInto statusAnswer (now (state .entry)) (length (now (reply .entry))) ⌝ }
-    ensures said { λ _. ⌜ now (reply .exit) ≡ replyAfter (numberInto statusAnswer (now (state .entry)) (length (now (reply .entry)))) statusAnswer (now (state .entry)) (now (reply .entry)) ⌝ }
+pub extern "C" fn link_survey_status(state: &[u16; STATE_WORDS], reply: &mut [u16; 4]) -> u32
+    ensures number { λ r. ⌜ r ≡ numberOf (statusAnswer (stateOf (now (state .entry))) .reply) ⌝ }
+    ensures said { λ _. ⌜ now (reply .exit) ≡ said (statusAnswer (stateOf (now (state .entry))) .reply) (now (reply .entry)) ⌝ }
 {
     lent::status(state, reply)
 }
 
-// A unit: 10, 12, 13, 14. The reply is unit, colour, parent, place, single.
+// A unit: 10, 12, 13. The reply is unit, colour, parent, place, single.
 #[no_mangle]
-pub extern "C" fn link_survey_unit(state: &[u16], unit: u16, reply: &mut [u16]) -> u32
-    ensures number { λ r. ⌜ r ≡ numberInto (unitAnswer unit) (now (state .entry)) (length (now (reply .entry))) ⌝ }
-    ensures said { λ _. ⌜ now (reply .exit) ≡ replyAfter (numberInto (unitAnswer unit) (now (state .entry)) (length (now (reply .entry)))) (unitAnswer unit) (now (state .entry)) (now (reply .entry)) ⌝ }
+pub extern "C" fn link_survey_unit(
+    state: &[u16; STATE_WORDS],
+    unit: u16,
+    reply: &mut [u16; 5],
+) -> u32
+    ensures number { λ r. ⌜ r ≡ numberOf (unitAnswer unit (stateOf (now (state .entry))) .reply) ⌝ }
+    ensures said { λ _. ⌜ now (reply .exit) ≡ said (unitAnswer unit (stateOf (now (state .entry))) .reply) (now (reply .entry)) ⌝ }
 {
     lent::unit(state, unit, reply)
 }
 
-// A link: 10, 12, 13, 14. The reply is position, label, lone.
+// A link: 10, 12, 13. The reply is position, label, lone.
 #[no_mangle]
-pub extern "C" fn link_survey_link(state: &[u16], position: u16, reply: &mut [u16]) -> u32
-    ensures number { λ r. ⌜ r ≡ numberInto (linkAnswer position) (now (state .entry)) (length (now (reply .entry))) ⌝ }
-    ensures said { λ _. ⌜ now (reply .exit) ≡ replyAfter (numberInto (linkAnswer position) (now (state .entry)) (length (now (reply .entry)))) (linkAnswer position) (now (state .entry)) (now (reply .entry)) ⌝ }
+pub extern "C" fn link_survey_link(
+    state: &[u16; STATE_WORDS],
+    position: u16,
+    reply: &mut [u16; 3],
+) -> u32
+    ensures number { λ r. ⌜ r ≡ numberOf (linkAnswer position (stateOf (now (state .entry))) .reply) ⌝ }
+    ensures said { λ _. ⌜ now (reply .exit) ≡ said (linkAnswer position (stateOf (now (state .entry))) .reply) (now (reply .entry)) ⌝ }
 {
     lent::link(state, position, reply)
 }
 
 // The report of a finished survey at the front of `out`: 10, 12, 14.
 #[no_mangle]
-pub extern "C" fn link_survey_state_report(state: &[u16], out: &mut [u8]) -> u32
-    ensures number { λ r. ⌜ r ≡ numberOn (reportAnswer (length (now (out .entry)))) (now (state .entry)) ⌝ }
-    ensures bytes { λ _. ⌜ now (out .exit) ≡ reportAfter (now (state .entry)) (now (out .entry)) ⌝ }
+pub extern "C" fn link_survey_state_report(state: &[u16; STATE_WORDS], out: &mut [u8]) -> u32
+    ensures number { λ r. ⌜ r ≡ numberOf (reportAnswer (length (now (out .entry))) (stateOf (now (state .entry))) .reply) ⌝ }
+    ensures bytes { λ _. ⌜ now (out .exit) ≡ reported (stateOf (now (state .entry))) (now (out .entry)) ⌝ }
 {
     lent::report(state, out)
 }

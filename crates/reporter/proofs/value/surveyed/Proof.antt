@@ -47,7 +47,7 @@ same-length : tie.Need-same-length
 same-length c = search needs
 
 returns : tie.Need-returns
-returns c = 
+returns c =
     let n = c .before .before .before .before .before in
     let r = c .before .before .refusal in
     rw (table-refused (taken n) (λ z. c .before .before .before .before .if1 .taken (told n ∙ z)), sym (told n)) (r .ensures .0, r .ensures .1)
@@ -65,7 +65,7 @@ same-length-2 : tie.Need-same-length-2
 same-length-2 c = search needs
 
 returns-2 : tie.Need-returns-2
-returns-2 c = 
+returns-2 c =
     let e = c .before .before .before .before .before .before .before .before in
     let r = c .before .before .before .report in
     let out = e .before .before .before .before .before .before .args .out .now in
