@@ -4,8 +4,7 @@ ghost use Rattle.rules.specs.Labels.{lone};
 ghost use Rattle.answers.specs.Flags.{flagTable};
 ghost use Rattle.answers.specs.Sharing.{sharing, counted, lookup, Shared};
 use super::flags;
-
-const ABSENT: u16 = 65535;
+use table::ABSENT;
 
 // How many links have the label `x`.
 fn sharing(links: u16, label: &[u16], x: u16) -> u16

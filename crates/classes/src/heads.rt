@@ -1,12 +1,11 @@
 // Joins with parents: each unit's head, what it says to it and hears from it.
+use table::ABSENT;
 use values::tables;
 ghost use mathlib.Core.Path.{_≡_};
 ghost use Prim.Native.Nat.{ℕ, _≤_, _<_};
 ghost use lib.ListN.{getD};
 ghost use Rattle.lists.specs.Tables.{over};
 ghost use Rattle.classes.specs.Propagation.{saidBy, headOf, toHeads, leastOf};
-
-const ABSENT: u16 = 65535;
 
 // Each unit's head: its parent where `parents` marks their join; itself where it does not, or where the unit is a root. At most 256 units count.
 pub(crate) fn heads<'a>(units: u16, parent: &'a [u16; 256], parents: &'a [u16; 256]) -> [u16; 256]

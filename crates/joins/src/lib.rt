@@ -1,5 +1,6 @@
 // Stage 8, joins: the edges of the auxiliary graph, whose vertices are the tree links, each named by its lower unit.
 use state::Clock;
+use table::ABSENT;
 use values::bounds;
 use values::tables;
 ghost use mathlib.Core.Path.{_≡_};
@@ -11,8 +12,6 @@ ghost use Rattle.rules.specs.Fits.{EndsWithin};
 ghost use Rattle.rules.specs.Aux.{linkJoinsRound, joinsParent, parentJoinsRound};
 ghost use Rattle.machine.specs.StageRun.{stageRun};
 ghost use Rattle.joins.specs.Rounds.{on, one};
-
-const ABSENT: u16 = 65535;
 
 // The tables of the stage, the clock, and the rounds made.
 pub struct Ran {

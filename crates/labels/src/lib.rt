@@ -1,5 +1,6 @@
 // Stage 10, labels: the class of each link, and its label, the least position in its class.
 use state::Clock;
+use table::ABSENT;
 use values::bounds;
 use values::firsts;
 ghost use mathlib.Core.Path.{_≡_};
@@ -9,8 +10,6 @@ ghost use Rattle.rules.specs.Fits.{EndsWithin};
 ghost use Rattle.rules.specs.Labels.{namingUnit, classRound, labelRound};
 ghost use Rattle.machine.specs.StageRun.{stageRun};
 ghost use Rattle.labels.specs.Rounds.{on, one};
-
-const ABSENT: u16 = 65535;
 
 // The tables of the stage, the clock, and the rounds made.
 pub struct Ran {

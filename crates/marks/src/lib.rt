@@ -1,5 +1,6 @@
 // Stage 5, marks: forward arcs; then descendants, and the start of the second ranking.
 use state::Clock;
+use table::ABSENT;
 use values::counts;
 ghost use mathlib.Core.Path.{_≡_};
 ghost use mathlib.Core.Bool.{cond, not, _&&_};
@@ -8,8 +9,6 @@ ghost use lib.Dec.{eqb, ltb};
 ghost use Rattle.rules.specs.Order.{forwardRound, ndRound, secondSums, secondJumps};
 ghost use Rattle.machine.specs.StageRun.{stageRun};
 ghost use Rattle.marks.specs.Rounds.{on, one};
-
-const ABSENT: u16 = 65535;
 
 // The tables of the stage, the clock, and the rounds made.
 pub struct Ran {

@@ -1,5 +1,6 @@
 // Stage 6, places: the second ranking; with its last round the place of each unit.
 use state::Clock;
+use table::ABSENT;
 use values::counts;
 ghost use mathlib.Core.Path.{_≡_};
 ghost use mathlib.Core.Bool.{cond};
@@ -7,8 +8,6 @@ ghost use Prim.Native.Nat.{_≤_};
 ghost use Rattle.rules.specs.Order.{preRound};
 ghost use Rattle.machine.specs.StageRun.{stageRun};
 ghost use Rattle.places.specs.Rounds.{on, one};
-
-const ABSENT: u16 = 65535;
 
 // The tables of the stage, the clock, and the rounds made.
 pub struct Ran {

@@ -1,4 +1,5 @@
 // The first round: local values by one pass over the links, the unit at each place by buckets, then passes over places and units.
+use table::ABSENT;
 use values::firsts;
 use values::tables;
 ghost use mathlib.Core.Path.{_≡_};
@@ -13,8 +14,6 @@ ghost use Rattle.rules.specs.Fits.{EndsWithin};
 ghost use Rattle.rules.specs.HeardLaws.{hears};
 ghost use Rattle.rules.specs.Range.{globalFirst, rangeFirst, littleFirst, bigFirst};
 ghost use Rattle.rules.specs.RangeLaws.{localTable, localBy, beginBy};
-
-const ABSENT: u16 = 65535;
 
 // The local value of each unit, for low and for high.
 struct Local {

@@ -1,13 +1,12 @@
 // Stage 4, ranking: the rank of each arc in its tour, by doubling. Stage 6 ranks by the same rounds.
 use state::Clock;
+use table::ABSENT;
 ghost use mathlib.Core.Path.{_≡_};
 ghost use Prim.Native.Nat.{min};
 ghost use lib.ListN.{length};
 ghost use Rattle.rules.specs.Ranking.{sumRound, jumpRound, requestsOf};
 ghost use Rattle.machine.specs.StageRun.{stageRun};
 ghost use Rattle.ranking.specs.Rounds.{on, one};
-
-const ABSENT: u16 = 65535;
 
 // The tables of the stage, the clock, and the rounds made.
 pub struct Ran {

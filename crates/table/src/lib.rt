@@ -10,6 +10,9 @@ pub const MAX_UNITS: u16 = 256;
 
 pub const MAX_LINKS: usize = 1024;
 
+// The mark "absent".
+pub const ABSENT: u16 = 65535;
+
 // The number of the first check that fails, 0 where the table passes.
 pub fn refusal(units: u16, table: &[u16]) -> u8
     ensures { λ r. ⌜ r ≡ tableRefusal units (now (table .entry)) ⌝ }

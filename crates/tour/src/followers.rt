@@ -1,5 +1,6 @@
 // Round one: the follower of each arc. A turn gives both arcs of a unit.
 use super::siblings;
+use table::ABSENT;
 use values::tables;
 ghost use mathlib.Core.Path.{_≡_};
 ghost use mathlib.Core.Bool.{cond};
@@ -9,8 +10,6 @@ ghost use Rattle.rules.specs.Basics.{ABSENT};
 ghost use Rattle.rules.specs.Tour.{nextRound};
 ghost use Rattle.tour.specs.Siblings.{Eldest, Later, Past};
 ghost use Rattle.tour.specs.Neighbors.{Parents, turnTo, inBy, outBy};
-
-const NONE: u16 = 65535;
 
 // The followers after the round.
 pub(crate) fn next_round(units: u16, parent: &[u16], next: [u16; 512]) -> [u16; 512]
@@ -58,7 +57,7 @@ fn in_by<'a>(parent: &'a [u16], eldest: &'a [u16], past: &'a [u16], v: u16) -> u
     let p = parent[at];
     let w = turn_to(past[at], eldest[at], p, p);
     let x = arc_word(tables::at(parent, w) == v, v, w);
-    values::choose(p == NONE, NONE, x)
+    values::choose(p == ABSENT, ABSENT, x)
 }
 
 // Of the arc out of `v`.
@@ -71,15 +70,15 @@ fn out_by<'a>(parent: &'a [u16], eldest: &'a [u16], later: &'a [u16], v: u16) ->
     let own = tables::at(parent, p);
     let w = turn_to(later[at], tables::at(eldest, p), own, v);
     let x = arc_word(tables::at(parent, w) == p, p, w);
-    values::choose(p == NONE, NONE, x)
+    values::choose(p == ABSENT, ABSENT, x)
 }
 
 // The neighbour after `u`, from the first child past `u`, the first child, and the parent.
 fn turn_to(later: u16, eldest: u16, own: u16, u: u16) -> u16
     ensures { λ r. ⌜ r ≡ turnTo later eldest own u ⌝ }
 {
-    let greater = values::least_of(later, values::choose(u < own, own, NONE));
-    values::choose(greater == NONE, values::least_of(eldest, own), greater)
+    let greater = values::least_of(later, values::choose(u < own, own, ABSENT));
+    values::choose(greater == ABSENT, values::least_of(eldest, own), greater)
 }
 
 // The arc from `v` to `w`: into `w` where `down`, else out of `v`.

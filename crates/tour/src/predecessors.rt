@@ -1,4 +1,5 @@
 // Round two: the predecessor of each arc, and the start of the first ranking. A turn gives both arcs of a unit.
+use table::ABSENT;
 use values::tables;
 ghost use mathlib.Core.Path.{_≡_};
 ghost use Prim.Native.Nat.{ℕ, _+_, _*_, _≤_, _<_};
@@ -9,8 +10,6 @@ ghost use Rattle.rules.specs.Tour.{predRound, firstJumps, firstSums};
 ghost use Rattle.rules.specs.TourLaws.{predOut};
 ghost use Rattle.tour.specs.Neighbors.{Parents};
 ghost use Rattle.tour.specs.Predecessors.{intoBy};
-
-const NONE: u16 = 65535;
 
 // The predecessors, and what begins the first ranking: the same as working predecessors, and 1 for each arc that stands.
 pub(crate) struct Begun {
@@ -44,7 +43,7 @@ pub(crate) fn pred_round<'a>(
         let at = 2 * (v as usize);
         let x = pred_in(parent, &child, &first, v);
         let y = pred_out(parent, &first, v);
-        let z = values::choose(parent[v as usize] != NONE, 1, 0);
+        let z = values::choose(parent[v as usize] != ABSENT, 1, 0);
         new_pred[at] = x;
         new_pred[at + 1] = y;
         new_jump[at] = x;
@@ -83,8 +82,8 @@ fn pred_in<'a>(parent: &'a [u16], child: &'a [u16], first: &'a [u16], v: u16) ->
 {
     let at = v as usize;
     let p = parent[at];
-    let starts = values::both(tables::at(parent, p) == NONE, tables::at(child, p) == v);
-    values::choose(values::both(p != NONE, !starts), first[2 * at], NONE)
+    let starts = values::both(tables::at(parent, p) == ABSENT, tables::at(child, p) == v);
+    values::choose(values::both(p != ABSENT, !starts), first[2 * at], ABSENT)
 }
 
 // Of the arc out of `v`.
@@ -93,5 +92,5 @@ fn pred_out<'a>(parent: &'a [u16], first: &'a [u16], v: u16) -> u16
     ensures { λ r. ⌜ r ≡ predOut (now (parent .entry)) (now (first .entry)) v ⌝ }
 {
     let at = v as usize;
-    values::choose(parent[at] != NONE, first[2 * at + 1], NONE)
+    values::choose(parent[at] != ABSENT, first[2 * at + 1], ABSENT)
 }

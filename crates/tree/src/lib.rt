@@ -1,5 +1,6 @@
 // Stage 2, tree: breadth first. One pass over the links gives each unit its candidate, one over the units both tables and the end.
 use state::Clock;
+use table::ABSENT;
 use values::bounds;
 use values::tables;
 ghost use mathlib.Core.Path.{_≡_};
@@ -16,8 +17,6 @@ ghost use Rattle.rules.specs.TreeLaws.{visitsBy, parentBy, distBy};
 ghost use Rattle.machine.specs.StageRun.{stageRun};
 ghost use Rattle.tree.specs.Chosen.{offersIf};
 ghost use Rattle.tree.specs.Rounds.{on, one};
-
-const ABSENT: u16 = 65535;
 
 // The tables of the stage, the clock, and the rounds made.
 pub struct Ran {

@@ -1,12 +1,11 @@
 // The first item with a key, by buckets: one pass over the items, then a read for each key.
 use super::tables;
+use table::ABSENT;
 ghost use mathlib.Core.Path.{_≡_};
 ghost use Prim.Native.Nat.{ℕ, _<_};
 ghost use lib.ListN.{getD};
 ghost use Rattle.rules.specs.Buckets.{BUCKETS, lookup};
 ghost use Rattle.rules.specs.FirstLaws.{firstAt};
-
-const ABSENT: u16 = 65535;
 
 // For each key below 512 the first of `count` items that has it.
 pub fn firsts(count: u16, key: &[u16]) -> [u16; 512]
