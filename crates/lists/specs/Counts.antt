@@ -143,7 +143,3 @@ count-one n p j l e = (λ c k m f. only c k m f (decLt k j) (decLt j k), count-a
 -- a turn of a loop that counts
 pub count-more : (n : ℕ) (p : ℕ → Bool) (k new x : ℕ) → k ≡ count n p → x ≡ cond (p n) 1 0 → new ≡ k + x → new ≡ count (n + 1) p
 count-more n p k new x was is put = rw (put, was, is, add-one)
-
--- such a loop's end
-pub count-all : (i n : ℕ) (p : ℕ → Bool) → i ≤ n → n ≤ i → count i p ≡ count n p
-count-all i n p l g = rw (le-antisymm l g)

@@ -66,10 +66,6 @@ ended budget s₀ made s g h =
     let e : s .clock .stage ≡ FINISHED = omega (arith, k .to) in
     g .left ∙ ran-finished (budget - made) made s (eq-eqb (s .clock .stage) FINISHED e)
 
--- a stage up to the tenth is not the end
-pub open-at : (s : State) (k : ℕ) → k ≤ 10 → s .clock .stage ≡ k → s .clock .stage ≡ FINISHED → ⊥
-open-at s k h e f = omega arith
-
 -- what is at least m and not m is above it
 pub above : (k m : ℕ) → m ≤ k → (k ≡ m → ⊥) → suc m ≤ k
 above k m h n = omega arith

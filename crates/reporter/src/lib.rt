@@ -33,7 +33,7 @@ pub fn report_on_words(input: &[u8], out: &mut [u8]) -> u32
     ensures count { λ r. ⌜ r ≡ laidCount (printed (now (input .entry))) (length (now (out .entry))) ⌝ }
     ensures bytes { λ _. ⌜ now (out .exit) ≡ laidOver (printed (now (input .entry))) (now (out .entry)) ⌝ }
 {
-    if MAX_INPUT < input.len() {
+    if input.len() > MAX_INPUT {
         return refusal(1, out);
     }
     let mut words: [u16; 2048] = [0; 2048];

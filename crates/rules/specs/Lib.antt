@@ -24,7 +24,6 @@ pub mod FirstLaws
 pub mod CountLaws
 pub mod OrderLaws
 pub mod LabelsLaws
-pub mod AuxLaws
 pub mod TourLaws
 pub mod NextLaws
 pub mod RangeLaws

@@ -4,7 +4,6 @@ ghost use mathlib.Core.Bool.{cond, _&&_, _||_};
 ghost use Prim.Native.Nat.{_+_, _-_, _/_, min, max};
 ghost use Rattle.lists.specs.Scatter.{opOf};
 
-pub mod arcs;
 pub mod bounds;
 pub mod counts;
 pub mod firsts;
@@ -123,11 +122,4 @@ pub fn bounded_sum(x: u16, y: u16) -> u16
     ensures { λ r. ⌜ r ≡ min (x + y) 2048 ⌝ }
 {
     bounded(x as u32 + y as u32)
-}
-
-// A word as an index.
-pub fn index(x: u16) -> usize
-    ensures { λ r. ⌜ r ≡ x ⌝ }
-{
-    x as usize
 }
