@@ -3,3 +3,4 @@ pub mod Begun
 pub mod FieldLaws
 pub mod CopyLaws
 pub mod Rows
+pub mod SameWords

@@ -11,12 +11,12 @@ use Rattle.rules.specs.Bounds.{nameOk, numberOk, distOk}
 use Rattle.machine.specs.WellFormed.{entriesOk}
 use Rattle.words.specs.Layout.{extent, place, part, field, stateOf}
 
-two-parts : (at n m : ℕ) (ws : List ℕ) → part at (n + m) ws ≡ part at n ws ++ part (at + n) m ws
+pub two-parts : (at n m : ℕ) (ws : List ℕ) → part at (n + m) ws ≡ part at n ws ++ part (at + n) m ws
 unfolding part
 two-parts at n m ws = take-add n m (drop at ws) ∙ ap (λ (l : List ℕ). take n (drop at ws) ++ take m l) (drop-drop n at ws)
 
 -- tables in a row, from a place on
-abbrev row : ℕ → List ℕ → List ℕ → List (List ℕ)
+abbrev pub row : ℕ → List ℕ → List ℕ → List (List ℕ)
 row at [] ws = []
 row at (n ∷ ns) ws = part at n ws ∷ row (at + n) ns ws
 
