@@ -2,6 +2,7 @@
 
 use crate::random::Random;
 use crate::sites::{Site, any_site};
+use crate::words::State;
 use crate::{ABSENT, MAX_INPUT, Survey};
 
 /// The line of a frame, whatever its bytes are.
@@ -224,26 +225,20 @@ pub fn spoil_words(random: &mut Random, words: &mut [u16]) {
 }
 
 /// A state that may be anything, and the name of its kind.
-pub fn any_words(random: &mut Random) -> (&'static str, Vec<u16>) {
+pub fn any_words(random: &mut Random) -> (&'static str, Box<State>) {
     let kept = |random: &mut Random| crate::states::any_kept(random).to_words();
     match random.below(16) {
-        0..=4 => ("state after a load", crate::states::reached(random).to_words()),
-        5..=9 => ("kept state", kept(random)),
-        10..=12 => {
+        0..=5 => ("state after a load", crate::states::reached(random).to_words()),
+        6..=10 => ("kept state", kept(random)),
+        11..=13 => {
             let mut words = kept(random);
-            spoil_words(random, &mut words);
+            spoil_words(random, &mut words[..]);
             ("state with words changed", words)
         }
-        13 => {
+        14 => {
             let word = random.pick(&[0, 0, 1, 11, ABSENT]);
-            ("state of one word", vec![word; Survey::WORDS])
+            ("state of one word", Box::new([word; Survey::WORDS]))
         }
-        14 => ("state of random words", (0..Survey::WORDS).map(|_| random.word()).collect()),
-        _ => {
-            let mut words = kept(random);
-            let length = random.pick(&[0, 1, 2, 2050, Survey::WORDS - 1, Survey::WORDS + 1, 2 * Survey::WORDS]);
-            words.resize(length, 0);
-            ("state of another length", words)
-        }
+        _ => ("state of random words", Box::new(std::array::from_fn(|_| random.word()))),
     }
 }

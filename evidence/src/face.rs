@@ -1,50 +1,50 @@
-//! The proved library through its C face. A slice goes over as its pointer and its length.
+//! The proved library through its C face. A slice goes over as its pointer and its length, an array of fixed size as its pointer.
 
-use crate::words::Calls;
+use crate::words::{Calls, LinkReply, State, StatusReply, UnitReply};
 
 unsafe extern "C" {
     fn link_survey_report(input: *const u8, input_len: usize, out: *mut u8, out_len: usize) -> u32;
-    fn link_survey_load(state: *mut u16, state_len: usize, units: u16, table: *const u16, table_len: usize) -> u32;
-    fn link_survey_round(state: *mut u16, state_len: usize) -> u32;
-    fn link_survey_run(state: *mut u16, state_len: usize, budget: u16, reply: *mut u16, reply_len: usize) -> u32;
-    fn link_survey_status(state: *const u16, state_len: usize, reply: *mut u16, reply_len: usize) -> u32;
-    fn link_survey_unit(state: *const u16, state_len: usize, unit: u16, reply: *mut u16, reply_len: usize) -> u32;
-    fn link_survey_link(state: *const u16, state_len: usize, position: u16, reply: *mut u16, reply_len: usize) -> u32;
-    fn link_survey_state_report(state: *const u16, state_len: usize, out: *mut u8, out_len: usize) -> u32;
+    fn link_survey_load(state: *mut u16, units: u16, table: *const u16, table_len: usize) -> u32;
+    fn link_survey_round(state: *mut u16) -> u32;
+    fn link_survey_run(state: *mut u16, budget: u16, made: *mut u16) -> u32;
+    fn link_survey_status(state: *const u16, reply: *mut u16) -> u32;
+    fn link_survey_unit(state: *const u16, unit: u16, reply: *mut u16) -> u32;
+    fn link_survey_link(state: *const u16, position: u16, reply: *mut u16) -> u32;
+    fn link_survey_state_report(state: *const u16, out: *mut u8, out_len: usize) -> u32;
 }
 
-// Each call is lent whole slices, with their true lengths, and keeps none of them.
+// Each call is lent whole arrays, and whole slices with their true lengths, and keeps none of them.
 
 pub fn report(input: &[u8], out: &mut [u8]) -> u32 {
     unsafe { link_survey_report(input.as_ptr(), input.len(), out.as_mut_ptr(), out.len()) }
 }
 
-pub fn load(state: &mut [u16], units: u16, table: &[u16]) -> u32 {
-    unsafe { link_survey_load(state.as_mut_ptr(), state.len(), units, table.as_ptr(), table.len()) }
+pub fn load(state: &mut State, units: u16, table: &[u16]) -> u32 {
+    unsafe { link_survey_load(state.as_mut_ptr(), units, table.as_ptr(), table.len()) }
 }
 
-pub fn round(state: &mut [u16]) -> u32 {
-    unsafe { link_survey_round(state.as_mut_ptr(), state.len()) }
+pub fn round(state: &mut State) -> u32 {
+    unsafe { link_survey_round(state.as_mut_ptr()) }
 }
 
-pub fn run(state: &mut [u16], budget: u16, reply: &mut [u16]) -> u32 {
-    unsafe { link_survey_run(state.as_mut_ptr(), state.len(), budget, reply.as_mut_ptr(), reply.len()) }
+pub fn run(state: &mut State, budget: u16, made: &mut u16) -> u32 {
+    unsafe { link_survey_run(state.as_mut_ptr(), budget, made) }
 }
 
-pub fn status(state: &[u16], reply: &mut [u16]) -> u32 {
-    unsafe { link_survey_status(state.as_ptr(), state.len(), reply.as_mut_ptr(), reply.len()) }
+pub fn status(state: &State, reply: &mut StatusReply) -> u32 {
+    unsafe { link_survey_status(state.as_ptr(), reply.as_mut_ptr()) }
 }
 
-pub fn unit(state: &[u16], unit: u16, reply: &mut [u16]) -> u32 {
-    unsafe { link_survey_unit(state.as_ptr(), state.len(), unit, reply.as_mut_ptr(), reply.len()) }
+pub fn unit(state: &State, unit: u16, reply: &mut UnitReply) -> u32 {
+    unsafe { link_survey_unit(state.as_ptr(), unit, reply.as_mut_ptr()) }
 }
 
-pub fn link(state: &[u16], position: u16, reply: &mut [u16]) -> u32 {
-    unsafe { link_survey_link(state.as_ptr(), state.len(), position, reply.as_mut_ptr(), reply.len()) }
+pub fn link(state: &State, position: u16, reply: &mut LinkReply) -> u32 {
+    unsafe { link_survey_link(state.as_ptr(), position, reply.as_mut_ptr()) }
 }
 
-pub fn state_report(state: &[u16], out: &mut [u8]) -> u32 {
-    unsafe { link_survey_state_report(state.as_ptr(), state.len(), out.as_mut_ptr(), out.len()) }
+pub fn state_report(state: &State, out: &mut [u8]) -> u32 {
+    unsafe { link_survey_state_report(state.as_ptr(), out.as_mut_ptr(), out.len()) }
 }
 
 pub const PROVED: Calls = Calls { report, load, round, run, status, unit, link, state_report };

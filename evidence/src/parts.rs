@@ -1,6 +1,7 @@
 //! The state as words: its parts in order, each with its name and what its entries are.
 
 use crate::Survey;
+use crate::words::State;
 use std::slice::{from_mut, from_ref};
 
 /// What an entry is, and so which bound it has in a kept state.
@@ -68,24 +69,20 @@ impl Survey {
         parts!(self, from_mut, as_flattened_mut, &mut)
     }
 
-    /// The state that these words are; none where they are too few or too many.
-    pub fn from_words(words: &[u16]) -> Option<Survey> {
-        if words.len() != Survey::WORDS {
-            return None;
-        }
+    /// The state that these words are.
+    pub fn from_words(words: &State) -> Survey {
         let mut survey = Survey::new();
-        let mut rest = words;
+        let mut rest = &words[..];
         for (_, _, part) in survey.parts_mut() {
             let (front, later) = rest.split_at(part.len());
             part.copy_from_slice(front);
             rest = later;
         }
-        Some(survey)
+        survey
     }
 
-    /// Writes the words over a slice of their number.
-    pub fn write_words(&self, words: &mut [u16]) {
-        let mut rest = words;
+    pub fn write_words(&self, words: &mut State) {
+        let mut rest = &mut words[..];
         for (_, _, part) in self.parts() {
             let (front, later) = rest.split_at_mut(part.len());
             front.copy_from_slice(part);
@@ -93,8 +90,8 @@ impl Survey {
         }
     }
 
-    pub fn to_words(&self) -> Vec<u16> {
-        let mut words = vec![0; Survey::WORDS];
+    pub fn to_words(&self) -> Box<State> {
+        let mut words = Box::new([0; Survey::WORDS]);
         self.write_words(&mut words);
         words
     }

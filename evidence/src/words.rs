@@ -1,19 +1,29 @@
-//! The calls on lent words, as the C face has them: the number of the refusal, 0 where there is none. A state slice of a length
-//! that no state has is refused with 10.
+//! The calls on lent words, as the C face has them: the number of the refusal, 0 where there is none. A state and a reply are arrays
+//! of their fixed size; a report goes to the front of a slice.
 
 use crate::{Refusal, Survey, report_of_file};
+
+/// The words of a state, in the order of `Survey::parts`.
+pub type State = [u16; Survey::WORDS];
+
+/// Stage, countdown, all rounds, requests.
+pub type StatusReply = [u16; 4];
+/// Unit, colour, parent, place, single.
+pub type UnitReply = [u16; 5];
+/// Position, label, lone.
+pub type LinkReply = [u16; 3];
 
 /// One side's calls.
 #[derive(Clone, Copy)]
 pub struct Calls {
     pub report: fn(&[u8], &mut [u8]) -> u32,
-    pub load: fn(&mut [u16], u16, &[u16]) -> u32,
-    pub round: fn(&mut [u16]) -> u32,
-    pub run: fn(&mut [u16], u16, &mut [u16]) -> u32,
-    pub status: fn(&[u16], &mut [u16]) -> u32,
-    pub unit: fn(&[u16], u16, &mut [u16]) -> u32,
-    pub link: fn(&[u16], u16, &mut [u16]) -> u32,
-    pub state_report: fn(&[u16], &mut [u8]) -> u32,
+    pub load: fn(&mut State, u16, &[u16]) -> u32,
+    pub round: fn(&mut State) -> u32,
+    pub run: fn(&mut State, u16, &mut u16) -> u32,
+    pub status: fn(&State, &mut StatusReply) -> u32,
+    pub unit: fn(&State, u16, &mut UnitReply) -> u32,
+    pub link: fn(&State, u16, &mut LinkReply) -> u32,
+    pub state_report: fn(&State, &mut [u8]) -> u32,
 }
 
 pub const PLAIN: Calls = Calls { report, load, round, run, status, unit, link, state_report };
@@ -25,25 +35,14 @@ fn number(answer: Result<(), Refusal>) -> u32 {
     }
 }
 
-fn state_of(words: &[u16]) -> Result<Survey, Refusal> {
-    Survey::from_words(words).ok_or(Refusal::NotKept)
-}
-
-/// A reply goes to the front of the slice, whole or not at all.
-fn put<const WORDS: usize>(reply: &mut [u16], values: [u16; WORDS]) -> Result<(), Refusal> {
-    reply.first_chunk_mut().map(|front| *front = values).ok_or(Refusal::TooShort)
-}
-
 /// The characters written; 0, and nothing written, where the slice is too short.
 pub fn report(input: &[u8], out: &mut [u8]) -> u32 {
     report_of_file(input, out) as u32
 }
 
-pub fn load(state: &mut [u16], units: u16, table: &[u16]) -> u32 {
+/// Refused with 4 to 9.
+pub fn load(state: &mut State, units: u16, table: &[u16]) -> u32 {
     number((|| {
-        if state.len() != Survey::WORDS {
-            return Err(Refusal::NotKept);
-        }
         let mut survey = Survey::new();
         survey.load(units, table)?;
         survey.write_words(state);
@@ -51,50 +50,54 @@ pub fn load(state: &mut [u16], units: u16, table: &[u16]) -> u32 {
     })())
 }
 
-pub fn round(state: &mut [u16]) -> u32 {
+/// Refused with 10, 11.
+pub fn round(state: &mut State) -> u32 {
     number((|| {
-        let mut survey = state_of(state)?;
+        let mut survey = Survey::from_words(state);
         survey.round()?;
         survey.write_words(state);
         Ok(())
     })())
 }
 
-/// Reply: the rounds made.
-pub fn run(state: &mut [u16], budget: u16, reply: &mut [u16]) -> u32 {
+/// The rounds made go to `made`. Refused with 10, 11.
+pub fn run(state: &mut State, budget: u16, made: &mut u16) -> u32 {
     number((|| {
-        let mut survey = state_of(state)?;
-        let made = survey.run(budget)?;
-        put(reply, [made])?;
+        let mut survey = Survey::from_words(state);
+        *made = survey.run(budget)?;
         survey.write_words(state);
         Ok(())
     })())
 }
 
-/// Reply: stage, countdown, all rounds, requests.
-pub fn status(state: &[u16], reply: &mut [u16]) -> u32 {
+/// Refused with 10.
+pub fn status(state: &State, reply: &mut StatusReply) -> u32 {
     number((|| {
-        let status = state_of(state)?.status()?;
-        put(reply, [status.stage, status.countdown, status.rounds, status.requests])
+        let status = Survey::from_words(state).status()?;
+        *reply = [status.stage, status.countdown, status.rounds, status.requests];
+        Ok(())
     })())
 }
 
-/// Reply: unit, colour, parent, place, single.
-pub fn unit(state: &[u16], unit: u16, reply: &mut [u16]) -> u32 {
+/// Refused with 10, 12, 13.
+pub fn unit(state: &State, unit: u16, reply: &mut UnitReply) -> u32 {
     number((|| {
-        let answer = state_of(state)?.unit(unit)?;
-        put(reply, [answer.unit, answer.color, answer.parent, answer.place, u16::from(answer.single)])
+        let answer = Survey::from_words(state).unit(unit)?;
+        *reply = [answer.unit, answer.color, answer.parent, answer.place, u16::from(answer.single)];
+        Ok(())
     })())
 }
 
-/// Reply: position, label, lone.
-pub fn link(state: &[u16], position: u16, reply: &mut [u16]) -> u32 {
+/// Refused with 10, 12, 13.
+pub fn link(state: &State, position: u16, reply: &mut LinkReply) -> u32 {
     number((|| {
-        let answer = state_of(state)?.link(position)?;
-        put(reply, [answer.position, answer.label, u16::from(answer.lone)])
+        let answer = Survey::from_words(state).link(position)?;
+        *reply = [answer.position, answer.label, u16::from(answer.lone)];
+        Ok(())
     })())
 }
 
-pub fn state_report(state: &[u16], out: &mut [u8]) -> u32 {
-    number((|| state_of(state)?.report(out).map(|_| ()))())
+/// Refused with 10, 12, 14.
+pub fn state_report(state: &State, out: &mut [u8]) -> u32 {
+    number(Survey::from_words(state).report(out).map(|_| ()))
 }

@@ -89,9 +89,7 @@ fn words_there_and_back() {
     for case in 0..100 {
         let survey = any_kept(&mut Random::new(4, case));
         let words = survey.to_words();
-        assert_eq!(words.len(), Survey::WORDS);
-        same(&Survey::from_words(&words).unwrap(), &survey, "words");
-        assert_eq!(Survey::from_words(&words[1..]), None);
+        same(&Survey::from_words(&words), &survey, "words");
         assert_eq!((words[0], words[1], words[2050], words[2053]), (survey.units, survey.links, survey.stage, survey.requests));
     }
 }
@@ -108,7 +106,7 @@ fn every_entry_is_judged() {
         for out in [if requests { 8159 } else { 2049 }, 65534] {
             let mut words = words.clone();
             words[i] = out;
-            assert!(!Survey::from_words(&words).unwrap().kept(), "word {i} = {out}");
+            assert!(!Survey::from_words(&words).kept(), "word {i} = {out}");
         }
     }
 }

@@ -74,8 +74,7 @@ fn depths(meter: &mut Meter, calls: &Calls, site: &Site) -> [usize; 8] {
     let mut file = vec![0; file_length(site.links())];
     write_file(site.units, &site.table, &mut file).expect("a site passes the checks");
     let mut out = vec![0; report_length(usize::from(site.units), site.links())];
-    let mut state = vec![0; Survey::WORDS];
-    let mut reply = [0; 5];
+    let mut state = Box::new([0; Survey::WORDS]);
     let mut number = 0;
 
     let report = meter.depth(|| number = (calls.report)(&file, &mut out));
@@ -84,26 +83,26 @@ fn depths(meter: &mut Meter, calls: &Calls, site: &Site) -> [usize; 8] {
     assert_eq!(number, 0);
     let first = state.clone();
     let run = meter.depth(|| {
-        state.copy_from_slice(&first);
-        number = (calls.run)(&mut state, u16::MAX, &mut reply);
+        state.copy_from_slice(&first[..]);
+        number = (calls.run)(&mut state, u16::MAX, &mut 0);
     });
     assert_eq!(number, 0);
-    let status = meter.depth(|| number = (calls.status)(&state, &mut reply));
+    let status = meter.depth(|| number = (calls.status)(&state, &mut [0; 4]));
     assert_eq!(number, 0);
-    let unit = meter.depth(|| number = (calls.unit)(&state, 0, &mut reply));
+    let unit = meter.depth(|| number = (calls.unit)(&state, 0, &mut [0; 5]));
     assert_eq!(number, 0);
-    let link = meter.depth(|| number = (calls.link)(&state, 0, &mut reply));
+    let link = meter.depth(|| number = (calls.link)(&state, 0, &mut [0; 3]));
     assert_eq!(number, 0);
     let state_report = meter.depth(|| number = (calls.state_report)(&state, &mut out));
     assert_eq!(number, 0);
 
     let mut round = 0;
-    state.copy_from_slice(&first);
+    state.copy_from_slice(&first[..]);
     let mut before = first;
     while number == 0 {
-        before.copy_from_slice(&state);
+        before.copy_from_slice(&state[..]);
         round = round.max(meter.depth(|| {
-            state.copy_from_slice(&before);
+            state.copy_from_slice(&before[..]);
             number = (calls.round)(&mut state);
         }));
     }

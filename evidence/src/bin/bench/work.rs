@@ -3,7 +3,7 @@
 use plain::face::PROVED;
 use plain::random::Random;
 use plain::sites::{Site, ladder, path, ring, scattered, star};
-use plain::words::{Calls, PLAIN};
+use plain::words::{Calls, PLAIN, State};
 use plain::{Survey, file_length, report_length, report_of_file, write_file};
 
 #[derive(Clone, Copy, PartialEq, Eq)]
@@ -64,7 +64,7 @@ impl Bench {
     /// Surveys the site once, with its memory moved by some places.
     pub fn once(&mut self, side: Side, work: Work, shift: usize) {
         let out = &mut self.out[shift..shift + self.length];
-        let state = &mut self.state[shift..shift + Survey::WORDS];
+        let state = self.state[shift..].first_chunk_mut().expect("room for a state");
         let done = match (work, side) {
             (Work::Words, Side::Plain) => {
                 let survey = &mut self.survey;
@@ -98,8 +98,6 @@ impl Bench {
     }
 }
 
-fn called(calls: &Calls, site: &Site, state: &mut [u16], out: &mut [u8]) -> bool {
-    (calls.load)(state, site.units, &site.table) == 0
-        && (calls.run)(state, u16::MAX, &mut [0]) == 0
-        && (calls.state_report)(state, out) == 0
+fn called(calls: &Calls, site: &Site, state: &mut State, out: &mut [u8]) -> bool {
+    (calls.load)(state, site.units, &site.table) == 0 && (calls.run)(state, u16::MAX, &mut 0) == 0 && (calls.state_report)(state, out) == 0
 }

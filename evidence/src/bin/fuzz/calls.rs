@@ -3,17 +3,17 @@
 use crate::lent::Lent;
 use plain::Survey;
 use plain::face::PROVED;
-use plain::words::PLAIN;
+use plain::words::{LinkReply, PLAIN, State, StatusReply, UnitReply};
 
-/// A call on a state, with the slice for its reply as it is lent.
+/// A call on a state, with the memory for its reply as it is lent.
 #[derive(Clone, Debug)]
 pub enum Call {
     Load { units: u16, table: Vec<u16> },
     Round,
-    Run { budget: u16, reply: Vec<u16> },
-    Status { reply: Vec<u16> },
-    Unit { unit: u16, reply: Vec<u16> },
-    Link { position: u16, reply: Vec<u16> },
+    Run { budget: u16, made: u16 },
+    Status { reply: StatusReply },
+    Unit { unit: u16, reply: UnitReply },
+    Link { position: u16, reply: LinkReply },
     Report { out: Vec<u8> },
 }
 
@@ -39,7 +39,7 @@ fn agree(proved: u32, plain: u32) -> Result<u32, String> {
     if proved == plain { Ok(plain) } else { Err(format!("returned: proved {proved}, plain {plain}")) }
 }
 
-pub fn lent_state(words: &[u16]) -> Lent<u16> {
+pub fn lent_state(words: &State) -> Lent<u16> {
     Lent::new(words, WORD_MARGIN)
 }
 
@@ -48,29 +48,37 @@ pub fn both(state: &mut Lent<u16>, call: &Call) -> Result<u32, String> {
     let number = match call {
         Call::Load { units, table } => {
             let mut table = Lent::new(table, WORD_MARGIN);
-            let proved = (PROVED.load)(state.proved(), *units, table.proved());
-            let plain = (PLAIN.load)(state.plain(), *units, table.plain());
+            let proved = (PROVED.load)(state.proved_array(), *units, table.proved());
+            let plain = (PLAIN.load)(state.plain_array(), *units, table.plain());
             let number = agree(proved, plain)?;
             table.difference("table")?;
             Ok(number)
         }
-        Call::Round => agree((PROVED.round)(state.proved()), (PLAIN.round)(state.plain())),
-        Call::Run { budget, reply } => {
-            replied(reply, |lent| ((PROVED.run)(state.proved(), *budget, lent.proved()), (PLAIN.run)(state.plain(), *budget, lent.plain())))
-        }
-        Call::Status { reply } => {
-            replied(reply, |lent| ((PROVED.status)(state.proved(), lent.proved()), (PLAIN.status)(state.plain(), lent.plain())))
-        }
-        Call::Unit { unit, reply } => {
-            replied(reply, |lent| ((PROVED.unit)(state.proved(), *unit, lent.proved()), (PLAIN.unit)(state.plain(), *unit, lent.plain())))
-        }
+        Call::Round => agree((PROVED.round)(state.proved_array()), (PLAIN.round)(state.plain_array())),
+        Call::Run { budget, made } => replied(&[*made], |lent| {
+            let proved = (PROVED.run)(state.proved_array(), *budget, &mut lent.proved()[0]);
+            let plain = (PLAIN.run)(state.plain_array(), *budget, &mut lent.plain()[0]);
+            (proved, plain)
+        }),
+        Call::Status { reply } => replied(reply, |lent| {
+            let proved = (PROVED.status)(state.proved_array(), lent.proved_array());
+            let plain = (PLAIN.status)(state.plain_array(), lent.plain_array());
+            (proved, plain)
+        }),
+        Call::Unit { unit, reply } => replied(reply, |lent| {
+            let proved = (PROVED.unit)(state.proved_array(), *unit, lent.proved_array());
+            let plain = (PLAIN.unit)(state.plain_array(), *unit, lent.plain_array());
+            (proved, plain)
+        }),
         Call::Link { position, reply } => replied(reply, |lent| {
-            ((PROVED.link)(state.proved(), *position, lent.proved()), (PLAIN.link)(state.plain(), *position, lent.plain()))
+            let proved = (PROVED.link)(state.proved_array(), *position, lent.proved_array());
+            let plain = (PLAIN.link)(state.plain_array(), *position, lent.plain_array());
+            (proved, plain)
         }),
         Call::Report { out } => {
             let mut out = Lent::new(out, BYTE_MARGIN);
-            let proved = (PROVED.state_report)(state.proved(), out.proved());
-            let plain = (PLAIN.state_report)(state.plain(), out.plain());
+            let proved = (PROVED.state_report)(state.proved_array(), out.proved());
+            let plain = (PLAIN.state_report)(state.plain_array(), out.plain());
             let number = agree(proved, plain)?;
             out.difference("report")?;
             Ok(number)
@@ -80,6 +88,7 @@ pub fn both(state: &mut Lent<u16>, call: &Call) -> Result<u32, String> {
     Ok(number)
 }
 
+/// A call with a reply, which is lent with its margins.
 fn replied(reply: &[u16], call: impl FnOnce(&mut Lent<u16>) -> (u32, u32)) -> Result<u32, String> {
     let mut lent = Lent::new(reply, WORD_MARGIN);
     let (proved, plain) = call(&mut lent);

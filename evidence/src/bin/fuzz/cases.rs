@@ -7,7 +7,7 @@ use plain::damage::{any_file, any_words, spoil_site};
 use plain::random::Random;
 use plain::sites::any_site;
 use plain::states::{any_kept, loaded};
-use plain::{Survey, report_length, report_of_file};
+use plain::{report_length, report_of_file};
 
 /// The place of the stage among the words of a state.
 const STAGE: usize = 2050;
@@ -26,17 +26,13 @@ fn some_length(random: &mut Random, needed: usize) -> usize {
     }
 }
 
-fn words(random: &mut Random, length: usize) -> Vec<u16> {
-    (0..length).map(|_| random.word()).collect()
+/// An array with anything in it, for a reply.
+fn reply<const WORDS: usize>(random: &mut Random) -> [u16; WORDS] {
+    std::array::from_fn(|_| random.word())
 }
 
 fn bytes(random: &mut Random, length: usize) -> Vec<u8> {
     (0..length).map(|_| random.word() as u8).collect()
-}
-
-fn reply(random: &mut Random, needed: usize) -> Vec<u16> {
-    let length = some_length(random, needed);
-    words(random, length)
 }
 
 fn budget(random: &mut Random) -> u16 {
@@ -63,13 +59,13 @@ fn number(random: &mut Random, count: u16) -> u16 {
 
 /// Any call but a load, with numbers that fit the state's counts, whatever these are.
 fn any_call(random: &mut Random, state: &[u16]) -> Call {
-    let (units, links) = (state.first().copied().unwrap_or(0), state.get(1).copied().unwrap_or(0));
+    let (units, links) = (state[0], state[1]);
     match random.below(7) {
         0 => Call::Round,
-        1 | 2 => Call::Run { budget: budget(random), reply: reply(random, 1) },
-        3 => Call::Status { reply: reply(random, 4) },
-        4 => Call::Unit { unit: number(random, units), reply: reply(random, 5) },
-        5 => Call::Link { position: number(random, links), reply: reply(random, 3) },
+        1 | 2 => Call::Run { budget: budget(random), made: random.word() },
+        3 => Call::Status { reply: reply(random) },
+        4 => Call::Unit { unit: number(random, units), reply: reply(random) },
+        5 => Call::Link { position: number(random, links), reply: reply(random) },
         _ => {
             let needed = report_length(usize::from(units), usize::from(links)).min(MOST);
             let length = some_length(random, needed);
@@ -139,7 +135,7 @@ fn load(random: &mut Random, tally: &mut Tally) -> Result<(), String> {
 fn state(random: &mut Random, tally: &mut Tally) -> Result<(), String> {
     let (kind, words) = any_words(random);
     tally.kind(kind);
-    let call = any_call(random, &words);
+    let call = any_call(random, &words[..]);
     one_call(tally, &mut lent_state(&words), &call)
 }
 
@@ -162,6 +158,5 @@ fn list(random: &mut Random, tally: &mut Tally) -> Result<(), String> {
         }
         one_call(tally, &mut state, &call)?;
     }
-    debug_assert_eq!(state.before().len(), Survey::WORDS);
     Ok(())
 }

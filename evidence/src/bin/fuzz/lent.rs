@@ -32,6 +32,15 @@ impl<T: Copy + PartialEq + Debug> Lent<T> {
         Lent::inner(&mut self.plain)
     }
 
+    /// What was lent, as an array of its size.
+    pub fn proved_array<const N: usize>(&mut self) -> &mut [T; N] {
+        self.proved().try_into().expect("as long as the array")
+    }
+
+    pub fn plain_array<const N: usize>(&mut self) -> &mut [T; N] {
+        self.plain().try_into().expect("as long as the array")
+    }
+
     pub fn before(&self) -> &[T] {
         &self.before[MARGIN..self.before.len() - MARGIN]
     }
