@@ -39,8 +39,12 @@ unfoldable pub toHeads : ℕ → ℕ → List ℕ → List ℕ → List ℕ → 
 toHeads zero n heads said t = t
 toHeads (suc k) n heads said t = takesIn min n (toHeads k n heads said t) (at heads k) (at said k)
 
+-- what the head of unit u tells it
+abbrev pub byHead : List ℕ → List ℕ → ℕ → ℕ
+byHead heads said u = at said (at heads u)
+
 -- ---- a round
 
--- what it leaves of unit v: what v took in, as a link's end and as others' head, and what its own head says; roots are absent
-abbrev pub leastOf : List ℕ → List ℕ → List ℕ → List ℕ → ℕ → ℕ
-leastOf parent heads said t v = cond (isRoot parent v) ABSENT (min (at t v) (at said (at heads v)))
+-- what it leaves of unit v: what v took in, as a link's end and as others' head, and what it was told by its own head; roots are absent
+abbrev pub leastOf : List ℕ → List ℕ → List ℕ → ℕ → ℕ
+leastOf parent told t v = cond (isRoot parent v) ABSENT (min (at t v) (at told v))

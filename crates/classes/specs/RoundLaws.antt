@@ -24,7 +24,7 @@ use Rattle.rules.specs.Fits.{EndsWithin}
 use Rattle.rules.specs.ComponentsLaws.{over-said}
 use Rattle.rules.specs.Aux.{heardOver, leastJoined, auxSaid, auxRound}
 use Rattle.classes.specs.Absorbed.{least-alike, least-aside}
-use Rattle.classes.specs.Propagation.{saidBy, heardIf, overLinks, Heads, toHeads, leastOf}
+use Rattle.classes.specs.Propagation.{saidBy, heardIf, overLinks, Heads, toHeads, byHead, leastOf}
 use Rattle.classes.specs.HeadLaws.{to-over}
 
 -- a link of a and b: x and y are their values, x′ and y′ what they say, and it is known of each end whether it is a root and whether it is v
@@ -126,14 +126,14 @@ module _ (n : ℕ) (parent value : List ℕ) (long : n ≤ length value) where
               rw (h, e) (marked (either (isRoot parent (at parent v))) (rw h at (by .exist v here)))
 
 -- as the loops leave it, of what the units say in any round
-pub heads-round : (n m made : ℕ) (ends parent links marks color value heads said t : List ℕ) → value ≡ auxSaid n made color → n ≤ length value
+pub heads-round : (n m made : ℕ) (ends parent links marks color value heads said told t : List ℕ) → value ≡ auxSaid n made color → n ≤ length value
     → EndsWithin n m ends → Heads n parent marks heads → ((i : ℕ) → at value i ≤ ABSENT)
     → said ≡ over n (saidBy parent value) value
-    → t ≡ toHeads n n heads said (over n (overLinks m ends links said) said)
-    → over n (leastOf parent heads said t) value ≡ auxRound n m made ends parent links marks color
+    → t ≡ toHeads n n heads said (over n (overLinks m ends links said) said) → ((u : ℕ) → u < n → at told u ≡ byHead heads said u)
+    → over n (leastOf parent told t) value ≡ auxRound n m made ends parent links marks color
 unfolding auxRound leastJoined overLinks
-heads-round n m made ends parent links marks color value heads said t from long within by words is was =
-    over-cong-in 0 n (leastOf parent heads said t) (leastJoined n m ends parent links marks value) value
+heads-round n m made ends parent links marks color value heads said told t from long within by words is was tells =
+    over-cong-in 0 n (leastOf parent told t) (leastJoined n m ends parent links marks value) value
     (λ (v : ℕ) (h : v < n) (l : v < length value). go v h (either (isRoot parent v)))
     ∙ rw from (over-said (eqb made 0) n (leastJoined n m ends parent links marks (auxSaid n made color)) color)
   where
@@ -171,6 +171,6 @@ heads-round n m made ends parent links marks color value heads said t from long 
         ap (λ (x : ℕ). min z x) (rw is (other-alike n parent value long v h e (words v) marks heads by u l ne))) in
         rw (read v h, linked) all
 
-    go : (v : ℕ) → v < n → (isRoot parent v ≡ true) ⊎ (isRoot parent v ≡ false) → leastOf parent heads said t v ≡ leastJoined n m ends parent links marks value v
+    go : (v : ℕ) → v < n → (isRoot parent v ≡ true) ⊎ (isRoot parent v ≡ false) → leastOf parent told t v ≡ leastJoined n m ends parent links marks value v
     go v h (inl e) = rw e
-    go v h (inr e) = rw e (unit v h e)
+    go v h (inr e) = rw (e, tells v h) (unit v h e)

@@ -80,6 +80,6 @@ fn round<'a>(
     let said = heads::without_roots(units, parent, value);
     let mut heard = said;
     links::propagate(units, links, ends, linked, &said, &mut heard);
-    heads::propagate(units, heads, &said, &mut heard);
-    heads::least(units, parent, heads, &said, &heard, value)
+    let told = heads::propagate(units, heads, &said, &mut heard);
+    heads::least(units, parent, &told, &heard, value)
 }

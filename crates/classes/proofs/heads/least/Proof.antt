@@ -1,8 +1,7 @@
 -- Unit by unit.
 use mathlib.Core.Path.{_≡_, refl, _∙_}
-use Prim.Native.Nat.{_≤_, _<_, _-_}
-use native.Mathlib.Omega.{arith}
-use lib.ListN.{length, getD}
+use Prim.Native.Nat.{_≤_, _-_}
+use lib.ListN.{length}
 use Rattle.lists.specs.Tables.{over}
 use Rattle.lists.specs.Rounds.{over-more, over-all}
 use Rattle.classes.specs.Propagation.{leastOf}
@@ -11,31 +10,16 @@ use Rattle.classes.proofs.heads.least.Statement.{statement}
 use Rattle.classes.proofs.heads.least.Tie as tie
 
 abbrev Inv-loop : tie.InvT-loop
-Inv-loop units parent heads said t new₀ v₀ new v = (v ≤ units) × (length new ≡ 256) × (new ≡ over v (leastOf parent heads said t) new₀)
+Inv-loop units parent told t new₀ v₀ new v = (v ≤ units) × (length new ≡ 256) × (new ≡ over v (leastOf parent told t) new₀)
 
 abbrev μ-loop : tie.MeasureT-loop
-μ-loop units parent heads said t new₀ v₀ new v = units - v
-
--- a unit's head exists
-head : (c : tie.After-head Inv-loop μ-loop) → getD (c .before .before .before .args .heads .now) (c .before .before .loop .v) 0 < 256
-head c =
-    let p = c .before .before .before .pre in
-    omega (arith, p .0, p .1 (c .before .before .loop .v) (c .before .loop-test .taken))
+μ-loop units parent told t new₀ v₀ new v = units - v
 
 loop-holds : tie.Need-loop-holds Inv-loop μ-loop
 loop-holds c = search needs
 
 cast-at : tie.Need-cast-at Inv-loop μ-loop
 cast-at c = search needs
-
-mul-head : tie.Need-mul-head Inv-loop μ-loop
-mul-head c = search needs
-
-element-copy-out-head : tie.Need-element-copy-out-head Inv-loop μ-loop
-element-copy-out-head c = search needs
-
-cast-head : tie.Need-cast-head Inv-loop μ-loop
-cast-head c = search (head c, needs)
 
 mul-least-of : tie.Need-mul-least-of Inv-loop μ-loop
 mul-least-of c = search needs
@@ -44,10 +28,10 @@ element-copy-out-least-of : tie.Need-element-copy-out-least-of Inv-loop μ-loop
 element-copy-out-least-of c = search needs
 
 mul-least-of-2 : tie.Need-mul-least-of-2 Inv-loop μ-loop
-mul-least-of-2 c = search (head (c .before), needs)
+mul-least-of-2 c = search needs
 
 element-copy-out-least-of-2 : tie.Need-element-copy-out-least-of-2 Inv-loop μ-loop
-element-copy-out-least-of-2 c = search (head (c .before), needs)
+element-copy-out-least-of-2 c = search needs
 
 least-of-requires : tie.Need-least-of-requires Inv-loop μ-loop
 least-of-requires c κs = search needs
@@ -75,9 +59,9 @@ loop-less c = search needs
 
 loop-again : tie.Need-loop-again Inv-loop μ-loop
 loop-again c =
-    let s = c .before .before .before .before .before .before .before in
+    let s = c .before .before .before .before .before .before in
     let a = s .before .args in
-    let is : c .choose .result ≡ leastOf (a .parent .now) (a .heads .now) (a .said .now) (a .t .now) (s .loop .v) = cc in
+    let is : c .choose .result ≡ leastOf (a .parent .now) (a .told .now) (a .t .now) (s .loop .v) = cc in
     (search needs, search needs, over-more _ _ _ _ _ _ (s .loop .inv .2) is refl)
 
 returns : tie.Need-returns Inv-loop μ-loop
@@ -91,9 +75,6 @@ least-spec =
     μ-loop
     loop-holds
     cast-at
-    mul-head
-    element-copy-out-head
-    cast-head
     mul-least-of
     element-copy-out-least-of
     mul-least-of-2
