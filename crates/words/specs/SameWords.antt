@@ -75,12 +75,14 @@ unfolding wordsOf stateOf part
 words-back ws e =
     of-two (field 0 ws) (field 1 ws ++ (clock ++ rest)) (part-long (place 0) 2 ws (omega (arith, e)))
     ∙ (ap (λ (l : List ℕ). field 0 ws ++ (field 1 ws ++ l)) (of-four (field 2 ws) rest (part-long (place 2) 4 ws (omega (arith, e))))
-      ∙ (row-joined 0 sizes ws ∙ whole))
+    ∙ (row-joined 0 sizes ws ∙ whole))
   where
     clock : List ℕ
     clock = getD (field 2 ws) 0 0 ∷ getD (field 2 ws) 1 0 ∷ getD (field 2 ws) 2 0 ∷ getD (field 2 ws) 3 0 ∷ []
+
     rest : List ℕ
     rest = joined (row (place 3) (drop 3 sizes) ws)
+
     whole : part 0 STATE-WORDS ws ≡ ws
     whole = take-all STATE-WORDS ws (omega (arith, e))
 

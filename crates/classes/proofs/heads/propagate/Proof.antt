@@ -83,23 +83,28 @@ loop-less : tie.Need-loop-less Inv-loop μ-loop
 loop-less c = search needs
 
 loop-again : tie.Need-loop-again Inv-loop μ-loop
-loop-again c = 
+loop-again c =
     let i = c .before .before .before .before .before in
     let s = i .before in
     let b = s .before .before in
     let a = b .args in
-    let low = b .pre .1 (s .loop .u) (i .loop-test .taken) in
-    (search needs, search needs, search needs, to-more (a .units) (a .heads .now) (a .said .now) (s .loop .u) _ _ _ (s .loop .inv .3) low (rw (c .least-of .ensures)),
-    over-more _ _ _ _ _ _ (s .loop .inv .4) refl refl)
+    let low = b .pre .1 (s .loop .u) (i .loop-test .taken) in (
+      search needs,
+      search needs,
+      search needs,
+      to-more (a .units) (a .heads .now) (a .said .now) (s .loop .u) _ _ _ (s .loop .inv .3) low (rw (c .least-of .ensures)),
+      over-more _ _ _ _ _ _ (s .loop .inv .4) refl refl,
+    )
 
 returns : tie.Need-returns Inv-loop μ-loop
-returns c = 
+returns c =
     let s = c .before in
     let b = s .before .before in
     let a = b .args in
-    let all = le-antisymm (s .loop .inv .0) (c .loop-test .left) in
-    (rw all at (s .loop .inv .3),
-    λ u h. rw (s .loop .inv .4) (getD-over (s .loop .u) (byHead (a .heads .now) (a .said .now)) _ u 0 (omega (arith, h, c .loop-test .left)) (omega (arith, h, b .pre .0, s .loop .inv .1))))
+    let all = le-antisymm (s .loop .inv .0) (c .loop-test .left) in (
+      rw all at (s .loop .inv .3),
+      λ u h. rw (s .loop .inv .4) (getD-over (s .loop .u) (byHead (a .heads .now) (a .said .now)) _ u 0 (omega (arith, h, c .loop-test .left)) (omega (arith, h, b .pre .0, s .loop .inv .1))),
+    )
 
 pub propagate-spec : {M : Type 1} → statement M
 propagate-spec =
