@@ -24,8 +24,8 @@
  * - The number that comes back is one of enum link_survey_refusal, LINK_SURVEY_DONE (0) where the call was not refused
  *   (link_survey_report alone gives a number of bytes). A function looks for its refusals in the order in which they
  *   are listed, and gives the first that applies.
- * - On a refusal nothing that was lent is altered. Else only what is listed as altered is; bytes past what is written
- *   stay.
+ * - On a refusal nothing that was lent is altered. Else only what is listed as altered is; words and bytes past what is
+ *   written stay.
  */
 #ifndef LINK_SURVEY_H
 #define LINK_SURVEY_H
@@ -33,15 +33,15 @@
 #include <stddef.h>
 #include <stdint.h>
 
-/* The version of these declarations: it grows with each change that a caller must follow. */
-#define LINK_SURVEY_VERSION 2
+/* The version of these declarations: it grows with each change. 3 has link_survey_read and link_survey_write. */
+#define LINK_SURVEY_VERSION 3
 
 /*
- * The words of a state, lent by the caller to every call but link_survey_report: units, links, the ends of the links
- * (2,048); stage, rounds made in the stage, all rounds, requests; then the tables of the stages, each whole, in the
- * order of crates/words/specs/Layout.antt. Any words are a state. One whose words are out of their bounds is "not
- * kept", and refused with 10 by all calls but link_survey_load. Before the first load the words may hold anything; all
- * zeros are not kept.
+ * The words of a state, lent by the caller to every call on a state (all but link_survey_report, link_survey_read and
+ * link_survey_write): units, links, the ends of the links (2,048); stage, rounds made in the stage, all rounds,
+ * requests; then the tables of the stages, each whole, in the order of crates/words/specs/Layout.antt. Any words are a
+ * state. One whose words are out of their bounds is "not kept", and refused with 10 by all calls on a state but
+ * link_survey_load. Before the first load the words may hold anything; all zeros are not kept.
  */
 #define LINK_SURVEY_STATE_WORDS 11014
 
@@ -59,18 +59,25 @@
 #define LINK_SURVEY_REPORT_BYTES(n, m) (26u + 23u * (n) + 15u * (m))
 #define LINK_SURVEY_MAX_REPORT_BYTES 21274
 
+/* The bytes of a survey file: of m links, and at most. */
+#define LINK_SURVEY_FILE_BYTES(m) (18u + 13u * (m))
+#define LINK_SURVEY_MAX_FILE_BYTES 13330
+
 /* "Absent": the parent of a root. */
 #define LINK_SURVEY_ABSENT 65535
 
-/* Document 01's numbers of the refusals. 15 to 23 are free; take any number but 0 for a refusal. */
+/*
+ * Document 01's numbers of the refusals: 1 to 3 and 6 of reading a file, 4 to 9 of loading or writing a table, 10 to 13
+ * of the calls on a state, 14 of whatever writes to a slice. 15 to 23 are free; take any number but 0 for a refusal.
+ */
 enum link_survey_refusal {
     LINK_SURVEY_DONE = 0,            /* not refused */
-    LINK_SURVEY_FAULTY_LINE = 1,     /* a line of the file is faulty, or the file has more than 65,535 bytes */
+    LINK_SURVEY_FAULTY_LINE = 1,     /* a line of the file is faulty (or a file for a report is above 65,535 bytes) */
     LINK_SURVEY_OUT_OF_ORDER = 2,    /* the lines are not one 01, any number of 02, one 0F */
     LINK_SURVEY_COUNT_DIFFERS = 3,   /* the 0F line does not give the number of 02 lines */
     LINK_SURVEY_BAD_UNIT_COUNT = 4,  /* the unit count is 0 or above 256 */
     LINK_SURVEY_ODD_WORDS = 5,       /* the table has an odd number of words */
-    LINK_SURVEY_TOO_MANY_LINKS = 6,  /* there are more than 1,024 links */
+    LINK_SURVEY_TOO_MANY_LINKS = 6,  /* the table or the file has more than 1,024 links */
     LINK_SURVEY_END_MISSING = 7,     /* an end is no unit */
     LINK_SURVEY_EQUAL_ENDS = 8,      /* a link has equal ends */
     LINK_SURVEY_REPEATED_LINK = 9,   /* two links join the same two units, whichever way round */
@@ -78,7 +85,7 @@ enum link_survey_refusal {
     LINK_SURVEY_AT_END = 11,         /* a round or run is wanted of a finished survey */
     LINK_SURVEY_BEFORE_END = 12,     /* a question or report is wanted before the end */
     LINK_SURVEY_NO_SUCH_NAME = 13,   /* the unit or position does not exist */
-    LINK_SURVEY_TOO_SHORT = 14       /* the slice for the report is too short */
+    LINK_SURVEY_TOO_SHORT = 14       /* the slice for a report, a file or the ends of a file's links is too short */
 };
 
 /* The stages. */
@@ -134,6 +141,29 @@ extern "C" {
  *          LINK_SURVEY_MAX_REPORT_BYTES are always enough.
  */
 uint32_t link_survey_report(const uint8_t *in, size_t in_len, uint8_t *out, size_t out_len);
+
+/*
+ * Read a survey file into words, for link_survey_load. No state is used.
+ *
+ * in       the file's frames, one a line; of any length.
+ * table    altered: the two ends of each link, 2 words a link, at its front. 2 * LINK_SURVEY_MAX_LINKS words are always
+ *          enough.
+ * units    altered: the number of units, as the file says and not judged (link_survey_load does that).
+ * links    altered: the number of links. The table to load has 2 words for each; units and links are two words.
+ * returns  1, 2, 3, 6, 14, or 0.
+ */
+uint32_t link_survey_read(const uint8_t *in, size_t in_len, uint16_t *table, size_t table_len, uint16_t *units,
+                          uint16_t *links);
+
+/*
+ * Write the survey file of a table, line feeds included. No state is used.
+ *
+ * units    the number of units, 1 to 256.
+ * table    the two ends of each link, as for link_survey_load.
+ * out      altered: LINK_SURVEY_FILE_BYTES(m) bytes at its front, for the m links of the table.
+ * returns  4, 5, 6, 7, 8, 9, 14, or 0.
+ */
+uint32_t link_survey_write(uint16_t units, const uint16_t *table, size_t table_len, uint8_t *out, size_t out_len);
 
 /*
  * Load a table and begin its survey: stage 1, no round made.

@@ -1,5 +1,6 @@
 // The calls on a state in words that the caller lends (words/specs/Layout.antt). A number that comes back is document 01's number of the refusal, 0 where
 // the call was not refused; on a refusal nothing lent is altered.
+mod file_calls;
 mod questions;
 
 use words::STATE_WORDS;
@@ -8,6 +9,8 @@ ghost use lib.ListN.{length};
 ghost use Rattle.machine.specs.Calls.{numberOf, loadAnswer, statusAnswer, unitAnswer, linkAnswer, reportAnswer, reported};
 ghost use Rattle.words.specs.Layout.{stateOf};
 ghost use Rattle.lent.specs.Face.{said};
+pub use file_calls::read;
+pub use file_calls::write;
 pub use stepper::round;
 pub use stepper::run;
 

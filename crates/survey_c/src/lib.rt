@@ -8,7 +8,9 @@ ghost use lib.ListN.{length};
 ghost use Rattle.machine.specs.Run.{ran};
 ghost use Rattle.machine.specs.Calls.{numberOf, loadAnswer, roundRefusal, roundAnswer, runAnswer, statusAnswer, unitAnswer, linkAnswer, reportAnswer, reported};
 ghost use Rattle.words.specs.Layout.{stateOf};
+ghost use Rattle.files.specs.File.{linesOf, unitsIn, linkFrames, readRefusal, readWords, writeRefusal, writtenFile};
 ghost use Rattle.lent.specs.Face.{said};
+ghost use Rattle.lent.specs.FileFace.{wordSaid};
 ghost use Rattle.reporter.specs.Printed.{printed, laidOver, laidCount};
 
 // No state: what the program prints for the bytes of a file, at the front of `out`, and the number of bytes; nothing and 0 where `out` is too short.
@@ -95,4 +97,31 @@ pub extern "C" fn link_survey_state_report(state: &[u16; STATE_WORDS], out: &mut
     ensures bytes { λ _. ⌜ now (out .exit) ≡ reported (stateOf (now (state .entry))) (now (out .entry)) ⌝ }
 {
     lent::report(state, out)
+}
+
+// No state: the ends of a file to the front of `table`, its unit count and its number of links: 1, 2, 3, 6, 14.
+#[no_mangle]
+pub extern "C" fn link_survey_read(
+    input: &[u8],
+    table: &mut [u16],
+    units: &mut u16,
+    links: &mut u16,
+) -> u32
+    ensures number { λ r. ⌜ r ≡ readRefusal (linesOf (now (input .entry))) (length (now (table .entry))) ⌝ }
+    ensures words { λ _. ⌜ now (table .exit) ≡ readWords (now (input .entry)) (now (table .entry)) ⌝ }
+    ensures units { λ _. ⌜ now (units .exit)
+        ≡ wordSaid (readRefusal (linesOf (now (input .entry))) (length (now (table .entry)))) (unitsIn (linesOf (now (input .entry)))) (now (units .entry)) ⌝ }
+    ensures links { λ _. ⌜ now (links .exit)
+        ≡ wordSaid (readRefusal (linesOf (now (input .entry))) (length (now (table .entry)))) (linkFrames (linesOf (now (input .entry)))) (now (links .entry)) ⌝ }
+{
+    lent::read(input, table, units, links)
+}
+
+// No state: the file of a unit count and a table at the front of `out`: 4 to 9, 14.
+#[no_mangle]
+pub extern "C" fn link_survey_write(units: u16, table: &[u16], out: &mut [u8]) -> u32
+    ensures number { λ r. ⌜ r ≡ writeRefusal units (now (table .entry)) (length (now (out .entry))) ⌝ }
+    ensures bytes { λ _. ⌜ now (out .exit) ≡ writtenFile units (now (table .entry)) (now (out .entry)) ⌝ }
+{
+    lent::write(units, table, out)
 }

@@ -1,0 +1,40 @@
+// Survey files in memory that the caller lends: no state plays a part. A number that comes back is document 01's number of the refusal, 0 where the call
+// was not refused; on a refusal nothing lent is altered.
+ghost use mathlib.Core.Path.{_≡_};
+ghost use lib.ListN.{length};
+ghost use Rattle.files.specs.File.{linesOf, unitsIn, linkFrames, readRefusal, readWords, writeRefusal, writtenFile};
+ghost use Rattle.lent.specs.FileFace.{wordSaid};
+use files::Reading;
+use files::Writing;
+
+// A file's ends to the front of `words`, its unit count and its number of links: 1, 2, 3, 6, 14. Words past the last end stay.
+pub fn read(file: &[u8], words: &mut [u16], units: &mut u16, links: &mut u16) -> u32
+    ensures number { λ r. ⌜ r ≡ readRefusal (linesOf (now (file .entry))) (length (now (words .entry))) ⌝ }
+    ensures words { λ _. ⌜ now (words .exit) ≡ readWords (now (file .entry)) (now (words .entry)) ⌝ }
+    ensures units { λ _. ⌜ now (units .exit)
+        ≡ wordSaid (readRefusal (linesOf (now (file .entry))) (length (now (words .entry)))) (unitsIn (linesOf (now (file .entry)))) (now (units .entry)) ⌝ }
+    ensures links { λ _. ⌜ now (links .exit)
+        ≡ wordSaid (readRefusal (linesOf (now (file .entry))) (length (now (words .entry)))) (linkFrames (linesOf (now (file .entry)))) (now (links .entry)) ⌝ }
+{
+    let found = files::read(file, words);
+    match found {
+        Reading::Refused(number) => number as u32,
+        Reading::Read { units: n, links: m } => {
+            *units = n;
+            *links = m;
+            0
+        }
+    }
+}
+
+// The file of a unit count and a table at the front of `out`: 4 to 9, 14. Bytes past it stay.
+pub fn write(units: u16, words: &[u16], out: &mut [u8]) -> u32
+    ensures number { λ r. ⌜ r ≡ writeRefusal units (now (words .entry)) (length (now (out .entry))) ⌝ }
+    ensures bytes { λ _. ⌜ now (out .exit) ≡ writtenFile units (now (words .entry)) (now (out .entry)) ⌝ }
+{
+    let done = files::write(units, words, out);
+    match done {
+        Writing::Refused(number) => number as u32,
+        Writing::Written(_) => 0,
+    }
+}
