@@ -1,0 +1,180 @@
+"""The examples in C against the proved library: python3 tools/test_examples.py
+
+Builds the archive by `rt staticlib survey_c` where it is missing or older than the crates, then the examples. What cannot be run for want of `rt` or
+of a compiler is skipped, and said so.
+"""
+import glob
+import os
+import re
+import shutil
+import subprocess
+import tempfile
+import unittest
+
+ROOT = os.path.dirname(os.path.dirname(os.path.abspath(__file__)))
+EXAMPLES = os.path.join(ROOT, "examples")
+VECTORS = os.path.join(ROOT, "crates", "vector_check", "data")
+ARCHIVE = os.path.join(ROOT, "target", "staticlib", "libsurvey_c.a")
+WARNINGS = ["-Wall", "-Wextra", "-Wpedantic", "-Werror"]
+
+# document 01's case B: the rounds of stages 1 to 10 are 3, 4, 2, 4, 2, 4, 3, 1, 2, 2, of ceilings 4, 5, 2, 4, 2, 4, 3, 1, 3, 2
+CASE_B = """\
+4 units, 4 links
+round   0  countdown  30  colour
+round   3  countdown  26  tree
+round   7  countdown  21  tour
+round   9  countdown  19  first ranking
+round  13  countdown  15  marks
+round  15  countdown  13  second ranking
+round  19  countdown   9  least and greatest
+round  22  countdown   6  joins
+round  23  countdown   5  classes
+round  25  countdown   2  labels
+round  27  countdown   0  finished
+unit 2 is a single point: without it, others lose each other
+link 3, between units 2 and 3, is lone: no ring backs it up
+"""
+
+
+def contents(path):
+    with open(path, encoding="utf-8") as file:
+        return file.read()
+
+
+def example(name):
+    return os.path.join(EXAMPLES, name)
+
+
+def compilers(*names):
+    return [name for name in names if shutil.which(name)]
+
+
+def newest_source():
+    found = [os.path.join(ROOT, "crates.txt")]
+    for folder in "src", "specs", "proofs":
+        found += glob.glob(os.path.join(ROOT, "crates", "*", folder, "**", "*.*"), recursive=True)
+    return max(map(os.path.getmtime, found))
+
+
+def archive():
+    """Makes the archive where it is missing or older than a source."""
+    if os.path.exists(ARCHIVE) and os.path.getmtime(ARCHIVE) >= newest_source():
+        return
+    if not shutil.which("rt"):
+        raise unittest.SkipTest("the archive is missing or old, and there is no rt to make it")
+    made = subprocess.run(["rt", "staticlib", "survey_c"], cwd=ROOT, capture_output=True, text=True, check=False)
+    if made.returncode != 0:
+        raise AssertionError("rt staticlib survey_c failed:\n" + made.stdout[-2000:] + made.stderr[-2000:])
+    # rt leaves an archive that is still right as it was
+    os.utime(ARCHIVE)
+
+
+class Programs(unittest.TestCase):
+    @classmethod
+    def setUpClass(cls):
+        found = compilers("cc", "gcc", "clang")
+        if not found:
+            raise unittest.SkipTest("there is no C compiler")
+        archive()
+        folder = tempfile.TemporaryDirectory()
+        cls.addClassCleanup(folder.cleanup)
+        cls.folder = folder.name
+        for name in "case_b", "handset":
+            command = [found[0], "-std=c99", *WARNINGS, "-I" + os.path.join(ROOT, "include"), example(name + ".c"), ARCHIVE]
+            built = subprocess.run(command + ["-o", os.path.join(cls.folder, name)], capture_output=True, text=True, check=False)
+            if built.returncode != 0:
+                raise AssertionError(f"{name}.c:\n{built.stderr}")
+
+    def made(self, name, *arguments, given=b""):
+        """The exit status of a program, and what it wrote to its output and to its error output."""
+        command = [os.path.join(self.folder, name), *arguments]
+        done = subprocess.run(command, input=given, capture_output=True, timeout=60, check=False)
+        return done.returncode, done.stdout.decode(), done.stderr.decode()
+
+    def test_case_b(self):
+        self.assertEqual(self.made("case_b"), (0, "27 rounds\nunit 2 is a single point\n", ""))
+
+    def test_handset(self):
+        printed = CASE_B + contents(example("case-b.report.txt"))
+        self.assertEqual(self.made("handset", example("case-b.txt")), (0, printed, ""))
+        with open(example("case-b.txt"), "rb") as file:
+            self.assertEqual(self.made("handset", given=file.read()), (0, printed, ""))
+
+    def test_no_lone_link(self):
+        status, printed, _ = self.made("handset", example("case-e.txt"))
+        self.assertEqual(status, 0)
+        self.assertIn("unit 2 is a single point", printed)
+        self.assertIn("there is no lone link\n" + contents(example("case-e.report.txt")), printed)
+
+    def test_nothing_weak(self):
+        status, printed, _ = self.made("handset", given=b"010001FE\n0F0000F1\n")
+        self.assertEqual(status, 0)
+        self.assertIn("there is no single point\nthere is no lone link\n", printed)
+        self.assertIn("round   0  countdown  16  colour\n", printed)
+
+    def test_every_round(self):
+        """-v shows each round once; the countdown falls to 0; where a stage begins the line is the one shown without -v."""
+        status, printed, _ = self.made("handset", "-v", example("case-b.txt"))
+        self.assertEqual(status, 0)
+        shown = re.findall(r"(?m)^round +(\d+)  countdown +(\d+)  ", printed)
+        self.assertEqual([int(rounds) for rounds, _ in shown], list(range(28)))
+        countdowns = [int(countdown) for _, countdown in shown]
+        self.assertEqual(countdowns, sorted(set(countdowns), reverse=True))
+        self.assertEqual(countdowns[-1], 0)
+        for line in CASE_B.splitlines():
+            self.assertIn(line + "\n", printed)
+
+    def test_vectors(self):
+        """The report of each file, or the number of its refusal with words."""
+        found = sorted(glob.glob(os.path.join(VECTORS, "*.in")))
+        self.assertTrue(found)
+        for path in found:
+            with self.subTest(os.path.basename(path)):
+                expected = contents(path[:-3] + ".out")
+                status, printed, told = self.made("handset", path)
+                if expected.startswith("1E"):
+                    self.assertEqual((status, printed), (1, ""))
+                    self.assertRegex(told, rf"\Arefused, number {int(expected[2:4], 16)}: \w.+\n\Z")
+                else:
+                    self.assertEqual((status, told), (0, ""))
+                    self.assertTrue(printed.endswith("\n" + expected))
+
+    def test_too_long(self):
+        status, printed, told = self.made("handset", given=b"0200000001FD\n" * 5042)
+        self.assertEqual((status, printed), (1, ""))
+        self.assertIn("refused, number 1:", told)
+
+    def test_command(self):
+        self.assertEqual(self.made("handset", os.path.join(self.folder, "missing"))[0], 2)
+        self.assertEqual(self.made("handset", "a", "b")[0], 2)
+
+
+class Texts(unittest.TestCase):
+    def test_manual(self):
+        listings = re.findall(r"(?ms)^```c\n(.*?)^```$", contents(os.path.join(ROOT, "docs", "MANUAL.md")))
+        self.assertEqual(listings, [contents(example("case_b.c"))])
+
+    def test_warnings_in_c(self):
+        self.compiled(compilers("gcc", "clang"), ["c99", "c11", "c17"], glob.glob(example("*.c")))
+
+    def test_warnings_in_cpp(self):
+        with tempfile.TemporaryDirectory() as folder:
+            source = os.path.join(folder, "header.cpp")
+            with open(source, "w", encoding="utf-8") as file:
+                file.write('#include "link_survey.h"\nunsigned file_bytes() { return LINK_SURVEY_FILE_BYTES(4u); }\n')
+                file.write("unsigned report_bytes() { return LINK_SURVEY_REPORT_BYTES(4u, 4u); }\n")
+            self.compiled(compilers("g++", "clang++"), ["c++11", "c++14", "c++17", "c++20"], [source], "-Wold-style-cast")
+
+    def compiled(self, found, standards, sources, *more):
+        if not found:
+            self.skipTest("there is no compiler for this language")
+        for compiler in found:
+            for standard in standards:
+                command = [compiler, "-std=" + standard, *WARNINGS, *more, "-I" + os.path.join(ROOT, "include"), "-fsyntax-only"]
+                with self.subTest(f"{compiler} {standard}"):
+                    done = subprocess.run(command + sources, capture_output=True, text=True, check=False)
+                    self.assertEqual((done.returncode, done.stderr), (0, ""))
+
+
+if __name__ == "__main__":
+    unittest.main()
