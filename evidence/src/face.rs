@@ -4,6 +4,8 @@ use crate::words::{Calls, LinkReply, State, StatusReply, UnitReply};
 
 unsafe extern "C" {
     fn link_survey_report(input: *const u8, input_len: usize, out: *mut u8, out_len: usize) -> u32;
+    fn link_survey_read(input: *const u8, input_len: usize, table: *mut u16, table_len: usize, units: *mut u16, links: *mut u16) -> u32;
+    fn link_survey_write(units: u16, table: *const u16, table_len: usize, out: *mut u8, out_len: usize) -> u32;
     fn link_survey_load(state: *mut u16, units: u16, table: *const u16, table_len: usize) -> u32;
     fn link_survey_round(state: *mut u16) -> u32;
     fn link_survey_run(state: *mut u16, budget: u16, made: *mut u16) -> u32;
@@ -17,6 +19,14 @@ unsafe extern "C" {
 
 pub fn report(input: &[u8], out: &mut [u8]) -> u32 {
     unsafe { link_survey_report(input.as_ptr(), input.len(), out.as_mut_ptr(), out.len()) }
+}
+
+pub fn read(input: &[u8], table: &mut [u16], units: &mut u16, links: &mut u16) -> u32 {
+    unsafe { link_survey_read(input.as_ptr(), input.len(), table.as_mut_ptr(), table.len(), units, links) }
+}
+
+pub fn write(units: u16, table: &[u16], out: &mut [u8]) -> u32 {
+    unsafe { link_survey_write(units, table.as_ptr(), table.len(), out.as_mut_ptr(), out.len()) }
 }
 
 pub fn load(state: &mut State, units: u16, table: &[u16]) -> u32 {
@@ -47,4 +57,4 @@ pub fn state_report(state: &State, out: &mut [u8]) -> u32 {
     unsafe { link_survey_state_report(state.as_ptr(), out.as_mut_ptr(), out.len()) }
 }
 
-pub const PROVED: Calls = Calls { report, load, round, run, status, unit, link, state_report };
+pub const PROVED: Calls = Calls { report, read, write, load, round, run, status, unit, link, state_report };

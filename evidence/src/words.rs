@@ -1,7 +1,7 @@
 //! The calls on lent words, as the C face has them: the number of the refusal, 0 where there is none. A state and a reply are arrays
-//! of their fixed size; a report goes to the front of a slice.
+//! of their fixed size; a report, a file or the ends of a file's links go to the front of a slice.
 
-use crate::{Refusal, Survey, report_of_file};
+use crate::{Refusal, Survey, read_file, report_of_file, write_file};
 
 /// The words of a state, in the order of `Survey::parts`.
 pub type State = [u16; Survey::WORDS];
@@ -17,6 +17,8 @@ pub type LinkReply = [u16; 3];
 #[derive(Clone, Copy)]
 pub struct Calls {
     pub report: fn(&[u8], &mut [u8]) -> u32,
+    pub read: fn(&[u8], &mut [u16], &mut u16, &mut u16) -> u32,
+    pub write: fn(u16, &[u16], &mut [u8]) -> u32,
     pub load: fn(&mut State, u16, &[u16]) -> u32,
     pub round: fn(&mut State) -> u32,
     pub run: fn(&mut State, u16, &mut u16) -> u32,
@@ -26,7 +28,7 @@ pub struct Calls {
     pub state_report: fn(&State, &mut [u8]) -> u32,
 }
 
-pub const PLAIN: Calls = Calls { report, load, round, run, status, unit, link, state_report };
+pub const PLAIN: Calls = Calls { report, read, write, load, round, run, status, unit, link, state_report };
 
 fn number(answer: Result<(), Refusal>) -> u32 {
     match answer {
@@ -38,6 +40,20 @@ fn number(answer: Result<(), Refusal>) -> u32 {
 /// The characters written; 0, and nothing written, where the slice is too short.
 pub fn report(input: &[u8], out: &mut [u8]) -> u32 {
     report_of_file(input, out) as u32
+}
+
+/// The unit count and the number of links go to words of their own. Refused with 1, 2, 3, 6, 14.
+pub fn read(input: &[u8], table: &mut [u16], units: &mut u16, links: &mut u16) -> u32 {
+    number((|| {
+        let contents = read_file(input, table)?;
+        (*units, *links) = (contents.units, contents.links);
+        Ok(())
+    })())
+}
+
+/// Refused with 4 to 9, 14.
+pub fn write(units: u16, table: &[u16], out: &mut [u8]) -> u32 {
+    number(write_file(units, table, out).map(|_| ()))
 }
 
 /// Refused with 4 to 9.

@@ -67,10 +67,10 @@ impl Meter {
     }
 }
 
-const CALLS: [&str; 8] = ["report", "load", "round", "run", "status", "unit", "link", "state_report"];
+const CALLS: [&str; 10] = ["report", "read", "write", "load", "round", "run", "status", "unit", "link", "state_report"];
 
 /// The deepest that each call goes on one site: round by round, and at the end.
-fn depths(meter: &mut Meter, calls: &Calls, site: &Site) -> [usize; 8] {
+fn depths(meter: &mut Meter, calls: &Calls, site: &Site) -> [usize; 10] {
     let mut file = vec![0; file_length(site.links())];
     write_file(site.units, &site.table, &mut file).expect("a site passes the checks");
     let mut out = vec![0; report_length(usize::from(site.units), site.links())];
@@ -79,6 +79,12 @@ fn depths(meter: &mut Meter, calls: &Calls, site: &Site) -> [usize; 8] {
 
     let report = meter.depth(|| number = (calls.report)(&file, &mut out));
     assert_eq!(number as usize, out.len());
+    let mut words = vec![0; site.table.len()];
+    let read = meter.depth(|| number = (calls.read)(&file, &mut words, &mut 0, &mut 0));
+    assert_eq!(number, 0);
+    assert_eq!(words, site.table);
+    let write = meter.depth(|| number = (calls.write)(site.units, &site.table, &mut file));
+    assert_eq!(number, 0);
     let load = meter.depth(|| number = (calls.load)(&mut state, site.units, &site.table));
     assert_eq!(number, 0);
     let first = state.clone();
@@ -107,14 +113,14 @@ fn depths(meter: &mut Meter, calls: &Calls, site: &Site) -> [usize; 8] {
         }));
     }
     assert_eq!(number, 11);
-    [report, load, round, run, status, unit, link, state_report]
+    [report, read, write, load, round, run, status, unit, link, state_report]
 }
 
 pub fn print() {
     println!("Deepest stack in bytes, to the next 16, over the largest sites and, for a round, over all their rounds.\n");
     println!("{:14}{:>10}{:>20}", "call", "proved", "plain on words");
     let mut meter = Meter::new();
-    let mut most = [[0; 8]; 2];
+    let mut most = [[0; 10]; 2];
     for shape in LARGEST {
         let site = site(shape, 256).expect("a shape");
         for (most, calls) in most.iter_mut().zip([PROVED, PLAIN]) {

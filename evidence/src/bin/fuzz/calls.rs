@@ -109,6 +109,34 @@ pub fn both_report(input: &[u8], out: &[u8]) -> Result<(u32, Vec<u8>), String> {
     Ok((written, out.plain().to_vec()))
 }
 
+/// Reads a file into the words lent for its ends, and into one word each for the unit count and the number of links.
+pub fn both_read(input: &[u8], table: &[u16], units: u16, links: u16) -> Result<u32, String> {
+    let mut input = Lent::new(input, BYTE_MARGIN);
+    let mut table = Lent::new(table, WORD_MARGIN);
+    let mut units = Lent::new(&[units], WORD_MARGIN);
+    let mut links = Lent::new(&[links], WORD_MARGIN);
+    let proved = (PROVED.read)(input.proved(), table.proved(), &mut units.proved()[0], &mut links.proved()[0]);
+    let plain = (PLAIN.read)(input.plain(), table.plain(), &mut units.plain()[0], &mut links.plain()[0]);
+    let number = agree(proved, plain)?;
+    input.difference("input")?;
+    table.difference("table")?;
+    units.difference("units")?;
+    links.difference("links")?;
+    Ok(number)
+}
+
+/// Writes the file of a table.
+pub fn both_write(units: u16, table: &[u16], out: &[u8]) -> Result<u32, String> {
+    let mut table = Lent::new(table, WORD_MARGIN);
+    let mut out = Lent::new(out, BYTE_MARGIN);
+    let proved = (PROVED.write)(units, table.proved(), out.proved());
+    let plain = (PLAIN.write)(units, table.plain(), out.plain());
+    let number = agree(proved, plain)?;
+    table.difference("table")?;
+    out.difference("out")?;
+    Ok(number)
+}
+
 /// Names the table of a state's word.
 fn named(difference: &str) -> String {
     let at: Option<usize> = difference.strip_prefix("state[").and_then(|rest| rest.split(']').next()).and_then(|at| at.parse().ok());

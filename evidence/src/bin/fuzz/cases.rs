@@ -1,13 +1,13 @@
 //! The cases: what is lent and which calls are made.
 
-use crate::calls::{Call, both, both_report, lent_state};
+use crate::calls::{Call, both, both_read, both_report, both_write, lent_state};
 use crate::lent::Lent;
 use crate::tally::Tally;
 use plain::damage::{any_file, any_words, spoil_site};
 use plain::random::Random;
 use plain::sites::any_site;
 use plain::states::{any_kept, loaded};
-use plain::{report_length, report_of_file};
+use plain::{file_length, read_file, report_length, report_of_file};
 
 /// The place of the stage among the words of a state.
 const STAGE: usize = 2050;
@@ -33,6 +33,11 @@ fn reply<const WORDS: usize>(random: &mut Random) -> [u16; WORDS] {
 
 fn bytes(random: &mut Random, length: usize) -> Vec<u8> {
     (0..length).map(|_| random.word() as u8).collect()
+}
+
+/// Words for the ends of a file's links, as many as `some_length` says.
+fn words(random: &mut Random, needed: usize) -> Vec<u16> {
+    (0..some_length(random, needed)).map(|_| random.word()).collect()
 }
 
 fn budget(random: &mut Random) -> u16 {
@@ -92,10 +97,12 @@ fn one_call(tally: &mut Tally, state: &mut Lent<u16>, call: &Call) -> Result<(),
 
 /// Runs one case.
 pub fn run(random: &mut Random, tally: &mut Tally) -> Result<(), String> {
-    match random.below(16) {
+    match random.below(20) {
         0..=6 => file(random, tally),
-        7..=8 => load(random, tally),
-        9..=12 => state(random, tally),
+        7..=8 => read(random, tally),
+        9..=10 => write(random, tally),
+        11..=12 => load(random, tally),
+        13..=16 => state(random, tally),
         _ => list(random, tally),
     }
 }
@@ -118,6 +125,36 @@ fn file(random: &mut Random, tally: &mut Tally) -> Result<(), String> {
         }
         _ => tally.number("report", 0),
     }
+    Ok(())
+}
+
+/// A file, whole or damaged, into words that are enough, more or too few.
+fn read(random: &mut Random, tally: &mut Tally) -> Result<(), String> {
+    let (_, input) = any_file(random);
+    tally.kind("file read");
+    let needed = read_file(&input, &mut [0; 2048]).map_or(random.below(2049), |contents| 2 * usize::from(contents.links));
+    let table = words(random, needed);
+    let (units, links) = (random.word(), random.word());
+    let number = both_read(&input, &table, units, links).map_err(|difference| {
+        found(&format!("read, {} words, units {units}, links {links}", table.len()), &input.escape_ascii().to_string(), &difference)
+    })?;
+    tally.number("read", number);
+    Ok(())
+}
+
+/// A table, right or faulty, into bytes that are enough, more or too few.
+fn write(random: &mut Random, tally: &mut Tally) -> Result<(), String> {
+    let mut site = any_site(random);
+    let faulty = random.once_in(2);
+    if faulty {
+        spoil_site(random, &mut site);
+    }
+    tally.kind(if faulty { "faulty table written" } else { "table written" });
+    let length = some_length(random, file_length(site.links()));
+    let out = bytes(random, length);
+    let number = both_write(site.units, &site.table, &out)
+        .map_err(|difference| found(&format!("write, {length} bytes"), &format!("{site:?}"), &difference))?;
+    tally.number("write", number);
     Ok(())
 }
 
