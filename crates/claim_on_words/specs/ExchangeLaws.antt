@@ -1,7 +1,7 @@
 -- The contracts of `survey_c` are the relation `CallMade`: from the equations that each function ensures. A call that only reads the words leaves them as
 -- they are.
 use mathlib.Core.Path.{_≡_, refl, sym, ap, _∙_}
-use mathlib.Core.Bool.{Bool, true, false, cond}
+use mathlib.Core.Bool.{true, false, cond}
 use mathlib.Core.Logic.{_⊎_, inl, inr}
 use mathlib.Core.List.{List, [], _∷_}
 use Prim.Native.Nat.{ℕ}
@@ -13,9 +13,9 @@ use Rattle.machine.specs.Run.{ran}
 use Rattle.machine.specs.Calls.{roundRefusal, runAnswer, statusRefusal, statusAnswer, unitRefusal, unitAnswer, linkRefusal, linkAnswer, reportRefusal, reportAnswer}
 use Rattle.words.specs.Layout.{stateOf}
 use Rattle.lent.specs.Face.{said}
-use Rattle.claim.specs.Play.{Call, round, run, status, unit, link, report, answerTo}
+use Rattle.claim.specs.Play.{round, run, status, unit, link, report}
 use Rattle.claim.specs.PlayLaws.{unmoved}
-use Rattle.claim_on_words.specs.Exchange.{numberTo, stateAfter, lentAfter, madeAfter, Exchange, CallMade}
+use Rattle.claim_on_words.specs.Exchange.{numberTo, stateAfter, lentAfter, madeAfter, CallMade}
 
 -- ---- calls that change the words
 

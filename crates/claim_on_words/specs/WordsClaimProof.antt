@@ -1,21 +1,19 @@
 -- The proof of demand 3 on words: a list of calls as C makes them is a list that `play` plays, and the rounds counted are those of its replies.
 use mathlib.Core.Path.{_≡_, refl, sym, ap, ap₂, _∙_}
-use mathlib.Core.Bool.{Bool, true, false, cond}
-use mathlib.Core.Logic.{_⊎_, inl, inr, _↔_}
+use mathlib.Core.Bool.{true, false}
+use mathlib.Core.Logic.{_⊎_, inl, inr}
 use mathlib.Core.List.{List, [], _∷_, _++_}
-use Prim.Native.Nat.{ℕ, _+_, _-_, _≤_, _<_}
+use Prim.Native.Nat.{ℕ, _+_}
 use native.Mathlib.Omega.{arith}
 use lib.Dec.{eqb}
-use lib.ListN.{length, getD}
 use borrow.Author.Tests.{eq-eqb}
 use Rattle.lists.specs.Tests.{either}
-use Rattle.state.specs.declared.reply.Reply.the-variants.{Done, Status}
-use Rattle.machine.specs.State.{State, finished, FINISHED}
-use Rattle.machine.specs.Load.{Input, linksIn, loadRefusal, loaded}
+use Rattle.state.specs.declared.reply.Reply.the-variants.{Status}
+use Rattle.machine.specs.State.{State, FINISHED}
+use Rattle.machine.specs.Load.{Input, loadRefusal, loaded}
 use Rattle.machine.specs.Step.{steps, countdown}
-use Rattle.machine.specs.RunLaws.{total, steps-add, steps-finished}
-use Rattle.machine.specs.Report.{reportLength}
-use Rattle.machine.specs.Calls.{Answer, roundRefusal, runAnswer, loadAnswer, statusAnswer, reported}
+use Rattle.machine.specs.RunLaws.{steps-add, steps-finished}
+use Rattle.machine.specs.Calls.{Answer, roundRefusal, runAnswer, loadAnswer, statusAnswer}
 use Rattle.words.specs.Layout.{stateOf}
 use Rattle.lent.specs.FaceLaws.{load-number}
 use Rattle.claim.specs.Play.{Call, round, run, status, unit, link, report, answerTo, play, usedBy, used}
