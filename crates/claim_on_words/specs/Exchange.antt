@@ -35,7 +35,7 @@ lentAfter (report out) words given = sliceAfter (report out) (stateOf words)
 abbrev pub madeAfter : ℕ → List ℕ → ℕ → ℕ
 madeAfter budget words given = cond (eqb (roundRefusal (stateOf words)) 0) (ran budget 0 (stateOf words) .1) given
 
--- a call and all that C has of it: the lent memory as it was given, the number that came back, and the lent memory afterwards
+-- a call and all that C has of it: the lent memory as it was given (a report's stands in its call), the number that came back, and the lent memory afterwards
 pub record Exchange : Type 0 where
   pub call : Call
   pub given : List ℕ
