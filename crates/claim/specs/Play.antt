@@ -37,17 +37,16 @@ sliceAfter (unit v) s = []
 sliceAfter (link j) s = []
 sliceAfter (report out) s = reported s out
 
--- the last state, the replies, and the lent slices after their calls
+-- the last state, and the replies
 pub record Played : Type 0 where
   pub last : State
   pub replies : List Reply
-  pub slices : List (List ℕ)
 
 unfoldable pub play : List Call → State → Played
-play [] s = record { last = s; replies = []; slices = [] }
+play [] s = record { last = s; replies = [] }
 play (c ∷ cs) s =
     let later = play cs (answerTo c s .state) in
-    record { last = later .last; replies = answerTo c s .reply ∷ later .replies; slices = sliceAfter c s ∷ later .slices }
+    record { last = later .last; replies = answerTo c s .reply ∷ later .replies }
 
 -- ---- rounds, from the calls and the replies alone
 

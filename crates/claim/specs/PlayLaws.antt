@@ -40,7 +40,7 @@ over wanted s f = record { state = refl; going = λ i l. absurd (not-suc-le-zero
 -- ---- one call
 
 -- a call that makes no round hands the state back as it came, refused or not
-unmoved : (k : ℕ) (s : State) (r : Reply) → answered k s s r .state ≡ s
+pub unmoved : (k : ℕ) (s : State) (r : Reply) → answered k s s r .state ≡ s
 unmoved k s r = go (either (eqb k 0))
   where
     go : (eqb k 0 ≡ true) ⊎ (eqb k 0 ≡ false) → answered k s s r .state ≡ s

@@ -1,15 +1,18 @@
 -- The proved cases A to K of document 01: rows of one table, held by one theorem. Every figure stands here once, and is compared with what the
 -- definitions compute.
-use mathlib.Core.Path.{_≡_, refl}
-use mathlib.Core.Bool.{Bool, true, false, cond, _&&_}
+use mathlib.Core.Path.{_≡_, refl, ap₂}
+use mathlib.Core.Bool.{Bool, true, false, cond, _&&_, false≢true}
 use mathlib.Core.List.{List, [], _∷_, _++_}
 use Prim.Native.Nat.{ℕ, zero, suc, _+_}
 use lib.Dec.{eqb}
-use lib.ListN.{take, replicate}
+use lib.ListN.{take, drop, replicate}
+use borrow.Author.Tests.{eqb-true}
+use Rattle.lists.specs.Tests.{and-left, and-right}
 use Rattle.lists.specs.Text.{characters}
 use Rattle.table.specs.Table.{tableRefusal, endMissing, equalEnds, joinedIn, repeatedLink}
 use Rattle.numbers.specs.Lg.{lg, lgFrom}
 use Rattle.frames.specs.Frame.{lineOf, hexesOf, sumOf, checkByte}
+use Rattle.files.specs.Example.{caseB}
 use Rattle.rules.specs.Basics.{ABSENT}
 use Rattle.rules.specs.Ceilings
 use Rattle.rules.specs.Components.{leastHeard, colorRound, colorEnds}
@@ -23,7 +26,7 @@ use Rattle.rules.specs.Aux.{linkJoinsRound, joinsParent, parentJoinsRound, leas
 use Rattle.rules.specs.Labels.{namingUnit, classRound, labelOf, labelRound, lone, single}
 use Rattle.machine.specs.State.{State}
 use Rattle.machine.specs.State.{units, links, finished}
-use Rattle.machine.specs.Load.{loaded, begun, absents, zeros}
+use Rattle.machine.specs.Load.{Input, loaded, begun, absents, zeros}
 use Rattle.machine.specs.Step
 use Rattle.machine.specs.Run.{ran}
 use Rattle.machine.specs.Report.{unitSingle, linkLone, report, headLine, unitLine, linkLine, tailLine}
@@ -110,16 +113,10 @@ holdAll (c ∷ cs) = holds c && holdAll cs
 
 -- ---- the table
 
-abbrev pub cases : List Case
-cases =
-    -- A
-    site 1 [] (Rounds 16 ∷ Countdown 16 ∷ [])
-    -- B
-    ∷ site 4 (0 ∷ 1 ∷ 1 ∷ 2 ∷ 0 ∷ 2 ∷ 2 ∷ 3 ∷ [])
-    (Rounds 27
-    ∷ Countdown 30
-    ∷ Report
-    (characters "11001B0016BE\n"
+-- B, whole: its file is files/specs/Example
+abbrev pub reportB : List ℕ
+reportB =
+    characters "11001B0016BE\n"
     ++ characters "1200000000FFFF000000F0\n"
     ++ characters "12000100000000000100EC\n"
     ++ characters "12000200000000000201E9\n"
@@ -128,8 +125,20 @@ cases =
     ++ characters "130001000000EC\n"
     ++ characters "130002000000EB\n"
     ++ characters "130003000301E6\n"
-    ++ characters "1F00010001DF\n")
-    ∷ [])
+    ++ characters "1F00010001DF\n"
+
+abbrev pub siteB : Input
+siteB = record { units = 4; words = caseB }
+
+abbrev pub rowB : Case
+rowB = site 4 caseB (Rounds 27 ∷ Countdown 30 ∷ Report reportB ∷ [])
+
+abbrev pub cases : List Case
+cases =
+    -- A
+    site 1 [] (Rounds 16 ∷ Countdown 16 ∷ [])
+    -- B
+    ∷ rowB
     -- C
     ∷ site 2 (0 ∷ 1 ∷ []) (Rounds 20 ∷ Lone (0 ∷ []) ∷ Singles [] ∷ [])
     -- D
@@ -154,5 +163,42 @@ cases =
     ∷ []
 
 pub cases-hold : holdAll cases ≡ true
-unfolding tableRefusal endMissing equalEnds joinedIn repeatedLink lg lgFrom lineOf hexesOf sumOf checkByte Ceilings.countdown leastHeard colorRound colorEnds chosenParent visits parentRound distRound treeEnds leastNeighbor greaterNeighbor neighborAfter follower isStart predecessor nextRound predRound firstSums firstJumps sumRound jumpRound requestsOf rankingEnds forwardRound descendants ndRound secondSums secondJumps placeOf preRound localOf unitAt localAt globalFirst rangeFirst littleFirst bigFirst withLittle withBig rangeLater littleLater bigLater globalLater rangeEnds linkJoinsRound joinsParent parentJoinsRound leastJoined auxRound auxEnds namingUnit classRound labelOf labelRound lone single loaded begun absents zeros Step.components Step.tree Step.tourNext Step.tourPred Step.tour Step.ranking Step.marksForward Step.marksDescendants Step.marks Step.places Step.rangeBegun Step.rangeDoubled Step.range Step.auxEdges Step.auxComponents Step.labelClasses Step.labelPositions Step.labels Step.ruleEnds Step.lastRound Step.roundTables Step.roundRequests Step.nextClock Step.step ran report headLine unitLine linkLine tailLine
+unfolding caseB tableRefusal endMissing equalEnds joinedIn repeatedLink lg lgFrom lineOf hexesOf sumOf checkByte Ceilings.countdown leastHeard colorRound colorEnds chosenParent visits parentRound distRound treeEnds leastNeighbor greaterNeighbor neighborAfter follower isStart predecessor nextRound predRound firstSums firstJumps sumRound jumpRound requestsOf rankingEnds forwardRound descendants ndRound secondSums secondJumps placeOf preRound localOf unitAt localAt globalFirst rangeFirst littleFirst bigFirst withLittle withBig rangeLater littleLater bigLater globalLater rangeEnds linkJoinsRound joinsParent parentJoinsRound leastJoined auxRound auxEnds namingUnit classRound labelOf labelRound lone single loaded begun absents zeros Step.components Step.tree Step.tourNext Step.tourPred Step.tour Step.ranking Step.marksForward Step.marksDescendants Step.marks Step.places Step.rangeBegun Step.rangeDoubled Step.range Step.auxEdges Step.auxComponents Step.labelClasses Step.labelPositions Step.labels Step.ruleEnds Step.lastRound Step.roundTables Step.roundRequests Step.nextClock Step.step ran report headLine unitLine linkLine tailLine
 cases-hold = refl
+
+-- ---- a row out of the table
+
+equal-exact : (s t : List ℕ) → equal s t ≡ true → s ≡ t
+equal-exact [] [] e = refl
+equal-exact [] (y ∷ t) e = absurd (false≢true e)
+equal-exact (x ∷ s) [] e = absurd (false≢true e)
+equal-exact (x ∷ s) (y ∷ t) e =
+    ap₂ (λ (z : ℕ) (l : List ℕ). z ∷ l) (eqb-true x y (and-left (eqb x y) (equal s t) e)) (equal-exact s t (and-right (eqb x y) (equal s t) e))
+
+row-holds : (front : List Case) (c : Case) (back : List Case) → holdAll (front ++ c ∷ back) ≡ true → holds c ≡ true
+row-holds [] c back h = and-left (holds c) (holdAll back) h
+row-holds (f ∷ front) c back h = row-holds front c back (and-right (holds f) (holdAll (front ++ c ∷ back)) h)
+
+figure-shown : (s e : State) (k : ℕ) (front : List Figure) (f : Figure) (back : List Figure) → showsAll s e k (front ++ f ∷ back) ≡ true → shows s e k f ≡ true
+figure-shown s e k [] f back h = and-left (shows s e k f) (showsAll s e k back) h
+figure-shown s e k (g ∷ front) f back h = figure-shown s e k front f back (and-right (shows s e k g) (showsAll s e k (front ++ f ∷ back)) h)
+
+-- case B: its table passes, and what the definitions report of it, run with the first countdown as its budget
+parts-B : (tableRefusal 4 caseB ≡ 0) × (report (ran (Step.countdown (loaded siteB)) 0 (loaded siteB) .0) ≡ reportB)
+parts-B =
+    let s = loaded siteB in
+    let e = surveyed s .0 in
+    let k = surveyed s .1 in
+    let figures = Rounds 27 ∷ Countdown 30 ∷ Report reportB ∷ [] in
+    let passes = eqb (tableRefusal 4 caseB) 0 in
+    let row : holds rowB ≡ true = row-holds (take 1 cases) rowB (drop 2 cases) cases-hold in
+    let all : showsAll s e k figures ≡ true = and-right (passes && finished e) (showsAll s e k figures) row in (
+      eqb-true (tableRefusal 4 caseB) 0 (and-left passes (finished e) (and-left (passes && finished e) (showsAll s e k figures) row)),
+      equal-exact (report e) reportB (figure-shown s e k (Rounds 27 ∷ Countdown 30 ∷ []) (Report reportB) [] all),
+    )
+
+pub accepted-B : tableRefusal 4 caseB ≡ 0
+accepted-B = parts-B .0
+
+pub report-B : report (ran (Step.countdown (loaded siteB)) 0 (loaded siteB) .0) ≡ reportB
+report-B = parts-B .1

@@ -1,3 +1,6 @@
 pub mod Printed
 pub mod PrintedLaws
 pub mod LaidLaws
+pub mod Program
+pub mod ProgramProof
+pub mod CaseB

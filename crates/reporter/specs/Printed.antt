@@ -36,10 +36,14 @@ printedTable input =
     let whole = report (surveyed input) in
     cond (eqb (loadRefusal input) 0) whole (refusalLine (loadRefusal input))
 
+-- what a file's lines say: the unit count in its first, the ends in its 02 frames
+abbrev pub tableIn : List ℕ → Input
+tableIn file = record { units = unitsIn (linesOf file); words = endsIn (linesOf file) }
+
 -- read, or refused by 1, 2, 3 or 6
 unfoldable pub printedFile : List ℕ → List ℕ
 printedFile file =
-    let whole = printedTable (record { units = unitsIn (linesOf file); words = endsIn (linesOf file) }) in
+    let whole = printedTable (tableIn file) in
     cond (eqb (readRefusal (linesOf file) WORDS) 0) whole (refusalLine (readRefusal (linesOf file) WORDS))
 
 unfoldable pub printed : List ℕ → List ℕ

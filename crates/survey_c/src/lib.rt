@@ -2,15 +2,13 @@
 // number that comes back is document 01's number of the refusal, 0 where the call was not refused; on a refusal nothing lent is altered.
 use words::STATE_WORDS;
 ghost use mathlib.Core.Path.{_≡_};
-ghost use mathlib.Core.Bool.{cond};
-ghost use lib.Dec.{eqb};
 ghost use lib.ListN.{length};
-ghost use Rattle.machine.specs.Run.{ran};
-ghost use Rattle.machine.specs.Calls.{numberOf, loadAnswer, roundRefusal, roundAnswer, runAnswer, statusAnswer, unitAnswer, linkAnswer, reportAnswer, reported};
+ghost use Rattle.machine.specs.Calls.{numberOf, loadAnswer};
 ghost use Rattle.words.specs.Layout.{stateOf};
 ghost use Rattle.files.specs.File.{linesOf, unitsIn, linkFrames, readRefusal, readWords, writeRefusal, writtenFile};
-ghost use Rattle.lent.specs.Face.{said};
 ghost use Rattle.lent.specs.FileFace.{wordSaid};
+ghost use Rattle.claim.specs.Play;
+ghost use Rattle.claim_on_words.specs.Exchange.{numberTo, stateAfter, lentAfter, madeAfter};
 ghost use Rattle.reporter.specs.Printed.{printed, laidOver, laidCount};
 
 // No state: what the program prints for the bytes of a file, at the front of `out`, and the number of bytes; nothing and 0 where `out` is too short.
@@ -34,8 +32,8 @@ pub extern "C" fn link_survey_load(state: &mut [u16; STATE_WORDS], units: u16, t
 // One round: 10, 11.
 #[no_mangle]
 pub extern "C" fn link_survey_round(state: &mut [u16; STATE_WORDS]) -> u32
-    ensures number { λ r. ⌜ r ≡ numberOf (roundAnswer (stateOf (now (state .entry))) .reply) ⌝ }
-    ensures words { λ _. ⌜ stateOf (now (state .exit)) ≡ roundAnswer (stateOf (now (state .entry))) .state ⌝ }
+    ensures number { λ r. ⌜ r ≡ numberTo Play.round (now (state .entry)) ⌝ }
+    ensures words { λ _. ⌜ stateOf (now (state .exit)) ≡ stateAfter Play.round (now (state .entry)) ⌝ }
 {
     lent::round(state)
 }
@@ -47,10 +45,9 @@ pub extern "C" fn link_survey_run(
     budget: u16,
     made: &mut u16,
 ) -> u32
-    ensures number { λ r. ⌜ r ≡ numberOf (runAnswer budget (stateOf (now (state .entry))) .reply) ⌝ }
-    ensures words { λ _. ⌜ stateOf (now (state .exit)) ≡ runAnswer budget (stateOf (now (state .entry))) .state ⌝ }
-    ensures made { λ _. ⌜ now (made .exit)
-        ≡ cond (eqb (roundRefusal (stateOf (now (state .entry)))) 0) (ran budget 0 (stateOf (now (state .entry))) .1) (now (made .entry)) ⌝ }
+    ensures number { λ r. ⌜ r ≡ numberTo (Play.run budget) (now (state .entry)) ⌝ }
+    ensures words { λ _. ⌜ stateOf (now (state .exit)) ≡ stateAfter (Play.run budget) (now (state .entry)) ⌝ }
+    ensures made { λ _. ⌜ now (made .exit) ≡ madeAfter budget (now (state .entry)) (now (made .entry)) ⌝ }
 {
     lent::run(state, budget, made)
 }
@@ -58,8 +55,8 @@ pub extern "C" fn link_survey_run(
 // Status: 10. The reply is stage, countdown, all rounds, requests.
 #[no_mangle]
 pub extern "C" fn link_survey_status(state: &[u16; STATE_WORDS], reply: &mut [u16; 4]) -> u32
-    ensures number { λ r. ⌜ r ≡ numberOf (statusAnswer (stateOf (now (state .entry))) .reply) ⌝ }
-    ensures said { λ _. ⌜ now (reply .exit) ≡ said (statusAnswer (stateOf (now (state .entry))) .reply) (now (reply .entry)) ⌝ }
+    ensures number { λ r. ⌜ r ≡ numberTo Play.status (now (state .entry)) ⌝ }
+    ensures said { λ _. ⌜ now (reply .exit) ≡ lentAfter Play.status (now (state .entry)) (now (reply .entry)) ⌝ }
 {
     lent::status(state, reply)
 }
@@ -71,8 +68,8 @@ pub extern "C" fn link_survey_unit(
     unit: u16,
     reply: &mut [u16; 5],
 ) -> u32
-    ensures number { λ r. ⌜ r ≡ numberOf (unitAnswer unit (stateOf (now (state .entry))) .reply) ⌝ }
-    ensures said { λ _. ⌜ now (reply .exit) ≡ said (unitAnswer unit (stateOf (now (state .entry))) .reply) (now (reply .entry)) ⌝ }
+    ensures number { λ r. ⌜ r ≡ numberTo (Play.unit unit) (now (state .entry)) ⌝ }
+    ensures said { λ _. ⌜ now (reply .exit) ≡ lentAfter (Play.unit unit) (now (state .entry)) (now (reply .entry)) ⌝ }
 {
     lent::unit(state, unit, reply)
 }
@@ -84,8 +81,8 @@ pub extern "C" fn link_survey_link(
     position: u16,
     reply: &mut [u16; 3],
 ) -> u32
-    ensures number { λ r. ⌜ r ≡ numberOf (linkAnswer position (stateOf (now (state .entry))) .reply) ⌝ }
-    ensures said { λ _. ⌜ now (reply .exit) ≡ said (linkAnswer position (stateOf (now (state .entry))) .reply) (now (reply .entry)) ⌝ }
+    ensures number { λ r. ⌜ r ≡ numberTo (Play.link position) (now (state .entry)) ⌝ }
+    ensures said { λ _. ⌜ now (reply .exit) ≡ lentAfter (Play.link position) (now (state .entry)) (now (reply .entry)) ⌝ }
 {
     lent::link(state, position, reply)
 }
@@ -93,8 +90,8 @@ pub extern "C" fn link_survey_link(
 // The report of a finished survey at the front of `out`: 10, 12, 14.
 #[no_mangle]
 pub extern "C" fn link_survey_state_report(state: &[u16; STATE_WORDS], out: &mut [u8]) -> u32
-    ensures number { λ r. ⌜ r ≡ numberOf (reportAnswer (length (now (out .entry))) (stateOf (now (state .entry))) .reply) ⌝ }
-    ensures bytes { λ _. ⌜ now (out .exit) ≡ reported (stateOf (now (state .entry))) (now (out .entry)) ⌝ }
+    ensures number { λ r. ⌜ r ≡ numberTo (Play.report (now (out .entry))) (now (state .entry)) ⌝ }
+    ensures bytes { λ _. ⌜ now (out .exit) ≡ lentAfter (Play.report (now (out .entry))) (now (state .entry)) (now (out .entry)) ⌝ }
 {
     lent::report(state, out)
 }

@@ -1,0 +1,4 @@
+pub mod Exchange
+pub mod ExchangeLaws
+pub mod WordsClaim
+pub mod WordsClaimProof

@@ -1,0 +1,43 @@
+-- Document 01's case B whole, as the paper prints it: the bytes of its file print the bytes of its report.
+use mathlib.Core.Path.{_≡_, refl, sym, ap, _∙_}
+use Prim.Native.Nat.{_≤_}
+use native.Mathlib.Omega.{arith}
+use lib.ListN.{length}
+use borrow.Author.Tests.{eq-eqb}
+use Rattle.files.specs.Example.{caseB, fileB, written-B}
+use Rattle.files.specs.File.{fileOf}
+use Rattle.files.specs.WrittenLaws.{ReadBack, written-read}
+use Rattle.machine.specs.Load.{loadRefusal, loaded}
+use Rattle.machine.specs.Step.{countdown}
+use Rattle.machine.specs.Run.{ran}
+use Rattle.machine.specs.RunLaws.{total, ran-made}
+use Rattle.machine.specs.Report.{report}
+use Rattle.machine.specs.Cases.{siteB, reportB, accepted-B, report-B}
+use Rattle.reporter.specs.Printed.{MAX-INPUT, WORDS, surveyed, printedTable, printedFile, printed}
+use Rattle.reporter.specs.PrintedLaws.{surveyed-end}
+use Rattle.reporter.specs.LaidLaws.{input-short}
+
+-- the greatest budget leaves what the first countdown leaves
+survey-B : surveyed siteB ≡ ran (countdown (loaded siteB)) 0 (loaded siteB) .0
+unfolding total
+survey-B = surveyed-end siteB accepted-B ∙ sym (ran-made (countdown (loaded siteB)) (loaded siteB) .state)
+
+table-B : printedTable siteB ≡ reportB
+unfolding printedTable
+table-B = rw (eq-eqb (loadRefusal siteB) 0 accepted-B) (ap report survey-B ∙ report-B)
+
+-- the paper's file is read as that site
+read-B : ReadBack 4 caseB
+read-B = written-read 4 caseB accepted-B
+
+file-B : printedFile (fileOf 4 caseB) ≡ printedTable siteB
+unfolding printedFile caseB
+file-B = rw (read-B .unrefused WORDS (omega arith), read-B .units, read-B .ends) refl
+
+short-B : length fileB ≤ MAX-INPUT
+unfolding fileB
+short-B = omega arith
+
+-- what the program prints for the paper's file is the paper's report
+pub prints-B : printed fileB ≡ reportB
+prints-B = input-short fileB short-B ∙ (ap printedFile (sym written-B) ∙ (file-B ∙ table-B))
