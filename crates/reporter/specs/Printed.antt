@@ -36,11 +36,14 @@ printedTable input =
     let whole = report (surveyed input) in
     cond (eqb (loadRefusal input) 0) whole (refusalLine (loadRefusal input))
 
+-- what is printed of a table, or of the number by which reading it was refused
+unfoldable pub printedRead : ℕ → Input → List ℕ
+printedRead unread input = let whole = printedTable input in cond (eqb unread 0) whole (refusalLine unread)
+
 -- read, or refused by 1, 2, 3 or 6
 unfoldable pub printedFile : List ℕ → List ℕ
 printedFile file =
-    let whole = printedTable (record { units = unitsIn (linesOf file); words = endsIn (linesOf file) }) in
-    cond (eqb (readRefusal (linesOf file) WORDS) 0) whole (refusalLine (readRefusal (linesOf file) WORDS))
+    printedRead (readRefusal (linesOf file) WORDS) (record { units = unitsIn (linesOf file); words = endsIn (linesOf file) })
 
 unfoldable pub printed : List ℕ → List ℕ
 printed input = let whole = printedFile input in cond (ltb MAX-INPUT (length input)) (refusalLine 1) whole
