@@ -13,10 +13,9 @@ use Rattle.machine.specs.State
 use Rattle.machine.specs.State.{State, units, links}
 use Rattle.machine.specs.Step
 use Rattle.machine.specs.Step.{nextClock}
-use Rattle.machine.specs.StageLaws
 use Rattle.machine.specs.KeptLaws.{links-fit, parents-fit}
 use Rattle.machine.specs.InStage.{inStage, lastAt}
-use Rattle.machine.specs.StageSteps.{Stage}
+use Rattle.machine.specs.StageSteps.{Stage, step-by}
 use Rattle.classes.specs.declared.Ran.{Ran}
 
 -- its links fit, and each parent is a unit or absent
@@ -43,7 +42,7 @@ into s x = State.withClock (x .clock) (State.withAux (record { parents = s .aux 
 pub stage : (s : State)
     → Stage 9 (units s) (fits (units s) (links s) (s .table .ends) (s .tree .parent)) (λ (x : Ran). x .clock)
     (one (units s) (links s) (s .table .ends) (s .tree .parent) (s .aux .links) (s .aux .parents)) (λ (x : Ran). x .made) (into s)
-unfolding one lastAt Step.lastRound Step.auxComponents
+unfolding one lastAt Step.auxComponents
 stage s =
     record {
       small = omega arith;
@@ -51,5 +50,5 @@ stage s =
       clocks = λ x. refl;
       fit = λ x w. and-true _ _ (links-fit (into s x) w) (parents-fit (into s x) w);
       counts = λ x. refl;
-      steps = λ x w e. rw (StageLaws.step-9 (into s x) e, StageLaws.ends-9 (into s x) e, StageLaws.requests-9 (into s x) e);
+      steps = λ x w e. rw (step-by 9 tt (into s x) e);
     }

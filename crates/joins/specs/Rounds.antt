@@ -10,10 +10,9 @@ use Rattle.machine.specs.State
 use Rattle.machine.specs.State.{State, units, links}
 use Rattle.machine.specs.Step
 use Rattle.machine.specs.Step.{nextClock}
-use Rattle.machine.specs.StageLaws
 use Rattle.machine.specs.KeptLaws.{links-fit}
 use Rattle.machine.specs.InStage.{inStage, lastAt}
-use Rattle.machine.specs.StageSteps.{Stage}
+use Rattle.machine.specs.StageSteps.{Stage, step-by}
 use Rattle.joins.specs.declared.Ran.{Ran}
 
 -- the stage makes a round: its links fit, and the clock stands in it
@@ -37,7 +36,7 @@ into s x = State.withClock (x .clock) (State.withAux (record { parents = x .pare
 pub stage : (s : State)
     → Stage 8 (units s) (linksFit (units s) (links s) (s .table .ends)) (λ (x : Ran). x .clock)
     (one (units s) (links s) (s .table .ends) (s .tree .parent) (s .order .nd) (s .order .pre) (s .range .low) (s .range .high)) (λ (x : Ran). x .made) (into s)
-unfolding one lastAt Step.lastRound Step.auxEdges
+unfolding one lastAt Step.auxEdges
 stage s =
     record {
       small = omega arith;
@@ -45,5 +44,5 @@ stage s =
       clocks = λ x. refl;
       fit = λ x w. links-fit (into s x) w;
       counts = λ x. refl;
-      steps = λ x w e. rw (StageLaws.step-8 (into s x) e, StageLaws.ends-8 (into s x) e, StageLaws.requests-8 (into s x) e);
+      steps = λ x w e. rw (step-by 8 tt (into s x) e);
     }

@@ -13,10 +13,9 @@ use Rattle.machine.specs.State
 use Rattle.machine.specs.State.{State, units, links}
 use Rattle.machine.specs.Step
 use Rattle.machine.specs.Step.{nextClock}
-use Rattle.machine.specs.StageLaws
 use Rattle.machine.specs.KeptLaws.{links-fit}
 use Rattle.machine.specs.InStage.{inStage, lastAt}
-use Rattle.machine.specs.StageSteps.{Stage}
+use Rattle.machine.specs.StageSteps.{Stage, step-by}
 use Rattle.labels.specs.declared.Ran.{Ran}
 
 -- the stage makes a round: its links fit, and the clock stands in it
@@ -38,7 +37,7 @@ into s x = State.withClock (x .clock) (State.withLabels (record { class = x .cla
 pub stage : (s : State)
     → Stage 10 (units s) (linksFit (units s) (links s) (s .table .ends)) (λ (x : Ran). x .clock)
     (one (units s) (links s) (s .table .ends) (s .tree .parent) (s .order .pre) (s .aux .color)) (λ (x : Ran). x .made) (into s)
-unfolding one lastAt Step.lastRound Step.labels Step.labelClasses Step.labelPositions
+unfolding one lastAt Step.labels Step.labelClasses Step.labelPositions
 stage s =
     record {
       small = omega arith;
@@ -57,5 +56,5 @@ stage s =
     counts x (inr h) = rw h refl
 
     steps : (x : Ran) → x .clock .stage ≡ 10 → (eqb (x .clock .made) 0 ≡ true) ⊎ (eqb (x .clock .made) 0 ≡ false) → into s (round x) ≡ Step.step (into s x)
-    steps x e (inl h) = rw (StageLaws.step-10 (into s x) e, StageLaws.ends-10 (into s x) e, StageLaws.requests-10 (into s x) e, h)
-    steps x e (inr h) = rw (StageLaws.step-10 (into s x) e, StageLaws.ends-10 (into s x) e, StageLaws.requests-10 (into s x) e, h)
+    steps x e (inl h) = rw (step-by 10 tt (into s x) e, h)
+    steps x e (inr h) = rw (step-by 10 tt (into s x) e, h)

@@ -4,19 +4,20 @@ use mathlib.Core.Bool.{Bool, true, false, cond, _&&_}
 use mathlib.Core.Logic.{_⊎_, inl, inr}
 use Prim.Native.Nat.{ℕ, zero, suc, _+_, _-_, _≤_, _<_}
 use native.Mathlib.Omega.{arith}
+use lib.Dec.{T, ltb}
 use native.Mathlib.Decide.{ℕ-discrete}
 use Rattle.lists.specs.Tests.{either, not-both, and-right, and-true}
 use Rattle.machine.specs.State.{State}
 use Rattle.state.specs.declared.groups.Clock.{Clock}
-use Rattle.machine.specs.State.{units, FINISHED}
+use Rattle.machine.specs.State.{units, withClock, FINISHED}
 use Rattle.machine.specs.WellFormed.{wellFormed}
 use Rattle.machine.specs.Kept.{kept-exact}
 use Rattle.machine.specs.Step
-use Rattle.machine.specs.StageLaws.{step-going}
+use Rattle.machine.specs.StageLaws.{step-going, step-at, ends-at, requests-at}
 use Rattle.machine.specs.Run.{ran}
 use Rattle.machine.specs.Going.{Going, begins, goes-on, spent, ended}
 use Rattle.machine.specs.StageRun.{stageRun}
-use Rattle.machine.specs.InStage.{ready, inStage, stands, in-stage}
+use Rattle.machine.specs.InStage.{ready, lastAt, inStage, stands, in-stage}
 
 -- s after so many rounds of a run from s₀: it stands in stage k or past it, or the budget is spent
 record CameTo (k budget : ℕ) (s₀ : State) (made : ℕ) (s : State) : Type 0 where
@@ -31,6 +32,12 @@ pub record Stage {X : Type 0} (k n : ℕ) (fits : Bool) (clock : X → Clock) (o
   pub fit : (x : X) → wellFormed (into x) ≡ true → fits ≡ true
   pub counts : (x : X) → count (one x) ≡ count x + 1
   pub steps : (x : X) → wellFormed (into x) ≡ true → into x .clock .stage ≡ k → into (one x) ≡ Step.step (into x)
+
+-- a step at stage k, by what the stage's own rules say
+pub step-by : (k : ℕ) → T (ltb k FINISHED) → (s : State) → s .clock .stage ≡ k
+    → Step.step s ≡ withClock (Step.nextClock (lastAt (units s) (Step.endsAt k s) (s .clock)) (Step.requestsAt k s) (s .clock)) (Step.tablesAt k s)
+unfolding lastAt Step.lastRound
+step-by k l s e = step-at k l s e ∙ rw (ends-at k s e, requests-at k s e) refl
 
 -- a run begins in some stage
 came-first : (budget : ℕ) (s : State) → wellFormed s ≡ true → CameTo 1 budget s 0 s

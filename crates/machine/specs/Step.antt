@@ -181,21 +181,24 @@ labels s = cond (eqb (s .clock .made) 0) (labelClasses s) (labelPositions s)
 
 -- ---- the end of a stage
 
--- the stage's own rule ends it with this round
-unfoldable pub ruleEnds : State → Bool
-ruleEnds s =
-    cond (eqb (s .clock .stage) 1)
+-- the rule of stage k ends it with this round
+abbrev pub endsAt : ℕ → State → Bool
+endsAt k s =
+    cond (eqb k 1)
     (colorEnds (State.units s) (s .clock .made) (s .components .color) (components s .components .color))
-    (cond (eqb (s .clock .stage) 2)
+    (cond (eqb k 2)
     (treeEnds (State.units s) (State.links s) (s .clock .made) (s .table .ends) (s .components .color) (s .tree .dist))
-    (cond (eqb (s .clock .stage) 3) (eqb (s .clock .made) 1)
-    (cond (eqb (s .clock .stage) 4) (rankingEnds (2 * State.units s) (s .ranking .jump))
-    (cond (eqb (s .clock .stage) 5) (eqb (s .clock .made) 1)
-    (cond (eqb (s .clock .stage) 6) (rankingEnds (2 * State.units s) (s .ranking .jump))
-    (cond (eqb (s .clock .stage) 7) (rangeEnds (State.units s) (s .clock .made))
-    (cond (eqb (s .clock .stage) 8) true
-    (cond (eqb (s .clock .stage) 9) (auxEnds (State.units s) (s .clock .made) (s .aux .color) (auxColors s))
+    (cond (eqb k 3) (eqb (s .clock .made) 1)
+    (cond (eqb k 4) (rankingEnds (2 * State.units s) (s .ranking .jump))
+    (cond (eqb k 5) (eqb (s .clock .made) 1)
+    (cond (eqb k 6) (rankingEnds (2 * State.units s) (s .ranking .jump))
+    (cond (eqb k 7) (rangeEnds (State.units s) (s .clock .made))
+    (cond (eqb k 8) true
+    (cond (eqb k 9) (auxEnds (State.units s) (s .clock .made) (s .aux .color) (auxColors s))
     (eqb (s .clock .made) 1)))))))))
+
+unfoldable pub ruleEnds : State → Bool
+ruleEnds s = endsAt (s .clock .stage) s
 
 -- a stage ends at its rule or at its ceiling
 unfoldable pub lastRound : State → Bool
@@ -203,23 +206,29 @@ lastRound s = ruleEnds s || leb (ceiling (State.units s) (s .clock .stage)) (s .
 
 -- ---- the round
 
-unfoldable pub roundTables : State → State
-roundTables s =
-    cond (eqb (s .clock .stage) 1) (components s)
-    (cond (eqb (s .clock .stage) 2) (tree s)
-    (cond (eqb (s .clock .stage) 3) (tour s)
-    (cond (eqb (s .clock .stage) 4) (ranking s)
-    (cond (eqb (s .clock .stage) 5) (marks s)
-    (cond (eqb (s .clock .stage) 6) (cond (lastRound s) (places s) (ranking s))
-    (cond (eqb (s .clock .stage) 7) (range s)
-    (cond (eqb (s .clock .stage) 8) (auxEdges s)
-    (cond (eqb (s .clock .stage) 9) (auxComponents s)
+-- the tables after a round of stage k
+abbrev pub tablesAt : ℕ → State → State
+tablesAt k s =
+    cond (eqb k 1) (components s)
+    (cond (eqb k 2) (tree s)
+    (cond (eqb k 3) (tour s)
+    (cond (eqb k 4) (ranking s)
+    (cond (eqb k 5) (marks s)
+    (cond (eqb k 6) (cond (lastRound s) (places s) (ranking s))
+    (cond (eqb k 7) (range s)
+    (cond (eqb k 8) (auxEdges s)
+    (cond (eqb k 9) (auxComponents s)
     (labels s)))))))))
 
--- the requests of a round: those of the rankings
+unfoldable pub roundTables : State → State
+roundTables s = tablesAt (s .clock .stage) s
+
+-- the requests of a round of stage k: those of the rankings
+abbrev pub requestsAt : ℕ → State → ℕ
+requestsAt k s = cond (eqb k 4 || eqb k 6) (requestsOf (2 * State.units s) (s .ranking .jump)) 0
+
 unfoldable pub roundRequests : State → ℕ
-roundRequests s =
-    cond (eqb (s .clock .stage) 4 || eqb (s .clock .stage) 6) (requestsOf (2 * State.units s) (s .ranking .jump)) 0
+roundRequests s = requestsAt (s .clock .stage) s
 
 -- the clock after a round: the next stage at the end of this one, all rounds and requests within their limits
 unfoldable pub nextClock : Bool → ℕ → Clock → Clock

@@ -3,13 +3,13 @@ use mathlib.Core.Path.{_≡_, refl, sym, ap, _∙_}
 use mathlib.Core.Bool.{Bool, true, false, cond, _||_}
 use mathlib.Core.Logic.{_⊎_, inl, inr}
 use mathlib.Core.List.{List}
-use Prim.Native.Nat.{ℕ, _+_, _*_, _-_, _≤_, _<_, min, max}
+use Prim.Native.Nat.{ℕ, _+_, _*_, _≤_, _<_, min, max}
 use native.Mathlib.Decide.{ℕ-discrete}
 use native.Mathlib.Omega.{arith}
-use lib.Dec.{eqb, leb}
+use lib.Dec.{leb}
 use lib.ListN.{take}
 use borrow.Author.Tests.{eqb-true, eqb-false, ne-eqb, leb-false}
-use Rattle.lists.specs.All.{All, cond-keeps}
+use Rattle.lists.specs.All.{All}
 use Rattle.lists.specs.Tests.{either, or-false-right}
 use Rattle.table.specs.Table.{tableRefusal}
 use Rattle.table.specs.Passes.{Passes, passes}
@@ -25,6 +25,7 @@ use Rattle.machine.specs.State.{units, links, words, finished, FINISHED,
 use Rattle.machine.specs.WellFormed.{unitTables, arcTables, linkTables, distTables, numberTables}
 use Rattle.machine.specs.Kept.{Kept, MadeOk}
 use Rattle.machine.specs.Step
+use Rattle.machine.specs.StageLaws.{each-round}
 
 -- the tables of s′ are within the bounds of s, and its table of links is that of s
 pub record Moved (s s′ : State) : Type 0 where
@@ -243,21 +244,24 @@ module _ (s : State) (k : Kept s) (open′ : s .clock .stage ≡ FINISHED → �
 
   -- whatever stage the clock shows
   pub tables-moved : Moved s (Step.roundTables s)
-  unfolding Step.roundTables Step.tour Step.marks Step.range Step.labels
   tables-moved =
-      choose (eqb (s .clock .stage) 1) components-moved
-      (choose (eqb (s .clock .stage) 2) tree-moved
-      (choose (eqb (s .clock .stage) 3) (choose (eqb (s .clock .made) 0) tourNext-moved tourPred-moved)
-      (choose (eqb (s .clock .stage) 4) ranking-moved
-      (choose (eqb (s .clock .stage) 5) (choose (eqb (s .clock .made) 0) marksForward-moved marksDescendants-moved)
-      (choose (eqb (s .clock .stage) 6) (choose (Step.lastRound s) places-moved ranking-moved)
-      (choose (eqb (s .clock .stage) 7) (choose (eqb (s .clock .made) 0) rangeBegun-moved (rangeDoubled-moved (s .clock .made - 1)))
-      (choose (eqb (s .clock .stage) 8) auxEdges-moved
-      (choose (eqb (s .clock .stage) 9) auxComponents-moved
-      (choose (eqb (s .clock .made) 0) labelClasses-moved labelPositions-moved)))))))))
-    where
-      choose : (b : Bool) {x y : State} → Moved s x → Moved s y → Moved s (cond b x y)
-      choose b {x} {y} p q = cond-keeps (Moved s) b x y p q
+      each-round (Moved s) s
+      (record {
+        components = components-moved;
+        tree = tree-moved;
+        tourNext = tourNext-moved;
+        tourPred = tourPred-moved;
+        ranking = ranking-moved;
+        marksForward = marksForward-moved;
+        marksDescendants = marksDescendants-moved;
+        places = places-moved;
+        rangeBegun = rangeBegun-moved;
+        rangeDoubled = rangeDoubled-moved;
+        auxEdges = auxEdges-moved;
+        auxComponents = auxComponents-moved;
+        labelClasses = labelClasses-moved;
+        labelPositions = labelPositions-moved;
+      })
 
   -- the clock after the round, whether or not it was the stage's last
   pub clock-fits : (last : Bool) → Step.lastRound s ≡ last → Fits (units s) (cond last (s .clock .stage + 1) (s .clock .stage)) (cond last 0 (s .clock .made + 1))

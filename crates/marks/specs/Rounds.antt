@@ -12,9 +12,8 @@ use Rattle.machine.specs.State
 use Rattle.machine.specs.State.{State, units}
 use Rattle.machine.specs.Step
 use Rattle.machine.specs.Step.{nextClock}
-use Rattle.machine.specs.StageLaws
 use Rattle.machine.specs.InStage.{inStage, lastAt}
-use Rattle.machine.specs.StageSteps.{Stage}
+use Rattle.machine.specs.StageSteps.{Stage, step-by}
 use Rattle.marks.specs.declared.Ran.{Ran}
 
 -- the stage makes a round: the clock stands in it, and its tables are right as they are
@@ -45,7 +44,7 @@ into s x =
 
 pub stage : (s : State)
     → Stage 5 (units s) true (λ (x : Ran). x .clock) (one (units s) (s .components .color) (s .tree .parent) (s .tour .pred)) (λ (x : Ran). x .made) (into s)
-unfolding one lastAt Step.lastRound Step.marks Step.marksForward Step.marksDescendants
+unfolding one lastAt Step.marks Step.marksForward Step.marksDescendants
 stage s =
     record {
       small = omega arith;
@@ -65,5 +64,5 @@ stage s =
 
     steps : (x : Ran) → x .clock .stage ≡ 5 → (eqb (x .clock .made) 0 ≡ true) ⊎ (eqb (x .clock .made) 0 ≡ false)
         → into s (made x) ≡ Step.step (into s x)
-    steps x e (inl h) = rw (StageLaws.step-5 (into s x) e, StageLaws.ends-5 (into s x) e, StageLaws.requests-5 (into s x) e, h)
-    steps x e (inr h) = rw (StageLaws.step-5 (into s x) e, StageLaws.ends-5 (into s x) e, StageLaws.requests-5 (into s x) e, h)
+    steps x e (inl h) = rw (step-by 5 tt (into s x) e, h)
+    steps x e (inr h) = rw (step-by 5 tt (into s x) e, h)

@@ -12,9 +12,9 @@ use Rattle.machine.specs.State
 use Rattle.machine.specs.State.{State, units}
 use Rattle.machine.specs.Step
 use Rattle.machine.specs.Step.{nextClock}
-use Rattle.machine.specs.StageLaws
+use Rattle.machine.specs.StageLaws.{ends-at}
 use Rattle.machine.specs.InStage.{inStage, lastAt}
-use Rattle.machine.specs.StageSteps.{Stage}
+use Rattle.machine.specs.StageSteps.{Stage, step-by}
 use Rattle.places.specs.declared.Ran.{Ran}
 
 -- the stage makes a round: the clock stands in it, and its tables are right as they are
@@ -59,5 +59,5 @@ stage s =
     steps : (x : Ran) → x .clock .stage ≡ 6
         → (lastAt (units s) (rankingEnds (2 * units s) (x .jump)) (x .clock) ≡ true) ⊎ (lastAt (units s) (rankingEnds (2 * units s) (x .jump)) (x .clock) ≡ false)
         → into s (made x) ≡ Step.step (into s x)
-    steps x e (inl h) = rw (StageLaws.step-6 (into s x) e, StageLaws.ends-6 (into s x) e, StageLaws.requests-6 (into s x) e, h)
-    steps x e (inr h) = rw (StageLaws.step-6 (into s x) e, StageLaws.ends-6 (into s x) e, StageLaws.requests-6 (into s x) e, h)
+    steps x e (inl h) = rw (step-by 6 tt (into s x) e, ends-at 6 (into s x) e, h)
+    steps x e (inr h) = rw (step-by 6 tt (into s x) e, ends-at 6 (into s x) e, h)

@@ -1,4 +1,3 @@
-pub mod Passes
 pub mod Turns
 pub mod Strides
 pub mod Begins

@@ -22,9 +22,8 @@ use Rattle.machine.specs.KeptLaws.{links-fit}
 use Rattle.machine.specs.StepKept.{made-below}
 use Rattle.machine.specs.Step
 use Rattle.machine.specs.Step.{nextClock}
-use Rattle.machine.specs.StageLaws
 use Rattle.machine.specs.InStage.{inStage, lastAt}
-use Rattle.machine.specs.StageSteps.{Stage}
+use Rattle.machine.specs.StageSteps.{Stage, step-by}
 use Rattle.range.specs.declared.Ran.{Ran}
 
 -- the stage makes a round: its links fit, and the clock stands in it
@@ -87,7 +86,7 @@ into s x =
 pub stage : (s : State)
     → Stage 7 (units s) (linksFit (units s) (links s) (s .table .ends)) (λ (x : Ran). x .clock)
     (one (units s) (links s) (s .table .ends) (s .tree .parent) (s .order .nd) (s .order .pre)) (λ (x : Ran). x .made) (into s)
-unfolding one lastAt Step.lastRound Step.range Step.rangeBegun Step.rangeDoubled
+unfolding one lastAt Step.range Step.rangeBegun Step.rangeDoubled
 stage s =
     record {
       small = omega arith;
@@ -115,5 +114,5 @@ stage s =
 
     steps : (x : Ran) → wellFormed (into s x) ≡ true → x .clock .stage ≡ 7
         → (eqb (x .clock .made) 0 ≡ true) ⊎ (eqb (x .clock .made) 0 ≡ false) → into s (made x) ≡ Step.step (into s x)
-    steps x w e (inl h) = rw (StageLaws.step-7 (into s x) e, StageLaws.ends-7 (into s x) e, StageLaws.requests-7 (into s x) e, h)
-    steps x w e (inr h) = rw (StageLaws.step-7 (into s x) e, StageLaws.ends-7 (into s x) e, StageLaws.requests-7 (into s x) e, h, doublings x w e)
+    steps x w e (inl h) = rw (step-by 7 tt (into s x) e, h)
+    steps x w e (inr h) = rw (step-by 7 tt (into s x) e, h, doublings x w e)

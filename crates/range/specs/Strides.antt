@@ -13,7 +13,7 @@ use borrow.Author.Tests.{lt-ltb, le-ltb, ne-eqb}
 use Rattle.lists.specs.Multiples.{Multiple, multiple-step, no-remainder, multiple-remainder}
 use Rattle.lists.specs.Tables.{over, length-over, getD-over}
 use Rattle.lists.specs.Rounds.{over-ext}
-use Rattle.range.specs.Passes.{read-past}
+use Rattle.values.specs.Passes.{read-past}
 use Rattle.rules.specs.Basics.{at}
 use Rattle.rules.specs.MoveLaws.{globalBy}
 

@@ -3,21 +3,13 @@ use mathlib.Core.Path.{_≡_, sym, ap, _∙_}
 use mathlib.Core.Bool.{true, false, not}
 use mathlib.Core.List.{List}
 use Prim.Native.Nat.{ℕ, _+_, _≤_}
-use native.Mathlib.Nat.{le-refl}
-use lib.ListN.{length, getD, List·getD-eq-default}
-use lib.Seq.{set-getD}
+use lib.ListN.{length, List·getD-eq-default}
 use borrow.Author.Tests.{eq-eqb, ne-eqb}
-use Rattle.lists.specs.Rounds.{over-more}
-use Rattle.lists.specs.Tables.{over, getD-over-past}
+use Rattle.lists.specs.Tables.{over}
 use Rattle.lists.specs.Tests.{cond-true, cond-false}
 use Rattle.rules.specs.Basics.{ABSENT, at, bounded}
+use Rattle.values.specs.Passes.{over-kept}
 use Rattle.rules.specs.Ranking.{asks, jumpAfter, sumAfter}
-
--- a turn that leaves an entry
-entry-stays : (a : ℕ) (f : ℕ → ℕ) (old t : List ℕ) → getD old a 0 ≡ f a → t ≡ over a f old → t ≡ over (a + 1) f old
-entry-stays a f old t is was =
-    let found : getD t a 0 ≡ f a = rw was (getD-over-past a f old a 0 (le-refl a)) ∙ is in
-    over-more a f old t t (getD t a 0) was found (sym (set-getD t a 0))
 
 module _ (jump sum : List ℕ) (a before own : ℕ) (is : before ≡ at jump a) (has : own ≡ at sum a) where
   asking : (before ≡ ABSENT → ⊥) → asks jump a ≡ true
@@ -53,7 +45,7 @@ module _ (jump sum : List ℕ) (a before own : ℕ) (is : before ≡ at jump a) 
   -- no predecessor: both entries stay
   module _ (e : before ≡ ABSENT) (t : List ℕ) where
     pub jump-stays : t ≡ over a (jumpAfter jump) jump → t ≡ over (a + 1) (jumpAfter jump) jump
-    jump-stays was = entry-stays a (jumpAfter jump) jump t (sym is ∙ jump-kept e) was
+    jump-stays was = over-kept a (jumpAfter jump) jump t was (sym (jump-kept e) ∙ is)
 
     pub sum-stays : t ≡ over a (sumAfter jump sum) sum → t ≡ over (a + 1) (sumAfter jump sum) sum
-    sum-stays was = entry-stays a (sumAfter jump sum) sum t (sym has ∙ sum-kept e) was
+    sum-stays was = over-kept a (sumAfter jump sum) sum t was (sym (sum-kept e) ∙ has)

@@ -8,9 +8,8 @@ use Rattle.machine.specs.State
 use Rattle.machine.specs.State.{State, units}
 use Rattle.machine.specs.Step
 use Rattle.machine.specs.Step.{nextClock}
-use Rattle.machine.specs.StageLaws
 use Rattle.machine.specs.InStage.{inStage, lastAt}
-use Rattle.machine.specs.StageSteps.{Stage}
+use Rattle.machine.specs.StageSteps.{Stage, step-by}
 use Rattle.ranking.specs.declared.Ran.{Ran}
 
 -- the stage makes a round: the clock stands in it, and its tables are right as they are
@@ -32,7 +31,7 @@ abbrev pub into : State → Ran → State
 into s x = State.withClock (x .clock) (State.withRanking (record { jump = x .jump; sum = x .sum }) s)
 
 pub stage : (s : State) → Stage 4 (units s) true (λ (x : Ran). x .clock) (one (units s)) (λ (x : Ran). x .made) (into s)
-unfolding one lastAt Step.lastRound Step.ranking
+unfolding one lastAt Step.ranking
 stage s =
     record {
       small = omega arith;
@@ -40,5 +39,5 @@ stage s =
       clocks = λ x. refl;
       fit = λ x w. refl;
       counts = λ x. refl;
-      steps = λ x w e. rw (StageLaws.step-4 (into s x) e, StageLaws.ends-4 (into s x) e, StageLaws.requests-4 (into s x) e);
+      steps = λ x w e. rw (step-by 4 tt (into s x) e);
     }

@@ -48,43 +48,32 @@ module _
       in-parent : (w : ℕ) → w < n → Anc (at parent) d u w → (at pre (at parent u) ≤ at pre w) × (at pre w < at pre (at parent u) + at nd (at parent u))
       in-parent w hw a = ordered .interval (at parent u) w hp hw .0 (anc-trans above a)
 
+      -- a local value outside that interval comes of such an edge
+      outside : (w : ℕ) → w < n → Anc (at parent) d u w → (v : ℕ) → Given site rooted pre w v
+          → (at pre (at parent u) ≤ v → v < at pre (at parent u) + at nd (at parent u) → ⊥) → JoinsUp (Link m ends) (at parent) d u
+      outside w hw a v (inl f) out = absurd (out (omega (arith, in-parent w hw a, f)) (omega (arith, in-parent w hw a, f)))
+      outside w hw a v (inr (x, o, f)) out =
+          record {
+            child = du;
+            inner = dp;
+            x = x;
+            y = w;
+            off = off-flip site rooted w x o;
+            inside = a;
+            outside = λ b.
+                let k = ordered .interval (at parent u) x hp (link-below site w x (o .link) .1) .0 b in
+                out (omega (arith, k, f)) (omega (arith, k, f));
+          }
+
       by-low : at low u < at pre (at parent u) → JoinsUp (Link m ends) (at parent) d u
-      by-low l = go (ranged .lowTaken u hu)
-        where
-          go : (w : ℕ) × (w < n) × Anc (at parent) d u w × (at low u ≡ localOf min m ends parent pre w) → JoinsUp (Link m ends) (at parent) d u
-          go (w, hw, a, e) = by (local-given site rooted pre min-choice w)
-            where
-              by : Given site rooted pre w (localOf min m ends parent pre w) → JoinsUp (Link m ends) (at parent) d u
-              by (inl f) = absurd (omega (arith, in-parent w hw a, e, f))
-              by (inr (x, o, f)) =
-                  record {
-                    child = du;
-                    inner = dp;
-                    x = x;
-                    y = w;
-                    off = off-flip site rooted w x o;
-                    inside = a;
-                    outside = λ b. omega (arith, ordered .interval (at parent u) x hp (link-below site w x (o .link) .1) .0 b, e, f);
-                  }
+      by-low l =
+          let (w, hw, a, e) = ranged .lowTaken u hu in
+          outside w hw a _ (local-given site rooted pre min-choice w) (λ ge lt. omega (arith, e, ge, l))
 
       by-high : at pre (at parent u) + at nd (at parent u) ≤ at high u → JoinsUp (Link m ends) (at parent) d u
-      by-high l = go (ranged .highTaken u hu)
-        where
-          go : (w : ℕ) × (w < n) × Anc (at parent) d u w × (at high u ≡ localOf max m ends parent pre w) → JoinsUp (Link m ends) (at parent) d u
-          go (w, hw, a, e) = by (local-given site rooted pre max-choice w)
-            where
-              by : Given site rooted pre w (localOf max m ends parent pre w) → JoinsUp (Link m ends) (at parent) d u
-              by (inl f) = absurd (omega (arith, in-parent w hw a, e, f))
-              by (inr (x, o, f)) =
-                  record {
-                    child = du;
-                    inner = dp;
-                    x = x;
-                    y = w;
-                    off = off-flip site rooted w x o;
-                    inside = a;
-                    outside = λ b. omega (arith, ordered .interval (at parent u) x hp (link-below site w x (o .link) .1) .0 b, e, f);
-                  }
+      by-high l =
+          let (w, hw, a, e) = ranged .highTaken u hu in
+          outside w hw a _ (local-given site rooted pre max-choice w) (λ ge lt. omega (arith, e, lt, l))
 
       -- the end outside lies before the interval or past it
       leaves : (x y : ℕ) → OffTree (Link m ends) (at parent) d x y → Anc (at parent) d u y → (Anc (at parent) d (at parent u) x → ⊥)

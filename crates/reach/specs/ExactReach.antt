@@ -1,5 +1,5 @@
 -- After a load none of the three things of document 01 occurs, and no ceiling cuts a stage short: every round that a load leads to is the exact one.
-use mathlib.Core.Path.{_≡_, refl, sym, _∙_}
+use mathlib.Core.Path.{_≡_, refl, sym, ap, _∙_}
 use mathlib.Core.Bool.{Bool, true, cond}
 use mathlib.Core.Option.{some}
 use mathlib.Core.List.{List}
@@ -13,7 +13,7 @@ use Rattle.state.specs.declared.groups.Clock.{Clock}
 use Rattle.machine.specs.State.{finished, FINISHED, MAX-ROUNDS, MAX-REQUESTS}
 use Rattle.machine.specs.Load.{Input, loadRefusal, loaded}
 use Rattle.machine.specs.Step
-use Rattle.machine.specs.StageLaws.{ticked, step-1, step-2, step-3, step-4, step-5, step-6, step-7, step-8, step-9, step-10, ends-6}
+use Rattle.machine.specs.StageLaws.{ticked, step-at, ends-at}
 use Rattle.machine.specs.StepLaws.{loaded-wellFormed, first-countdown}
 use Rattle.machine.specs.RunLaws.{steps-suc, step-finished, ended-exact, total, total-least, total-countdown}
 use Rattle.reach.specs.Invariant.{Base, In6, Reached, in1, in2, in3, in4, in5, in6, in7, in8, in9, in10, in11}
@@ -32,95 +32,58 @@ record Exact (s : State) : Type 0 where
   plain : Step.step s ≡ ticked s tables
   exact : ExactStep.roundTables? (Step.ruleEnds s) s ≡ some tables
 
--- ---- the tables at each stage, by the number that the clock shows
-
-tables-1 : (last : Bool) (s : State) → s .clock .stage ≡ 1 → ExactStep.roundTables? last s ≡ ExactStep.components? s
+-- at stage k
+tables-at : (k : ℕ) (last : Bool) (s : State) → s .clock .stage ≡ k → ExactStep.roundTables? last s ≡ ExactStep.tablesAt? k last s
 unfolding ExactStep.roundTables?
-tables-1 last s e = rw e refl
-
-tables-2 : (last : Bool) (s : State) → s .clock .stage ≡ 2 → ExactStep.roundTables? last s ≡ ExactStep.tree? s
-unfolding ExactStep.roundTables?
-tables-2 last s e = rw e refl
-
-tables-3 : (last : Bool) (s : State) → s .clock .stage ≡ 3 → ExactStep.roundTables? last s ≡ ExactStep.tour? s
-unfolding ExactStep.roundTables?
-tables-3 last s e = rw e refl
-
-tables-4 : (last : Bool) (s : State) → s .clock .stage ≡ 4 → ExactStep.roundTables? last s ≡ ExactStep.ranking? s
-unfolding ExactStep.roundTables?
-tables-4 last s e = rw e refl
-
-tables-5 : (last : Bool) (s : State) → s .clock .stage ≡ 5 → ExactStep.roundTables? last s ≡ ExactStep.marks? s
-unfolding ExactStep.roundTables?
-tables-5 last s e = rw e refl
-
-tables-6 : (last : Bool) (s : State) → s .clock .stage ≡ 6 → ExactStep.roundTables? last s ≡ cond last (ExactStep.places? s) (ExactStep.ranking? s)
-unfolding ExactStep.roundTables?
-tables-6 last s e = rw e refl
-
-tables-7 : (last : Bool) (s : State) → s .clock .stage ≡ 7 → ExactStep.roundTables? last s ≡ ExactStep.range? s
-unfolding ExactStep.roundTables?
-tables-7 last s e = rw e refl
-
-tables-8 : (last : Bool) (s : State) → s .clock .stage ≡ 8 → ExactStep.roundTables? last s ≡ ExactStep.auxEdges? s
-unfolding ExactStep.roundTables?
-tables-8 last s e = rw e refl
-
-tables-9 : (last : Bool) (s : State) → s .clock .stage ≡ 9 → ExactStep.roundTables? last s ≡ ExactStep.auxComponents? s
-unfolding ExactStep.roundTables?
-tables-9 last s e = rw e refl
-
-tables-10 : (last : Bool) (s : State) → s .clock .stage ≡ 10 → ExactStep.roundTables? last s ≡ ExactStep.labels? s
-unfolding ExactStep.roundTables?
-tables-10 last s e = rw e refl
+tables-at k last s e = ap (λ (k : ℕ). ExactStep.tablesAt? k last s) e
 
 -- ---- every stage
 
 module _ (s : State) (b : Base s) where
   -- at any stage but 9 the end asks for no tree
-  ends-at : (k : ℕ) → s .clock .stage ≡ k → (k ≡ 9 → ⊥) → ExactStep.ruleEnds? s ≡ some (Step.ruleEnds s)
-  ends-at k e h = ends-exact s b (λ q. absurd (h (sym e ∙ q)))
+  ends-else : (k : ℕ) → s .clock .stage ≡ k → (k ≡ 9 → ⊥) → ExactStep.ruleEnds? s ≡ some (Step.ruleEnds s)
+  ends-else k e h = ends-exact s b (λ q. absurd (h (sym e ∙ q)))
 
   -- the second ranking: places with its last round
   last-6 : (i : In6 s) → Step.lastRound s ≡ Step.ruleEnds s
       → cond (Step.ruleEnds s) (ExactStep.places? s) (ExactStep.ranking? s) ≡ some (cond (Step.lastRound s) (Step.places s) (Step.ranking s))
   last-6 i u =
       rw u
-      (conds (Step.ruleEnds s) (λ q. places-exact s b i (sym (ends-6 s (i .stage)) ∙ q)) (λ q. ranking-exact s (second-potential s b (i .treed)) (i .ranked)))
+      (conds (Step.ruleEnds s) (λ q. places-exact s b i (sym (ends-at 6 s (i .stage)) ∙ q)) (λ q. ranking-exact s (second-potential s b (i .treed)) (i .ranked)))
 
   exact : Reached s → Step.lastRound s ≡ Step.ruleEnds s → (s .clock .stage ≡ FINISHED → ⊥) → Exact s
   exact (in1 i) u h =
-      record { ends = ends-at 1 (i .stage) (omega arith); tables = Step.components s; plain = step-1 s (i .stage); exact = tables-1 _ s (i .stage) ∙ components-exact s b }
-  exact (in2 i) u h = record { ends = ends-at 2 (i .stage) (omega arith); tables = Step.tree s; plain = step-2 s (i .stage); exact = tables-2 _ s (i .stage) ∙ tree-exact s b }
+      record { ends = ends-else 1 (i .stage) (omega arith); tables = Step.components s; plain = step-at 1 tt s (i .stage); exact = tables-at 1 _ s (i .stage) ∙ components-exact s b }
+  exact (in2 i) u h = record { ends = ends-else 2 (i .stage) (omega arith); tables = Step.tree s; plain = step-at 2 tt s (i .stage); exact = tables-at 2 _ s (i .stage) ∙ tree-exact s b }
   exact (in3 i) u h =
-      record { ends = ends-at 3 (i .stage) (omega arith); tables = Step.tour s; plain = step-3 s (i .stage); exact = tables-3 _ s (i .stage) ∙ tour-exact s b (i .treed) }
+      record { ends = ends-else 3 (i .stage) (omega arith); tables = Step.tour s; plain = step-at 3 tt s (i .stage); exact = tables-at 3 _ s (i .stage) ∙ tour-exact s b (i .treed) }
   exact (in4 i) u h =
       record {
-        ends = ends-at 4 (i .stage) (omega arith);
+        ends = ends-else 4 (i .stage) (omega arith);
         tables = Step.ranking s;
-        plain = step-4 s (i .stage);
-        exact = tables-4 _ s (i .stage) ∙ ranking-exact s (first-potential s b (i .toured .treed)) (i .ranked);
+        plain = step-at 4 tt s (i .stage);
+        exact = tables-at 4 _ s (i .stage) ∙ ranking-exact s (first-potential s b (i .toured .treed)) (i .ranked);
       }
   exact (in5 i) u h =
-      record { ends = ends-at 5 (i .stage) (omega arith); tables = Step.marks s; plain = step-5 s (i .stage); exact = tables-5 _ s (i .stage) ∙ marks-exact s b (i .toured .treed) (i .held) }
+      record { ends = ends-else 5 (i .stage) (omega arith); tables = Step.marks s; plain = step-at 5 tt s (i .stage); exact = tables-at 5 _ s (i .stage) ∙ marks-exact s b (i .toured .treed) (i .held) }
   exact (in6 i) u h =
       record {
-        ends = ends-at 6 (i .stage) (omega arith);
+        ends = ends-else 6 (i .stage) (omega arith);
         tables = cond (Step.lastRound s) (Step.places s) (Step.ranking s);
-        plain = step-6 s (i .stage);
-        exact = tables-6 _ s (i .stage) ∙ last-6 i u;
+        plain = step-at 6 tt s (i .stage);
+        exact = tables-at 6 _ s (i .stage) ∙ last-6 i u;
       }
-  exact (in7 i) u h = record { ends = ends-at 7 (i .stage) (omega arith); tables = Step.range s; plain = step-7 s (i .stage); exact = tables-7 _ s (i .stage) ∙ range-exact s b i }
+  exact (in7 i) u h = record { ends = ends-else 7 (i .stage) (omega arith); tables = Step.range s; plain = step-at 7 tt s (i .stage); exact = tables-at 7 _ s (i .stage) ∙ range-exact s b i }
   exact (in8 i) u h =
-      record { ends = ends-at 8 (i .stage) (omega arith); tables = Step.auxEdges s; plain = step-8 s (i .stage); exact = tables-8 _ s (i .stage) ∙ edges-exact s b (i .numbered .treed) }
+      record { ends = ends-else 8 (i .stage) (omega arith); tables = Step.auxEdges s; plain = step-at 8 tt s (i .stage); exact = tables-at 8 _ s (i .stage) ∙ edges-exact s b (i .numbered .treed) }
   exact (in9 i) u h =
       record {
         ends = ends-exact s b (λ q. i .numbered .treed);
         tables = Step.auxComponents s;
-        plain = step-9 s (i .stage);
-        exact = tables-9 _ s (i .stage) ∙ aux-exact s b (i .numbered .treed);
+        plain = step-at 9 tt s (i .stage);
+        exact = tables-at 9 _ s (i .stage) ∙ aux-exact s b (i .numbered .treed);
       }
-  exact (in10 i) u h = record { ends = ends-at 10 (i .stage) (omega arith); tables = Step.labels s; plain = step-10 s (i .stage); exact = tables-10 _ s (i .stage) ∙ labels-exact s b }
+  exact (in10 i) u h = record { ends = ends-else 10 (i .stage) (omega arith); tables = Step.labels s; plain = step-at 10 tt s (i .stage); exact = tables-at 10 _ s (i .stage) ∙ labels-exact s b }
   exact (in11 i) u h = absurd (h (i .stage))
 
 -- ---- the round

@@ -143,19 +143,22 @@ ruleEnds? s =
 
 -- ---- the round
 
--- `last` says that this round ends its stage
-unfoldable pub roundTables? : Bool → State → Option State
-roundTables? last s =
-    cond (eqb (s .clock .stage) 1) (components? s)
-    (cond (eqb (s .clock .stage) 2) (tree? s)
-    (cond (eqb (s .clock .stage) 3) (tour? s)
-    (cond (eqb (s .clock .stage) 4) (ranking? s)
-    (cond (eqb (s .clock .stage) 5) (marks? s)
-    (cond (eqb (s .clock .stage) 6) (cond last (places? s) (ranking? s))
-    (cond (eqb (s .clock .stage) 7) (range? s)
-    (cond (eqb (s .clock .stage) 8) (auxEdges? s)
-    (cond (eqb (s .clock .stage) 9) (auxComponents? s)
+-- the tables after a round of stage k; `last` says that it ends the stage
+abbrev pub tablesAt? : ℕ → Bool → State → Option State
+tablesAt? k last s =
+    cond (eqb k 1) (components? s)
+    (cond (eqb k 2) (tree? s)
+    (cond (eqb k 3) (tour? s)
+    (cond (eqb k 4) (ranking? s)
+    (cond (eqb k 5) (marks? s)
+    (cond (eqb k 6) (cond last (places? s) (ranking? s))
+    (cond (eqb k 7) (range? s)
+    (cond (eqb k 8) (auxEdges? s)
+    (cond (eqb k 9) (auxComponents? s)
     (labels? s)))))))))
+
+unfoldable pub roundTables? : Bool → State → Option State
+roundTables? last s = tablesAt? (s .clock .stage) last s
 
 unfoldable pub roundRequests? : State → Value
 roundRequests? s =

@@ -7,7 +7,7 @@ use Prim.Native.Nat.{ℕ, suc, _+_, _≤_, _<_, max}
 use native.Mathlib.Numerals.{add-one}
 use native.Mathlib.Omega.{arith}
 use lib.ListN.{length}
-use Rattle.lists.specs.Tests.{either, not-both}
+use Rattle.lists.specs.Tests.{either}
 use Rattle.rules.specs.Basics.{ABSENT, at}
 use Rattle.rules.specs.Ceilings.{ceiling}
 use Rattle.rules.specs.Components.{colorRound, colorEnds}
@@ -15,32 +15,32 @@ use Rattle.rules.specs.Tree.{parentRound, distRound, treeEnds}
 use Rattle.machine.specs.State.{State}
 use Rattle.machine.specs.State.{MAX-REQUESTS, units, links}
 use Rattle.machine.specs.Step
-use Rattle.machine.specs.StageLaws.{ticked, step-1, ends-1, requests-1, step-2, ends-2, requests-2}
+use Rattle.machine.specs.StageLaws.{ticked, step-at, ends-at, requests-at}
 use Rattle.reach.specs.Site.{Site}
 use Rattle.reach.specs.Rooted.{Rooted}
 use Rattle.reach.specs.Sized.{Sized}
 use Rattle.reach.specs.Colors
 use Rattle.reach.specs.BreadthFirst
 use Rattle.reach.specs.Invariant.{Base, Fresh, Treed, In1, In2, In3, Reached, in1, in2, in3}
-use Rattle.reach.specs.Ticks.{Goes, uncut, stage-on, made-on, stage-over, made-over, requests-next}
+use Rattle.reach.specs.Ticks.{Goes, goes-within, goes-over, stage-on, made-on, stage-over, made-over, requests-next}
 
 -- ---- stage 1
 
 module _ (s : State) (b : Base s) (i : In1 s) where
   within-1 : s .clock .requests + Step.roundRequests s ≤ MAX-REQUESTS
-  within-1 = omega (arith, i .quiet, requests-1 s (i .stage))
+  within-1 = omega (arith, i .quiet, requests-at 1 s (i .stage))
 
   color-room : units s ≤ length (s .components .color)
   color-room = omega (arith, b .site .fewUnits, b .sized .byUnit .0)
 
   rule-1 : Step.ruleEnds s ≡ colorEnds (units s) (s .clock .made) (s .components .color) (colorRound (units s) (links s) (s .clock .made) (s .table .ends) (s .components .color))
   unfolding Step.components
-  rule-1 = ends-1 s (i .stage)
+  rule-1 = ends-at 1 s (i .stage)
 
   quiet-1 : (last : Bool) → Step.nextClock last (Step.roundRequests s) (s .clock) .requests ≡ 0
   quiet-1 last =
-      requests-next last (Step.roundRequests s) (s .clock) (omega (arith, i .quiet, requests-1 s (i .stage)))
-      ∙ omega (arith, i .quiet, requests-1 s (i .stage))
+      requests-next last (Step.roundRequests s) (s .clock) (omega (arith, i .quiet, requests-at 1 s (i .stage)))
+      ∙ omega (arith, i .quiet, requests-at 1 s (i .stage))
 
   fresh-1 : Fresh (ticked s (Step.components s))
   unfolding Step.components
@@ -81,23 +81,20 @@ module _ (s : State) (b : Base s) (i : In1 s) where
       first : s .clock .made ≡ 0 → Goes s
       first z =
           let rule : Step.ruleEnds s ≡ false = rule-1 ∙ rw z (Colors.first-goes-on (b .site) (s .components .color) _) in
-          let u : Step.lastRound s ≡ Step.ruleEnds s = uncut s (λ e. rw (i .stage) (omega arith)) in
-          record { uncut = u; unclamped = within-1; after = rw (step-1 s (i .stage)) (on-1 (u ∙ rule) (rw z (Colors.first (b .site) (s .components .color) color-room))) }
+          goes-within s (Step.components s) within-1 (step-at 1 tt s (i .stage)) rule (rw (i .stage) (omega arith)) (λ q. on-1 q (rw z (Colors.first (b .site) (s .components .color) color-room)))
 
       go : (s .clock .made ≡ 0) ⊎ Later → (Step.ruleEnds s ≡ true) ⊎ (Step.ruleEnds s ≡ false) → Goes s
       go (inl z) r = first z
       go (inr (l, c)) (inr r) =
-          let u : Step.lastRound s ≡ Step.ruleEnds s = uncut s (λ e. rw (i .stage) (omega (arith, Colors.bound (b .site) c l (sym rule-1 ∙ r)))) in
-          record { uncut = u; unclamped = within-1; after = rw (step-1 s (i .stage)) (on-1 (u ∙ r) (Colors.next (b .site) c l)) }
+          goes-within s (Step.components s) within-1 (step-at 1 tt s (i .stage)) r (rw (i .stage) (omega (arith, Colors.bound (b .site) c l (sym rule-1 ∙ r)))) (λ q. on-1 q (Colors.next (b .site) c l))
       go (inr (l, c)) (inl r) =
-          let u : Step.lastRound s ≡ Step.ruleEnds s = uncut s (λ e. absurd (not-both (Step.ruleEnds s) r e)) in
-          record { uncut = u; unclamped = within-1; after = rw (step-1 s (i .stage)) (over-1 (u ∙ r) (Colors.done (b .site) c l (sym rule-1 ∙ r))) }
+          goes-over s (Step.components s) within-1 (step-at 1 tt s (i .stage)) r (λ q. over-1 q (Colors.done (b .site) c l (sym rule-1 ∙ r)))
 
 -- ---- stage 2
 
 module _ (s : State) (b : Base s) (i : In2 s) where
   within-2 : s .clock .requests + Step.roundRequests s ≤ MAX-REQUESTS
-  within-2 = omega (arith, i .quiet, requests-2 s (i .stage))
+  within-2 = omega (arith, i .quiet, requests-at 2 s (i .stage))
 
   parents′ : List ℕ
   parents′ = parentRound (units s) (links s) (s .clock .made) (s .table .ends) (s .components .color) (s .tree .dist) (s .tree .parent)
@@ -107,8 +104,8 @@ module _ (s : State) (b : Base s) (i : In2 s) where
 
   quiet-2 : (last : Bool) → Step.nextClock last (Step.roundRequests s) (s .clock) .requests ≡ 0
   quiet-2 last =
-      requests-next last (Step.roundRequests s) (s .clock) (omega (arith, i .quiet, requests-2 s (i .stage)))
-      ∙ omega (arith, i .quiet, requests-2 s (i .stage))
+      requests-next last (Step.roundRequests s) (s .clock) (omega (arith, i .quiet, requests-at 2 s (i .stage)))
+      ∙ omega (arith, i .quiet, requests-at 2 s (i .stage))
 
   on-2 : Step.lastRound s ≡ false → BreadthFirst.TreeAt (units s) (links s) (s .table .ends) (s .components .color) parents′ dists′ (suc (s .clock .made))
       → Reached (ticked s (Step.tree s))
@@ -146,7 +143,7 @@ module _ (s : State) (b : Base s) (i : In2 s) where
   goes-2 = go (i .tree) (either (Step.ruleEnds s))
     where
       rule : Step.ruleEnds s ≡ treeEnds (units s) (links s) (s .clock .made) (s .table .ends) (s .components .color) (s .tree .dist)
-      rule = ends-2 s (i .stage)
+      rule = ends-at 2 s (i .stage)
 
       Later : Type 0
       Later = (1 ≤ s .clock .made) × BreadthFirst.TreeAt (units s) (links s) (s .table .ends) (s .components .color) (s .tree .parent) (s .tree .dist) (s .clock .made)
@@ -154,20 +151,10 @@ module _ (s : State) (b : Base s) (i : In2 s) where
       go : ((s .clock .made ≡ 0) × Fresh s) ⊎ Later → (Step.ruleEnds s ≡ true) ⊎ (Step.ruleEnds s ≡ false) → Goes s
       go (inl (z, f)) r =
           let e : Step.ruleEnds s ≡ false = rule ∙ rw z (BreadthFirst.first-goes-on (b .site) (i .colored) (s .tree .dist)) in
-          let u : Step.lastRound s ≡ Step.ruleEnds s = uncut s (λ q. rw (i .stage) (omega (arith, b .site .someUnit))) in
-          record {
-            uncut = u;
-            unclamped = within-2;
-            after =
-                rw (step-2 s (i .stage))
-                (on-2 (u ∙ e)
-                (rw z
-                (BreadthFirst.first (b .site) (i .colored) (s .tree .parent) (s .tree .dist) (omega (arith, b .site .fewUnits, b .sized .byUnit .1 .0))
-                (omega (arith, b .site .fewUnits, b .sized .byUnit .1 .1 .0)) (f .parents) (f .distances))));
-          }
+          let first = BreadthFirst.first (b .site) (i .colored) (s .tree .parent) (s .tree .dist) (omega (arith, b .site .fewUnits, b .sized .byUnit .1 .0))
+          (omega (arith, b .site .fewUnits, b .sized .byUnit .1 .1 .0)) (f .parents) (f .distances) in
+          goes-within s (Step.tree s) within-2 (step-at 2 tt s (i .stage)) e (rw (i .stage) (omega (arith, b .site .someUnit))) (λ q. on-2 q (rw z first))
       go (inr (l, t)) (inr r) =
-          let u : Step.lastRound s ≡ Step.ruleEnds s = uncut s (λ q. rw (i .stage) (omega (arith, BreadthFirst.bound (b .site) (i .colored) t l (sym rule ∙ r)))) in
-          record { uncut = u; unclamped = within-2; after = rw (step-2 s (i .stage)) (on-2 (u ∙ r) (BreadthFirst.next (b .site) (i .colored) t l)) }
+          goes-within s (Step.tree s) within-2 (step-at 2 tt s (i .stage)) r (rw (i .stage) (omega (arith, BreadthFirst.bound (b .site) (i .colored) t l (sym rule ∙ r)))) (λ q. on-2 q (BreadthFirst.next (b .site) (i .colored) t l))
       go (inr (l, t)) (inl r) =
-          let u : Step.lastRound s ≡ Step.ruleEnds s = uncut s (λ q. absurd (not-both (Step.ruleEnds s) r q)) in
-          record { uncut = u; unclamped = within-2; after = rw (step-2 s (i .stage)) (over-2 (u ∙ r) (BreadthFirst.done (b .site) (i .colored) t l (sym rule ∙ r))) }
+          goes-over s (Step.tree s) within-2 (step-at 2 tt s (i .stage)) r (λ q. over-2 q (BreadthFirst.done (b .site) (i .colored) t l (sym rule ∙ r)))

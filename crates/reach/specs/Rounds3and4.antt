@@ -8,7 +8,7 @@ use native.Mathlib.Numerals.{add-one}
 use native.Mathlib.Omega.{arith}
 use lib.Dec.{eqb}
 use lib.ListN.{length}
-use Rattle.lists.specs.Tests.{either, not-both}
+use Rattle.lists.specs.Tests.{either}
 use Rattle.lists.specs.Tables.{getD-over, length-over}
 use Rattle.rules.specs.Basics.{ABSENT, at}
 use Rattle.rules.specs.Tour.{isArc, follower, predecessor, nextRound, predRound, firstSums, firstJumps}
@@ -16,28 +16,28 @@ use Rattle.rules.specs.Ranking.{jumpRound, sumRound, requestsOf, rankingEnds}
 use Rattle.machine.specs.State.{State}
 use Rattle.machine.specs.State.{MAX-REQUESTS, units, links}
 use Rattle.machine.specs.Step
-use Rattle.machine.specs.StageLaws.{ticked, tour-first, tour-second, step-3, ends-3, requests-3, step-4, ends-4, requests-4}
+use Rattle.machine.specs.StageLaws.{ticked, tour-first, tour-second, step-at, ends-at, requests-at}
 use Rattle.reach.specs.Potentials.{Step as Next, rank-le-all}
 use Rattle.reach.specs.TourOf.{Preceded, none, start, after, preceded}
 use Rattle.reach.specs.Doubling
 use Rattle.reach.specs.Doubling.{Ranked, asked}
 use Rattle.reach.specs.Invariant.{Base, Treed, Toured, rank, ranks, In3, In4, In5, Reached, in3, in4, in5}
 use Rattle.reach.specs.RankingOf.{first-potential, requests-few, room-left}
-use Rattle.reach.specs.Ticks.{Goes, uncut, stage-on, made-on, stage-over, made-over, requests-next}
+use Rattle.reach.specs.Ticks.{Goes, goes-within, goes-over, stage-on, made-on, stage-over, made-over, requests-next}
 
 -- ---- stage 3
 
 module _ (s : State) (b : Base s) (i : In3 s) where
   within-3 : s .clock .requests + Step.roundRequests s ≤ MAX-REQUESTS
-  within-3 = omega (arith, i .quiet, requests-3 s (i .stage))
+  within-3 = omega (arith, i .quiet, requests-at 3 s (i .stage))
 
   arcs-fit : (k : ℕ) → k ≡ 512 → (a : ℕ) → a < 2 * units s → a < k
   arcs-fit k e a l = omega (arith, b .site .fewUnits)
 
   quiet-3 : (last : Bool) → Step.nextClock last (Step.roundRequests s) (s .clock) .requests ≡ 0
   quiet-3 last =
-      requests-next last (Step.roundRequests s) (s .clock) (omega (arith, i .quiet, requests-3 s (i .stage)))
-      ∙ omega (arith, i .quiet, requests-3 s (i .stage))
+      requests-next last (Step.roundRequests s) (s .clock) (omega (arith, i .quiet, requests-at 3 s (i .stage)))
+      ∙ omega (arith, i .quiet, requests-at 3 s (i .stage))
 
   -- round one
   first-3 : s .clock .made ≡ 0 → Step.lastRound s ≡ false → Reached (ticked s (Step.tourNext s))
@@ -107,20 +107,18 @@ module _ (s : State) (b : Base s) (i : In3 s) where
     where
       go : (s .clock .made ≡ 0) ⊎ ((s .clock .made ≡ 1) × ((a : ℕ) → a < 2 * units s → at (s .tour .next) a ≡ follower (units s) (s .tree .parent) a)) → Goes s
       go (inl z) =
-          let r : Step.ruleEnds s ≡ false = ends-3 s (i .stage) ∙ rw z refl in
-          let u : Step.lastRound s ≡ Step.ruleEnds s = uncut s (λ q. rw (i .stage) (omega arith)) in
-          record { uncut = u; unclamped = within-3; after = rw (step-3 s (i .stage) ∙ ap (ticked s) (tour-first s z)) (first-3 z (u ∙ r)) }
+          let r : Step.ruleEnds s ≡ false = ends-at 3 s (i .stage) ∙ rw z refl in
+          goes-within s (Step.tourNext s) within-3 (step-at 3 tt s (i .stage) ∙ ap (ticked s) (tour-first s z)) r (rw (i .stage) (omega arith)) (first-3 z)
       go (inr (z, f)) =
-          let r : Step.ruleEnds s ≡ true = ends-3 s (i .stage) ∙ rw z refl in
-          let u : Step.lastRound s ≡ Step.ruleEnds s = uncut s (λ q. absurd (not-both (Step.ruleEnds s) r q)) in
-          record { uncut = u; unclamped = within-3; after = rw (step-3 s (i .stage) ∙ ap (ticked s) (tour-second s z)) (second-3 f (u ∙ r)) }
+          let r : Step.ruleEnds s ≡ true = ends-at 3 s (i .stage) ∙ rw z refl in
+          goes-over s (Step.tourPred s) within-3 (step-at 3 tt s (i .stage) ∙ ap (ticked s) (tour-second s z)) r (second-3 f)
 
 -- ---- stage 4
 
 module _ (s : State) (b : Base s) (i : In4 s) where
   asked-1 : s .clock .requests + Step.roundRequests s ≡ asked (2 * units s) (rank s (i .toured .treed)) (suc (s .clock .made))
   asked-1 =
-      ap₂ _+_ (i .asks) (requests-4 s (i .stage)) ∙ Doubling.asked-next (first-potential s b (i .toured .treed)) (i .ranked)
+      ap₂ _+_ (i .asks) (requests-at 4 s (i .stage)) ∙ Doubling.asked-next (first-potential s b (i .toured .treed)) (i .ranked)
 
   within-4 : s .clock .requests + Step.roundRequests s ≤ MAX-REQUESTS
   within-4 = omega (arith, asked-1, requests-few s b (i .toured .treed) (suc (s .clock .made)))
@@ -169,13 +167,11 @@ module _ (s : State) (b : Base s) (i : In4 s) where
   goes-4 = go (either (Step.ruleEnds s))
     where
       rule : Step.ruleEnds s ≡ rankingEnds (2 * units s) (s .ranking .jump)
-      rule = ends-4 s (i .stage)
+      rule = ends-at 4 s (i .stage)
 
       go : (Step.ruleEnds s ≡ true) ⊎ (Step.ruleEnds s ≡ false) → Goes s
       go (inl r) =
-          let u : Step.lastRound s ≡ Step.ruleEnds s = uncut s (λ q. absurd (not-both (Step.ruleEnds s) r q)) in
-          record { uncut = u; unclamped = within-4; after = rw (step-4 s (i .stage)) (over-4 (sym rule ∙ r) (u ∙ r)) }
+          goes-over s (Step.ranking s) within-4 (step-at 4 tt s (i .stage)) r (over-4 (sym rule ∙ r))
       go (inr r) =
           let k = Doubling.bound (first-potential s b (i .toured .treed)) (i .ranked) (sym rule ∙ r) _ (λ a l. rank-le-all (i .toured .treed .rooted) a) in
-          let u : Step.lastRound s ≡ Step.ruleEnds s = uncut s (λ q. rw (i .stage) (room-left s b (i .toured .treed) (s .clock .made) k)) in
-          record { uncut = u; unclamped = within-4; after = rw (step-4 s (i .stage)) (on-4 (u ∙ r)) }
+          goes-within s (Step.ranking s) within-4 (step-at 4 tt s (i .stage)) r (rw (i .stage) (room-left s b (i .toured .treed) (s .clock .made) k)) on-4

@@ -8,7 +8,7 @@ use native.Mathlib.Numerals.{add-one}
 use native.Mathlib.Omega.{arith}
 use lib.Dec.{eqb, ltb}
 use lib.ListN.{length}
-use Rattle.lists.specs.Tests.{either, not-both, cond-true, cond-false}
+use Rattle.lists.specs.Tests.{either, cond-true, cond-false}
 use Rattle.lists.specs.Tables.{getD-over, length-over}
 use Rattle.rules.specs.Basics.{ABSENT, at}
 use Rattle.rules.specs.Tour.{isInto, isArc, predecessor}
@@ -18,7 +18,7 @@ use Rattle.graph.specs.Forest.{Anc}
 use Rattle.machine.specs.State.{State}
 use Rattle.machine.specs.State.{MAX-REQUESTS, units, links}
 use Rattle.machine.specs.Step
-use Rattle.machine.specs.StageLaws.{ticked, marks-first, marks-second, step-5, ends-5, requests-5, step-6, ends-6, requests-6}
+use Rattle.machine.specs.StageLaws.{ticked, marks-first, marks-second, step-at, ends-at, requests-at}
 use Rattle.reach.specs.SizeAndOrder.{nd, nd-positive}
 use Rattle.reach.specs.Potentials.{Step as Next, rank-le-all}
 use Rattle.reach.specs.TourOf.{Preceded, none, start, after, preceded, start-into}
@@ -28,7 +28,7 @@ use Rattle.reach.specs.Doubling.{Ranked, asked}
 use Rattle.reach.specs.Ordered.{Ordered}
 use Rattle.reach.specs.Invariant.{Base, Treed, Toured, Numbered, rank, sums, In5, In6, In7, Reached, in5, in6, in7}
 use Rattle.reach.specs.RankingOf.{second-potential, requests-few, room-left}
-use Rattle.reach.specs.Ticks.{Goes, uncut, stage-on, made-on, stage-over, made-over, requests-next}
+use Rattle.reach.specs.Ticks.{Goes, goes-within, goes-over, stage-on, made-on, stage-over, made-over, requests-next}
 
 -- a table with an entry for each arc is long enough for n units
 arcs-fit : (s : State) → Base s → (k : ℕ) → k ≡ 512 → (a : ℕ) → a < 2 * units s → a < k
@@ -41,11 +41,11 @@ units-fit s b k e v l = omega (arith, b .site .fewUnits)
 
 module _ (s : State) (b : Base s) (i : In5 s) where
   within-5 : s .clock .requests + Step.roundRequests s ≤ MAX-REQUESTS
-  within-5 = omega (arith, i .few, requests-5 s (i .stage))
+  within-5 = omega (arith, i .few, requests-at 5 s (i .stage))
 
   same-5 : (last : Bool) → Step.nextClock last (Step.roundRequests s) (s .clock) .requests ≤ 4079
   same-5 last =
-      omega (arith, requests-next last (Step.roundRequests s) (s .clock) (omega (arith, i .few, requests-5 s (i .stage))), i .few, requests-5 s (i .stage))
+      omega (arith, requests-next last (Step.roundRequests s) (s .clock) (omega (arith, i .few, requests-at 5 s (i .stage))), i .few, requests-at 5 s (i .stage))
 
   -- round one
   first-5 : s .clock .made ≡ 0 → Step.lastRound s ≡ false → Reached (ticked s (Step.marksForward s))
@@ -138,20 +138,18 @@ module _ (s : State) (b : Base s) (i : In5 s) where
     where
       go : (s .clock .made ≡ 0) ⊎ ((s .clock .made ≡ 1) × ((a : ℕ) → a < 2 * units s → isArc (s .tree .parent) a ≡ true → at (s .order .forward) a ≡ cond (isInto a) 1 0)) → Goes s
       go (inl z) =
-          let r : Step.ruleEnds s ≡ false = ends-5 s (i .stage) ∙ rw z refl in
-          let u : Step.lastRound s ≡ Step.ruleEnds s = uncut s (λ q. rw (i .stage) (omega arith)) in
-          record { uncut = u; unclamped = within-5; after = rw (step-5 s (i .stage) ∙ ap (ticked s) (marks-first s z)) (first-5 z (u ∙ r)) }
+          let r : Step.ruleEnds s ≡ false = ends-at 5 s (i .stage) ∙ rw z refl in
+          goes-within s (Step.marksForward s) within-5 (step-at 5 tt s (i .stage) ∙ ap (ticked s) (marks-first s z)) r (rw (i .stage) (omega arith)) (first-5 z)
       go (inr (z, f)) =
-          let r : Step.ruleEnds s ≡ true = ends-5 s (i .stage) ∙ rw z refl in
-          let u : Step.lastRound s ≡ Step.ruleEnds s = uncut s (λ q. absurd (not-both (Step.ruleEnds s) r q)) in
-          record { uncut = u; unclamped = within-5; after = rw (step-5 s (i .stage) ∙ ap (ticked s) (marks-second s z)) (second-5 f (u ∙ r)) }
+          let r : Step.ruleEnds s ≡ true = ends-at 5 s (i .stage) ∙ rw z refl in
+          goes-over s (Step.marksDescendants s) within-5 (step-at 5 tt s (i .stage) ∙ ap (ticked s) (marks-second s z)) r (second-5 f)
 
 -- ---- stage 6
 
 module _ (s : State) (b : Base s) (i : In6 s) where
   asked-6 : asked (2 * units s) (rank s (i .treed)) (s .clock .made) + Step.roundRequests s ≡ asked (2 * units s) (rank s (i .treed)) (suc (s .clock .made))
   asked-6 =
-      ap (λ (x : ℕ). asked (2 * units s) (rank s (i .treed)) (s .clock .made) + x) (requests-6 s (i .stage))
+      ap (λ (x : ℕ). asked (2 * units s) (rank s (i .treed)) (s .clock .made) + x) (requests-at 6 s (i .stage))
       ∙ Doubling.asked-next (second-potential s b (i .treed)) (i .ranked)
 
   within-6 : s .clock .requests + Step.roundRequests s ≤ MAX-REQUESTS
@@ -229,15 +227,11 @@ module _ (s : State) (b : Base s) (i : In6 s) where
   goes-6 = go (either (Step.ruleEnds s))
     where
       rule : Step.ruleEnds s ≡ rankingEnds (2 * units s) (s .ranking .jump)
-      rule = ends-6 s (i .stage)
+      rule = ends-at 6 s (i .stage)
 
       go : (Step.ruleEnds s ≡ true) ⊎ (Step.ruleEnds s ≡ false) → Goes s
       go (inl r) =
-          let u : Step.lastRound s ≡ Step.ruleEnds s = uncut s (λ q. absurd (not-both (Step.ruleEnds s) r q)) in
-          let tables : cond (Step.lastRound s) (Step.places s) (Step.ranking s) ≡ Step.places s = cond-true (Step.lastRound s) (Step.places s) (Step.ranking s) (u ∙ r) in
-          record { uncut = u; unclamped = within-6; after = rw (step-6 s (i .stage) ∙ ap (ticked s) tables) (over-6 (sym rule ∙ r) (u ∙ r)) }
+          goes-over s (cond (Step.lastRound s) (Step.places s) (Step.ranking s)) within-6 (step-at 6 tt s (i .stage)) r (λ q. rw (cond-true (Step.lastRound s) (Step.places s) (Step.ranking s) q) (over-6 (sym rule ∙ r) q))
       go (inr r) =
           let k = Doubling.bound (second-potential s b (i .treed)) (i .ranked) (sym rule ∙ r) _ (λ a l. rank-le-all (i .treed .rooted) a) in
-          let u : Step.lastRound s ≡ Step.ruleEnds s = uncut s (λ q. rw (i .stage) (room-left s b (i .treed) (s .clock .made) k)) in
-          let tables : cond (Step.lastRound s) (Step.places s) (Step.ranking s) ≡ Step.ranking s = cond-false (Step.lastRound s) (Step.places s) (Step.ranking s) (u ∙ r) in
-          record { uncut = u; unclamped = within-6; after = rw (step-6 s (i .stage) ∙ ap (ticked s) tables) (on-6 (u ∙ r)) }
+          goes-within s (cond (Step.lastRound s) (Step.places s) (Step.ranking s)) within-6 (step-at 6 tt s (i .stage)) r (rw (i .stage) (room-left s b (i .treed) (s .clock .made) k)) (λ q. rw (cond-false (Step.lastRound s) (Step.places s) (Step.ranking s) q) (on-6 q))

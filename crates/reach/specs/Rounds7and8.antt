@@ -8,7 +8,7 @@ use native.Mathlib.Omega.{arith}
 use lib.Dec.{eqb}
 use lib.ListN.{length}
 use borrow.Author.Tests.{eqb-true, eqb-false}
-use Rattle.lists.specs.Tests.{either, not-both}
+use Rattle.lists.specs.Tests.{either}
 use Rattle.lists.specs.Tables.{getD-over}
 use Rattle.numbers.specs.Lg.{lg}
 use Rattle.table.specs.Table.{endA, endB}
@@ -21,7 +21,7 @@ use Rattle.state.specs.declared.groups.Range.{Range}
 use Rattle.state.specs.declared.groups.Global.{Global}
 use Rattle.machine.specs.State.{MAX-REQUESTS, units, links, withRange, withGlobal}
 use Rattle.machine.specs.Step
-use Rattle.machine.specs.StageLaws.{ticked, range-first, range-later, step-7, ends-7, requests-7, step-8, ends-8, requests-8}
+use Rattle.machine.specs.StageLaws.{ticked, range-first, range-later, step-at, ends-at, requests-at}
 use Rattle.reach.specs.Segments
 use Rattle.reach.specs.Segments.{SegmentsAt, Spans, lastPlace, place-spans, first-round, over-descendants}
 use Rattle.reach.specs.Ordered.{Ordered, Ranged}
@@ -29,7 +29,7 @@ use Rattle.reach.specs.OffTheTree.{off-exact}
 use Rattle.reach.specs.AuxEdges.{joins-exact}
 use Rattle.reach.specs.AuxColors.{Marked}
 use Rattle.reach.specs.Invariant.{Base, Numbered, In7, In8, Reached, in7, in8, in9}
-use Rattle.reach.specs.Ticks.{Goes, uncut, stage-on, made-on, stage-over, made-over, requests-next}
+use Rattle.reach.specs.Ticks.{Goes, goes-within, goes-over, stage-on, made-on, stage-over, made-over, requests-next}
 
 -- low and high over all descendants, from the last segments
 module _ (s : State) (b : Base s) (numbered : Numbered s) where
@@ -79,11 +79,11 @@ module _ (s : State) (b : Base s) (numbered : Numbered s) where
 
 module _ (s : State) (b : Base s) (i : In7 s) where
   within-7 : s .clock .requests + Step.roundRequests s ≤ MAX-REQUESTS
-  within-7 = omega (arith, i .few, requests-7 s (i .stage))
+  within-7 = omega (arith, i .few, requests-at 7 s (i .stage))
 
   same-7 : (last : Bool) → Step.nextClock last (Step.roundRequests s) (s .clock) .requests ≤ 8158
   same-7 last =
-      omega (arith, requests-next last (Step.roundRequests s) (s .clock) (omega (arith, i .few, requests-7 s (i .stage))), i .few, requests-7 s (i .stage))
+      omega (arith, requests-next last (Step.roundRequests s) (s .clock) (omega (arith, i .few, requests-at 7 s (i .stage))), i .few, requests-at 7 s (i .stage))
 
   numbered-7 : (r : Range) (g : Global) → Numbered (ticked s (withRange r (withGlobal g s)))
   numbered-7 r g =
@@ -136,17 +136,15 @@ module _ (s : State) (b : Base s) (i : In7 s) where
   goes-by r g e l h = go (either (Step.ruleEnds s))
     where
       rule : Step.ruleEnds s ≡ eqb (s .clock .made) (lg (units s))
-      rule = ends-7 s (i .stage)
+      rule = ends-at 7 s (i .stage)
 
       go : (Step.ruleEnds s ≡ true) ⊎ (Step.ruleEnds s ≡ false) → Goes s
       go (inl q) =
-          let u : Step.lastRound s ≡ Step.ruleEnds s = uncut s (λ f. absurd (not-both (Step.ruleEnds s) q f)) in
           let m : s .clock .made ≡ lg (units s) = eqb-true (s .clock .made) (lg (units s)) (sym rule ∙ q) in
-          record { uncut = u; unclamped = within-7; after = rw e (over-7 r g (u ∙ q) (rw (← m) l) (rw (← m) h)) }
+          goes-over s (withRange r (withGlobal g s)) within-7 e q (λ last. over-7 r g last (rw (← m) l) (rw (← m) h))
       go (inr q) =
           let m : s .clock .made ≡ lg (units s) → ⊥ = eqb-false (s .clock .made) (lg (units s)) (sym rule ∙ q) in
-          let u : Step.lastRound s ≡ Step.ruleEnds s = uncut s (λ f. rw (i .stage) (omega (arith, i .early, m))) in
-          record { uncut = u; unclamped = within-7; after = rw e (on-7 r g (u ∙ q) (omega (arith, i .early, m)) l h) }
+          goes-within s (withRange r (withGlobal g s)) within-7 e q (rw (i .stage) (omega (arith, i .early, m))) (λ last. on-7 r g last (omega (arith, i .early, m)) l h)
 
   spans : Spans (units s) (at (s .order .pre)) (lastPlace (s .order .nd) (s .order .pre))
   spans = place-spans (units s) (s .order .nd) (s .order .pre) (few-units s b (i .numbered)) (i .numbered .ordered .ndSome) (i .numbered .ordered .within)
@@ -168,7 +166,7 @@ module _ (s : State) (b : Base s) (i : In7 s) where
         low = globalFirst min (units s) (links s) (s .table .ends) (s .tree .parent) (s .order .pre) (s .global .low);
         high = globalFirst max (units s) (links s) (s .table .ends) (s .tree .parent) (s .order .pre) (s .global .high);
       })
-      (step-7 s (i .stage) ∙ ap (ticked s) (range-first s z))
+      (step-at 7 tt s (i .stage) ∙ ap (ticked s) (range-first s z))
       (rw z
       (first-round (units s) (s .order .nd) (s .order .pre) (few-units s b (i .numbered)) (i .numbered .ordered .ndSome) (i .numbered .ordered .within) min-choice (links s)
       (s .table .ends) (s .tree .parent) (s .global .low) (s .range .low) (s .range .little) (s .range .big) (fits _ globalLow) (fits _ low) (fits _ little) (fits _ big)))
@@ -209,7 +207,7 @@ module _ (s : State) (b : Base s) (i : In7 s) where
         low = globalLater min (s .clock .made - 1) (units s) (s .global .low);
         high = globalLater max (s .clock .made - 1) (units s) (s .global .high);
       })
-      (step-7 s (i .stage) ∙ ap (ticked s) (range-later s (omega arith)))
+      (step-at 7 tt s (i .stage) ∙ ap (ticked s) (range-later s (omega arith)))
       (counted (Segments.next min-choice spans l))
       (counted (Segments.next max-choice spans h))
     where
@@ -236,7 +234,7 @@ module _ (s : State) (b : Base s) (i : In7 s) where
 
 module _ (s : State) (b : Base s) (i : In8 s) where
   within-8 : s .clock .requests + Step.roundRequests s ≤ MAX-REQUESTS
-  within-8 = omega (arith, i .few, requests-8 s (i .stage))
+  within-8 = omega (arith, i .few, requests-at 8 s (i .stage))
 
   mark-exact : {A : Type 0} (x : Bool) → (x ≡ true) ↔ A → (y : ℕ) → y ≡ cond x 1 0 → (y ≡ 0 → ⊥) ↔ A
   mark-exact true h y e = (λ n. h .0 refl, λ a. omega arith)
@@ -268,7 +266,7 @@ module _ (s : State) (b : Base s) (i : In8 s) where
       in9
       (record {
         stage = stage-over (Step.lastRound s) (Step.roundRequests s) (s .clock) e ∙ omega (arith, i .stage);
-        few = omega (arith, requests-next (Step.lastRound s) (Step.roundRequests s) (s .clock) (omega (arith, i .few, requests-8 s (i .stage))), i .few, requests-8 s (i .stage));
+        few = omega (arith, requests-next (Step.lastRound s) (Step.roundRequests s) (s .clock) (omega (arith, i .few, requests-at 8 s (i .stage))), i .few, requests-at 8 s (i .stage));
         numbered =
             record {
               treed = record { depth = i .numbered .treed .depth; rooted = i .numbered .treed .rooted; unrelated = i .numbered .treed .unrelated };
@@ -279,7 +277,4 @@ module _ (s : State) (b : Base s) (i : In8 s) where
       })
 
   pub goes-8 : Goes s
-  goes-8 =
-      let r : Step.ruleEnds s ≡ true = ends-8 s (i .stage) in
-      let u : Step.lastRound s ≡ Step.ruleEnds s = uncut s (λ q. absurd (not-both (Step.ruleEnds s) r q)) in
-      record { uncut = u; unclamped = within-8; after = rw (step-8 s (i .stage)) (over-8 (u ∙ r)) }
+  goes-8 = goes-over s (Step.auxEdges s) within-8 (step-at 8 tt s (i .stage)) (ends-at 8 s (i .stage)) over-8

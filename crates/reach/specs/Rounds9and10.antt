@@ -8,7 +8,7 @@ use native.Mathlib.Numerals.{add-one}
 use native.Mathlib.Omega.{arith}
 use lib.Dec.{eqb}
 use lib.ListN.{length}
-use Rattle.lists.specs.Tests.{either, not-both}
+use Rattle.lists.specs.Tests.{either}
 use Rattle.lists.specs.Tables.{getD-over}
 use Rattle.table.specs.Table.{endA, endB}
 use Rattle.rules.specs.Basics.{at}
@@ -18,25 +18,25 @@ use Rattle.graph.specs.Forest.{Classes}
 use Rattle.machine.specs.State.{State}
 use Rattle.machine.specs.State.{MAX-REQUESTS, units, links}
 use Rattle.machine.specs.Step
-use Rattle.machine.specs.StageLaws.{ticked, labels-first, labels-second, step-9, ends-9, requests-9, step-10, ends-10, requests-10}
+use Rattle.machine.specs.StageLaws.{ticked, labels-first, labels-second, step-at, ends-at, requests-at}
 use Rattle.reach.specs.Site.{Link}
 use Rattle.reach.specs.AuxColors.{Marked, auxAfter, aux-first, aux-next, aux-bound, aux-done}
 use Rattle.reach.specs.LabelsRight.{labels-right}
 use Rattle.reach.specs.Invariant.{Base, Numbered, In9, In10, In11, Reached, in9, in10, in11}
-use Rattle.reach.specs.Ticks.{Goes, uncut, stage-on, made-on, stage-over, made-over, requests-next}
+use Rattle.reach.specs.Ticks.{Goes, goes-within, goes-over, stage-on, made-on, stage-over, made-over, requests-next}
 
 -- ---- stage 9
 
 module _ (s : State) (b : Base s) (i : In9 s) where
   within-9 : s .clock .requests + Step.roundRequests s ≤ MAX-REQUESTS
-  within-9 = omega (arith, i .few, requests-9 s (i .stage))
+  within-9 = omega (arith, i .few, requests-at 9 s (i .stage))
 
   after : List ℕ → ℕ → List ℕ
   after first k = auxAfter (units s) (links s) (s .table .ends) (s .tree .parent) (s .aux .links) (s .aux .parents) first k
 
   same-9 : (last : Bool) → Step.nextClock last (Step.roundRequests s) (s .clock) .requests ≤ 8158
   same-9 last =
-      omega (arith, requests-next last (Step.roundRequests s) (s .clock) (omega (arith, i .few, requests-9 s (i .stage))), i .few, requests-9 s (i .stage))
+      omega (arith, requests-next last (Step.roundRequests s) (s .clock) (omega (arith, i .few, requests-at 9 s (i .stage))), i .few, requests-at 9 s (i .stage))
 
   numbered-9 : Numbered (ticked s (Step.auxComponents s))
   unfolding Step.auxComponents
@@ -78,20 +78,12 @@ module _ (s : State) (b : Base s) (i : In9 s) where
   first-9 : s .clock .made ≡ 0 → Goes s
   unfolding after auxEnds
   first-9 z =
-      record {
-        uncut = u;
-        unclamped = within-9;
-        after =
-            rw (step-9 s (i .stage))
-            (on-9 (s .aux .color) (omega (arith, b .site .fewUnits, b .sized .byUnit .1 .1 .1 .1 .1 .1 .1 .1 .1 .1 .1 .1 .0)) (u ∙ rule)
-            (rw z (aux-first (units s) (links s) (s .table .ends) (s .tree .parent) (s .aux .links) (s .aux .parents) (s .aux .color))));
-      }
+      goes-within s (Step.auxComponents s) within-9 (step-at 9 tt s (i .stage)) rule (rw (i .stage) (omega arith))
+      (λ q. on-9 (s .aux .color) (omega (arith, b .site .fewUnits, b .sized .byUnit .1 .1 .1 .1 .1 .1 .1 .1 .1 .1 .1 .1 .0)) q
+      (rw z (aux-first (units s) (links s) (s .table .ends) (s .tree .parent) (s .aux .links) (s .aux .parents) (s .aux .color))))
     where
       rule : Step.ruleEnds s ≡ false
-      rule = ends-9 s (i .stage) ∙ rw z refl
-
-      u : Step.lastRound s ≡ Step.ruleEnds s
-      u = uncut s (λ q. rw (i .stage) (omega arith))
+      rule = ends-at 9 s (i .stage) ∙ rw z refl
 
   later-9 : (first : List ℕ) (k : ℕ) → units s ≤ length first → s .clock .made ≡ suc k → s .aux .color ≡ after first (suc k) → Goes s
   unfolding after
@@ -101,16 +93,15 @@ module _ (s : State) (b : Base s) (i : In9 s) where
       next = rw (z, c) (aux-next (units s) (links s) (s .table .ends) (s .tree .parent) (s .aux .links) (s .aux .parents) first k)
 
       rule : Step.ruleEnds s ≡ auxEnds (units s) (suc k) (after first (suc k)) (after first (suc (suc k)))
-      rule = ends-9 s (i .stage) ∙ ap (λ (m : ℕ). auxEnds (units s) m (s .aux .color) (Step.auxColors s)) z ∙ ap (λ (x : List ℕ). auxEnds (units s) (suc k) x (Step.auxColors s)) c ∙ ap (auxEnds (units s) (suc k) (after first (suc k))) next
+      rule = ends-at 9 s (i .stage) ∙ ap (λ (m : ℕ). auxEnds (units s) m (s .aux .color) (Step.auxColors s)) z ∙ ap (λ (x : List ℕ). auxEnds (units s) (suc k) x (Step.auxColors s)) c ∙ ap (auxEnds (units s) (suc k) (after first (suc k))) next
 
       go : (Step.ruleEnds s ≡ true) ⊎ (Step.ruleEnds s ≡ false) → Goes s
       go (inl r) =
-          let u : Step.lastRound s ≡ Step.ruleEnds s = uncut s (λ q. absurd (not-both (Step.ruleEnds s) r q)) in
-          record { uncut = u; unclamped = within-9; after = rw (step-9 s (i .stage)) (over-9 (u ∙ r) (rw next (aux-done (b .site) (i .numbered .treed .rooted) (i .marked) first l k (sym rule ∙ r)))) }
+          goes-over s (Step.auxComponents s) within-9 (step-at 9 tt s (i .stage)) r (λ q. over-9 q (rw next (aux-done (b .site) (i .numbered .treed .rooted) (i .marked) first l k (sym rule ∙ r))))
       go (inr r) =
-          let u : Step.lastRound s ≡ Step.ruleEnds s = uncut s (λ q. rw (i .stage) (omega (arith, aux-bound (b .site) (i .numbered .treed .rooted) (i .marked) first l k (sym rule ∙ r)))) in
           let m : s .clock .made + 1 ≡ suc (suc k) = omega arith in
-          record { uncut = u; unclamped = within-9; after = rw (step-9 s (i .stage)) (on-9 first l (u ∙ r) (rw m next)) }
+          goes-within s (Step.auxComponents s) within-9 (step-at 9 tt s (i .stage)) r
+          (rw (i .stage) (omega (arith, aux-bound (b .site) (i .numbered .treed .rooted) (i .marked) first l k (sym rule ∙ r)))) (λ q. on-9 first l q (rw m next))
 
   pub goes-9 : Goes s
   unfolding after
@@ -126,11 +117,11 @@ module _ (s : State) (b : Base s) (i : In9 s) where
 
 module _ (s : State) (b : Base s) (i : In10 s) where
   within-10 : s .clock .requests + Step.roundRequests s ≤ MAX-REQUESTS
-  within-10 = omega (arith, i .few, requests-10 s (i .stage))
+  within-10 = omega (arith, i .few, requests-at 10 s (i .stage))
 
   same-10 : (last : Bool) → Step.nextClock last (Step.roundRequests s) (s .clock) .requests ≤ 8158
   same-10 last =
-      omega (arith, requests-next last (Step.roundRequests s) (s .clock) (omega (arith, i .few, requests-10 s (i .stage))), i .few, requests-10 s (i .stage))
+      omega (arith, requests-next last (Step.roundRequests s) (s .clock) (omega (arith, i .few, requests-at 10 s (i .stage))), i .few, requests-at 10 s (i .stage))
 
   links-fit : (k : ℕ) → k ≡ 1024 → (j : ℕ) → j < links s → j < k
   links-fit k e j l = omega (arith, b .site .fewLinks)
@@ -178,10 +169,8 @@ module _ (s : State) (b : Base s) (i : In10 s) where
     where
       go : (s .clock .made ≡ 0) ⊎ ((s .clock .made ≡ 1) × ((j : ℕ) → j < links s → at (s .labels .class) j ≡ name j)) → Goes s
       go (inl z) =
-          let r : Step.ruleEnds s ≡ false = ends-10 s (i .stage) ∙ rw z refl in
-          let u : Step.lastRound s ≡ Step.ruleEnds s = uncut s (λ q. rw (i .stage) (omega arith)) in
-          record { uncut = u; unclamped = within-10; after = rw (step-10 s (i .stage) ∙ ap (ticked s) (labels-first s z)) (first-10 z (u ∙ r)) }
+          let r : Step.ruleEnds s ≡ false = ends-at 10 s (i .stage) ∙ rw z refl in
+          goes-within s (Step.labelClasses s) within-10 (step-at 10 tt s (i .stage) ∙ ap (ticked s) (labels-first s z)) r (rw (i .stage) (omega arith)) (first-10 z)
       go (inr (z, f)) =
-          let r : Step.ruleEnds s ≡ true = ends-10 s (i .stage) ∙ rw z refl in
-          let u : Step.lastRound s ≡ Step.ruleEnds s = uncut s (λ q. absurd (not-both (Step.ruleEnds s) r q)) in
-          record { uncut = u; unclamped = within-10; after = rw (step-10 s (i .stage) ∙ ap (ticked s) (labels-second s z)) (second-10 f (u ∙ r)) }
+          let r : Step.ruleEnds s ≡ true = ends-at 10 s (i .stage) ∙ rw z refl in
+          goes-over s (Step.labelPositions s) within-10 (step-at 10 tt s (i .stage) ∙ ap (ticked s) (labels-second s z)) r (second-10 f)

@@ -1,9 +1,7 @@
 -- The tables of a state have the lengths of their arrays, and a step keeps them.
 use mathlib.Core.Path.{_≡_}
-use mathlib.Core.Bool.{Bool, cond}
 use mathlib.Core.List.{List, [], _∷_}
-use Prim.Native.Nat.{ℕ, _-_}
-use lib.Dec.{eqb}
+use Prim.Native.Nat.{ℕ}
 use lib.ListN.{length, length-replicate}
 use Rattle.lists.specs.All.{All, cond-keeps}
 use Rattle.lists.specs.Tables.{length-over}
@@ -19,6 +17,7 @@ use Rattle.machine.specs.State.{State}
 use Rattle.machine.specs.State.{finished}
 use Rattle.machine.specs.Load.{Input, loadRefusal, absents, zeros, begun, loaded}
 use Rattle.machine.specs.Step
+use Rattle.machine.specs.StageLaws.{each-round}
 
 -- the tables by what indexes them
 abbrev unitIndexed : State → List (List ℕ)
@@ -197,21 +196,24 @@ module _ (s : State) (z : Sized s) where
       }
 
   tables-sized : Sized (Step.roundTables s)
-  unfolding Step.roundTables Step.tour Step.marks Step.range Step.labels
   tables-sized =
-      choose (eqb (s .clock .stage) 1) components-sized
-      (choose (eqb (s .clock .stage) 2) tree-sized
-      (choose (eqb (s .clock .stage) 3) (choose (eqb (s .clock .made) 0) tourNext-sized tourPred-sized)
-      (choose (eqb (s .clock .stage) 4) ranking-sized
-      (choose (eqb (s .clock .stage) 5) (choose (eqb (s .clock .made) 0) marksForward-sized marksDescendants-sized)
-      (choose (eqb (s .clock .stage) 6) (choose (Step.lastRound s) places-sized ranking-sized)
-      (choose (eqb (s .clock .stage) 7) (choose (eqb (s .clock .made) 0) rangeBegun-sized (rangeDoubled-sized (s .clock .made - 1)))
-      (choose (eqb (s .clock .stage) 8) auxEdges-sized
-      (choose (eqb (s .clock .stage) 9) auxComponents-sized
-      (choose (eqb (s .clock .made) 0) labelClasses-sized labelPositions-sized)))))))))
-    where
-      choose : (b : Bool) {x y : State} → Sized x → Sized y → Sized (cond b x y)
-      choose b {x} {y} p q = cond-keeps Sized b x y p q
+      each-round Sized s
+      (record {
+        components = components-sized;
+        tree = tree-sized;
+        tourNext = tourNext-sized;
+        tourPred = tourPred-sized;
+        ranking = ranking-sized;
+        marksForward = marksForward-sized;
+        marksDescendants = marksDescendants-sized;
+        places = places-sized;
+        rangeBegun = rangeBegun-sized;
+        rangeDoubled = rangeDoubled-sized;
+        auxEdges = auxEdges-sized;
+        auxComponents = auxComponents-sized;
+        labelClasses = labelClasses-sized;
+        labelPositions = labelPositions-sized;
+      })
 
   pub step-sized : Sized (Step.step s)
   unfolding Step.step

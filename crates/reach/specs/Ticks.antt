@@ -6,12 +6,13 @@ use Prim.Native.Nat.{ℕ, suc, _+_, _≤_, _<_, min}
 use native.Mathlib.Omega.{arith}
 use lib.Dec.{leb}
 use borrow.Author.Tests.{lt-leb}
-use Rattle.lists.specs.Tests.{either}
+use Rattle.lists.specs.Tests.{either, not-both}
 use Rattle.rules.specs.Ceilings.{ceiling}
 use Rattle.machine.specs.State.{State}
 use Rattle.state.specs.declared.groups.Clock.{Clock}
 use Rattle.machine.specs.State.{units, MAX-REQUESTS}
 use Rattle.machine.specs.Step
+use Rattle.machine.specs.StageLaws.{ticked}
 use Rattle.reach.specs.Invariant.{Reached}
 
 -- a round of a reached state: not cut short by the ceiling, its requests within their limit, and it leaves a reached state
@@ -21,13 +22,25 @@ pub record Goes (s : State) : Type 0 where
   pub after : Reached (Step.step s)
 
 -- where a round that does not end the stage leaves room below the ceiling, the rule alone decides
-pub uncut : (s : State) → (Step.ruleEnds s ≡ false → s .clock .made + 1 < ceiling (units s) (s .clock .stage)) → Step.lastRound s ≡ Step.ruleEnds s
+uncut : (s : State) → (Step.ruleEnds s ≡ false → s .clock .made + 1 < ceiling (units s) (s .clock .stage)) → Step.lastRound s ≡ Step.ruleEnds s
 unfolding Step.lastRound
 uncut s h = go (either (Step.ruleEnds s))
   where
     go : (Step.ruleEnds s ≡ true) ⊎ (Step.ruleEnds s ≡ false) → Step.lastRound s ≡ Step.ruleEnds s
     go (inl e) = rw e refl
     go (inr e) = rw (e, lt-leb (ceiling (units s) (s .clock .stage)) (s .clock .made + 1) (h e)) refl
+
+-- a round after which the stage goes on, and one that ends it, over the tables that it leaves
+module _ (s tables : State) (within : s .clock .requests + Step.roundRequests s ≤ MAX-REQUESTS) (is : Step.step s ≡ ticked s tables) where
+  pub goes-within : Step.ruleEnds s ≡ false → s .clock .made + 1 < ceiling (units s) (s .clock .stage) → (Step.lastRound s ≡ false → Reached (ticked s tables)) → Goes s
+  goes-within r room after =
+      let u : Step.lastRound s ≡ Step.ruleEnds s = uncut s (λ q. room) in
+      record { uncut = u; unclamped = within; after = rw is (after (u ∙ r)) }
+
+  pub goes-over : Step.ruleEnds s ≡ true → (Step.lastRound s ≡ true → Reached (ticked s tables)) → Goes s
+  goes-over r after =
+      let u : Step.lastRound s ≡ Step.ruleEnds s = uncut s (λ q. absurd (not-both (Step.ruleEnds s) r q)) in
+      record { uncut = u; unclamped = within; after = rw is (after (u ∙ r)) }
 
 -- ---- the clock within a stage, and over its end
 

@@ -13,7 +13,7 @@ use Rattle.machine.specs.Run.{ran}
 use Rattle.machine.specs.RunLaws.{total, ran-made}
 use Rattle.machine.specs.Report.{report}
 use Rattle.machine.specs.Cases.{siteB, reportB, accepted-B, report-B}
-use Rattle.reporter.specs.Printed.{MAX-INPUT, WORDS, surveyed, printedTable, printedFile, printed}
+use Rattle.reporter.specs.Printed.{MAX-INPUT, WORDS, surveyed, printedTable, printedRead, printedFile, printed}
 use Rattle.reporter.specs.PrintedLaws.{surveyed-end}
 use Rattle.reporter.specs.LaidLaws.{input-short}
 
@@ -31,7 +31,7 @@ read-B : ReadBack 4 caseB
 read-B = written-read 4 caseB accepted-B
 
 file-B : printedFile (fileOf 4 caseB) ≡ printedTable siteB
-unfolding printedFile caseB
+unfolding printedFile printedRead caseB
 file-B = rw (read-B .unrefused WORDS (omega arith), read-B .units, read-B .ends) refl
 
 short-B : length fileB ≤ MAX-INPUT

@@ -3,11 +3,11 @@ use mathlib.Core.Path.{_≡_, refl, sym, ap, _∙_}
 use mathlib.Core.Bool.{Bool, true, false, cond}
 use mathlib.Core.Logic.{_⊎_, inl, inr}
 use mathlib.Core.List.{List, _++_}
-use Prim.Native.Nat.{ℕ, _≤_, _<_}
+use Prim.Native.Nat.{ℕ, _*_, _≤_, _<_}
 use native.Mathlib.Decide.{decLt}
 use native.Mathlib.Omega.{arith}
 use lib.Dec.{eqb, ltb}
-use lib.ListN.{length, drop}
+use lib.ListN.{length, take, drop}
 use borrow.Author.Tests.{eq-eqb, ne-eqb, lt-ltb, le-ltb, le-leb, lt-leb, eqb-true}
 use Rattle.lists.specs.All.{cond-keeps}
 use Rattle.lists.specs.Tests.{either}
@@ -16,8 +16,8 @@ use Rattle.table.specs.Table.{badUnitCount, oddWords, tooManyLinks, endMissing,
 use Rattle.frames.specs.Frame.{lineOver}
 use Rattle.frames.specs.Bodies.{refusalBody}
 use Rattle.frames.specs.FrameLaws.{length-line}
-use Rattle.files.specs.File.{linesOf, readRefusal, readReply, endsIn}
-use Rattle.files.specs.TripLaws.{unread-told, read-told}
+use Rattle.files.specs.File.{linesOf, readRefusal, readReply, readWords, endsIn}
+use Rattle.files.specs.TripLaws.{unread-told, read-told, read-front, read-long}
 use Rattle.files.specs.declared.Reading.{Reading}
 use Rattle.files.specs.declared.Reading.the-variants.{Read}
 use Rattle.state.specs.declared.groups.Table.{Table}
@@ -29,7 +29,7 @@ use Rattle.machine.specs.StepLaws.{loaded-wellFormed}
 use Rattle.machine.specs.Report.{report, reportLength}
 use Rattle.machine.specs.ReportLaws.{length-report}
 use Rattle.machine.specs.Calls.{numberOf, answered, loadAnswer, roundRefusal, runAnswer, reportRefusal, reportAnswer, reported}
-use Rattle.reporter.specs.Printed.{MAX-INPUT, WORDS, countOf, refusalLine, surveyed, printedTable, printedFile, printed, laidOver, laidCount}
+use Rattle.reporter.specs.Printed.{MAX-INPUT, WORDS, countOf, refusalLine, surveyed, printedTable, printedRead, printedFile, printed, laidOver, laidCount}
 use Rattle.reporter.specs.PrintedLaws.{surveyed-table, surveyed-finished, surveyed-wellFormed}
 
 -- ---- laying down
@@ -162,25 +162,40 @@ module _ (input : Input) where
         go true z = omega (arith, z)
         go false z = refl
 
--- ---- the input
+-- ---- what was read
+
+pub read-refused : (unread : ℕ) (input : Input) → (unread ≡ 0 → ⊥) → printedRead unread input ≡ refusalLine unread
+unfolding printedRead
+read-refused unread input h = rw (ne-eqb unread 0 h) refl
+
+pub read-taken : (unread : ℕ) (input : Input) → unread ≡ 0 → printedRead unread input ≡ printedTable input
+unfolding printedRead
+read-taken unread input e = rw e refl
 
 module _ (input : List ℕ) where
-  pub input-long : MAX-INPUT < length input → printed input ≡ refusalLine 1
+  pub input-long : MAX-INPUT < length input → (table : Input) → printed input ≡ printedRead 1 table
   unfolding printed
-  input-long l = rw (lt-ltb MAX-INPUT (length input) l) refl
+  input-long l table = rw (lt-ltb MAX-INPUT (length input) l) (sym (read-refused 1 table (omega arith)))
 
   pub input-short : length input ≤ MAX-INPUT → printed input ≡ printedFile input
   unfolding printed
-  input-short l = rw (le-ltb MAX-INPUT (length input) l) refl
+  input-short short = rw (le-ltb MAX-INPUT (length input) short) refl
 
-  pub file-refused : (k : ℕ) → readReply input WORDS ≡ Reading.Refused k → printedFile input ≡ refusalLine k
-  unfolding printedFile
-  file-refused k e =
-      let (q, h) = unread-told input WORDS k e in
-      rw (ne-eqb (readRefusal (linesOf input) WORDS) 0 h, sym q) refl
+  module _ (words : List ℕ) (room : length words ≡ WORDS) (short : length input ≤ MAX-INPUT) where
+    pub file-refused : (k : ℕ) → readReply input (length words) ≡ Reading.Refused k → (table : Input) → printed input ≡ printedRead k table
+    unfolding printedFile
+    file-refused k e table =
+        let (q, h) = unread-told input WORDS k (rw room at e) in
+        input-short short ∙ rw (q) (read-refused (readRefusal (linesOf input) WORDS) _ h ∙ sym (read-refused (readRefusal (linesOf input) WORDS) table h))
 
-  pub file-read : (u m : ℕ) → readReply input WORDS ≡ Read u m → printedFile input ≡ printedTable (record { units = u; words = endsIn (linesOf input) })
-  unfolding printedFile
-  file-read u m e =
-      let r = read-told input WORDS u m e in
-      rw (eq-eqb (readRefusal (linesOf input) WORDS) 0 (r .0), sym (r .1)) refl
+    -- the words read are the table
+    pub file-read : (u m : ℕ) → readReply input (length words) ≡ Read u m → (after : List ℕ) → after ≡ readWords input words
+        → (2 * m ≤ WORDS) × (printed input ≡ printedRead 0 (record { units = u; words = take (2 * m) after }))
+    unfolding printedFile
+    file-read u m e after is =
+        let r = read-told input (length words) u m e in
+        let front : take (2 * m) after ≡ endsIn (linesOf input) = ap (take (2 * m)) is ∙ read-front input (length words) u m e words refl in
+        let none : readRefusal (linesOf input) WORDS ≡ 0 = rw room at (r .0) in (
+          omega (arith, read-long input (length words) u m e words refl, room),
+          input-short short ∙ rw (none, front, r .1) refl,
+        )

@@ -40,11 +40,14 @@ printedTable input =
 abbrev pub tableIn : List ℕ → Input
 tableIn file = record { units = unitsIn (linesOf file); words = endsIn (linesOf file) }
 
+-- what is printed of a table, or of the number by which reading it was refused
+unfoldable pub printedRead : ℕ → Input → List ℕ
+printedRead unread input = let whole = printedTable input in cond (eqb unread 0) whole (refusalLine unread)
+
 -- read, or refused by 1, 2, 3 or 6
 unfoldable pub printedFile : List ℕ → List ℕ
 printedFile file =
-    let whole = printedTable (tableIn file) in
-    cond (eqb (readRefusal (linesOf file) WORDS) 0) whole (refusalLine (readRefusal (linesOf file) WORDS))
+    printedRead (readRefusal (linesOf file) WORDS) (tableIn file)
 
 unfoldable pub printed : List ℕ → List ℕ
 printed input = let whole = printedFile input in cond (ltb MAX-INPUT (length input)) (refusalLine 1) whole

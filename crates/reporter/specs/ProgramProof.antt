@@ -32,7 +32,7 @@ use Rattle.machine.specs.RunLaws.{total, total-least, total-countdown}
 use Rattle.machine.specs.Report.{unitSingle, linkLabel, linkLone, flag, report, reportLength, headLine, unitLine, linkLine, tailLine}
 use Rattle.machine.specs.ReportLaws.{length-head, units-long, links-long, length-report, head-at, unit-at, link-at}
 use Rattle.reach.specs.Reach.{rounds-steps}
-use Rattle.reporter.specs.Printed.{MAX-INPUT, WORDS, refusalLine, surveyed, tableIn, printedTable, printedFile, printed}
+use Rattle.reporter.specs.Printed.{MAX-INPUT, WORDS, refusalLine, surveyed, tableIn, printedTable, printedRead, printedFile, printed}
 use Rattle.reporter.specs.PrintedLaws.{surveyed-end, surveyed-table, surveyed-right}
 use Rattle.reporter.specs.Program.{programReasons, programNumbers, SurveyPrinted, ProgramRight}
 
@@ -158,7 +158,7 @@ module _ (input : List ℕ) where
       ⊎ ((refusal ≡ 0) × (unread ≡ 0) × (unloaded ≡ 0) × (printed input ≡ report (surveyed (tableIn input))))
 
   printed-by : Either
-  unfolding printed printedFile printedTable unread unloaded
+  unfolding printed printedFile printedRead printedTable unread unloaded
   printed-by = by-length (decLt MAX-INPUT (length input))
     where
       by-load : length input ≤ MAX-INPUT → unread ≡ 0 → Dec (unloaded ≡ 0) → Either

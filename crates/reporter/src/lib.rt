@@ -3,12 +3,13 @@
 mod on_words;
 mod value;
 
+use files::Reading;
 use frames::kinds;
 use frames::line;
 ghost use mathlib.Core.Path.{_≡_};
 ghost use Prim.Native.Nat.{_≤_};
-ghost use lib.ListN.{length};
-ghost use Rattle.reporter.specs.Printed.{refusalLine, printed, laidOver, laidCount};
+ghost use lib.ListN.{length, take};
+ghost use Rattle.reporter.specs.Printed.{WORDS, refusalLine, printedRead, printed, laidOver, laidCount};
 
 // The longest input, and the longest output: the report of 256 units and 1,024 links.
 pub const MAX_INPUT: usize = 65535;
@@ -21,11 +22,10 @@ pub fn report(input: &[u8], out: &mut [u8]) -> u32
     ensures bytes { λ _. ⌜ now (out .exit) ≡ laidOver (printed (now (input .entry))) (now (out .entry)) ⌝ }
     ensures fits { λ r. ⌜ r ≤ length (now (out .entry)) ⌝ }
 {
-    if MAX_INPUT < input.len() {
-        return refusal(1, out);
-    }
     let mut words: [u16; 2048] = [0; 2048];
-    value::filed(input, &mut words, out)
+    let found = taken(input, &mut words);
+    let end = found.end;
+    value::surveyed(found.unread, found.units, &words[..end], out)
 }
 
 // The same on the words of a state.
@@ -33,11 +33,45 @@ pub fn report_on_words(input: &[u8], out: &mut [u8]) -> u32
     ensures count { λ r. ⌜ r ≡ laidCount (printed (now (input .entry))) (length (now (out .entry))) ⌝ }
     ensures bytes { λ _. ⌜ now (out .exit) ≡ laidOver (printed (now (input .entry))) (now (out .entry)) ⌝ }
 {
-    if input.len() > MAX_INPUT {
-        return refusal(1, out);
-    }
     let mut words: [u16; 2048] = [0; 2048];
-    on_words::filed(input, &mut words, out)
+    let found = taken(input, &mut words);
+    let end = found.end;
+    on_words::surveyed(found.unread, found.units, &words[..end], out)
+}
+
+// What was read: the number of a refusal, else 0; the unit count, and how many words the table has.
+struct Found {
+    unread: u8,
+    units: u16,
+    end: usize,
+}
+
+// The input read into `words`: 1, 2, 3, 6.
+fn taken(input: &[u8], words: &mut [u16]) -> Found
+    requires { ⌜ length (now words) ≡ WORDS ⌝ }
+    ensures fits { λ r. ⌜ r .end ≤ WORDS ⌝ }
+    ensures whole { λ r. ⌜ printed (now (input .entry)) ≡ printedRead (r .unread) (record { units = r .units; words = take (r .end) (now (words .exit)) }) ⌝ }
+{
+    if MAX_INPUT < input.len() {
+        return Found {
+            unread: 1,
+            units: 0,
+            end: 0,
+        };
+    }
+    let found = files::read(input, words);
+    match found {
+        Reading::Refused(number) => Found {
+            unread: number,
+            units: 0,
+            end: 0,
+        },
+        Reading::Read { units, links } => Found {
+            unread: 0,
+            units,
+            end: 2 * (links as usize),
+        },
+    }
 }
 
 // The line of a refusal.

@@ -1,31 +1,17 @@
 // A file to its report on the words of a state.
-use files::Reading;
 use words::STATE_WORDS;
 ghost use mathlib.Core.Path.{_≡_};
 ghost use lib.ListN.{length};
-ghost use Rattle.reporter.specs.Printed.{WORDS, printedTable, printedFile, laidOver, laidCount};
+ghost use Rattle.reporter.specs.Printed.{printedRead, laidOver, laidCount};
 
-// A file read into `words`, then surveyed.
-pub(crate) fn filed(input: &[u8], words: &mut [u16], out: &mut [u8]) -> u32
-    requires { ⌜ length (now words) ≡ WORDS ⌝ }
-    ensures count { λ r. ⌜ r ≡ laidCount (printedFile (now (input .entry))) (length (now (out .entry))) ⌝ }
-    ensures bytes { λ _. ⌜ now (out .exit) ≡ laidOver (printedFile (now (input .entry))) (now (out .entry)) ⌝ }
+// A table loaded, surveyed to the end and reported, unless reading was refused.
+pub(crate) fn surveyed(unread: u8, units: u16, table: &[u16], out: &mut [u8]) -> u32
+    ensures count { λ r. ⌜ r ≡ laidCount (printedRead unread (record { units = units; words = now (table .entry) })) (length (now (out .entry))) ⌝ }
+    ensures bytes { λ _. ⌜ now (out .exit) ≡ laidOver (printedRead unread (record { units = units; words = now (table .entry) })) (now (out .entry)) ⌝ }
 {
-    let found = files::read(input, words);
-    match found {
-        Reading::Refused(number) => super::refusal(number, out),
-        Reading::Read { units, links } => {
-            let end = 2 * (links as usize);
-            surveyed(units, &words[..end], out)
-        }
+    if unread != 0 {
+        return super::refusal(unread, out);
     }
-}
-
-// A table loaded, surveyed to the end and reported.
-fn surveyed(units: u16, table: &[u16], out: &mut [u8]) -> u32
-    ensures count { λ r. ⌜ r ≡ laidCount (printedTable (record { units = units; words = now (table .entry) })) (length (now (out .entry))) ⌝ }
-    ensures bytes { λ _. ⌜ now (out .exit) ≡ laidOver (printedTable (record { units = units; words = now (table .entry) })) (now (out .entry)) ⌝ }
-{
     let mut state = [0; STATE_WORDS];
     let refused = lent::load(&mut state, units, table);
     if refused != 0 {

@@ -1,5 +1,4 @@
 // The rounds of each of the stages 7 to 10 on the words of a state.
-use state::Aux;
 use state::Global;
 use state::Labels;
 use state::Range;
@@ -13,18 +12,19 @@ pub(crate) fn range_stage(words: &mut [u16; STATE_WORDS], budget: u16) -> u16
     requires { ⌜ stateOf (now words) .clock .stage ≡ 7 ⌝ }
     ensures { λ r. ⌜ Moved budget (stateOf (now (words .entry))) r (stateOf (now (words .exit))) ⌝ }
 {
-    let clock = words::clock_at(words);
     let table = words::table_at(words);
     let tree = words::tree_at(words);
     let order = words::order_at(words);
-    let range = words::range_at(words);
-    let global = words::global_at(words);
-    let low = range.low;
-    let high = range.high;
-    let little = range.little;
-    let big = range.big;
-    let least = global.low;
-    let greatest = global.high;
+    let Range {
+        low,
+        high,
+        little,
+        big,
+    } = words::range_at(words);
+    let Global {
+        low: least,
+        high: greatest,
+    } = words::global_at(words);
     let r = range::run(
         table.units,
         table.links,
@@ -33,7 +33,7 @@ pub(crate) fn range_stage(words: &mut [u16; STATE_WORDS], budget: u16) -> u16
         &tree.parent,
         &order.nd,
         &order.pre,
-        clock,
+        words::clock_at(words),
         low,
         high,
         little,
@@ -42,28 +42,8 @@ pub(crate) fn range_stage(words: &mut [u16; STATE_WORDS], budget: u16) -> u16
         greatest,
     );
     words::lay_clock(r.clock, words);
-    let new_low = r.low;
-    let new_high = r.high;
-    let new_little = r.little;
-    let new_big = r.big;
-    let new_least = r.least;
-    let new_greatest = r.greatest;
-    words::lay_range(
-        Range {
-            low: new_low,
-            high: new_high,
-            little: new_little,
-            big: new_big,
-        },
-        words,
-    );
-    words::lay_global(
-        Global {
-            low: new_least,
-            high: new_greatest,
-        },
-        words,
-    );
+    words::lay_range(&r.low, &r.high, &r.little, &r.big, words);
+    words::lay_global(&r.least, &r.greatest, words);
     r.made
 }
 
@@ -72,15 +52,11 @@ pub(crate) fn joins_stage(words: &mut [u16; STATE_WORDS], budget: u16) -> u16
     requires { ⌜ stateOf (now words) .clock .stage ≡ 8 ⌝ }
     ensures { λ r. ⌜ Moved budget (stateOf (now (words .entry))) r (stateOf (now (words .exit))) ⌝ }
 {
-    let clock = words::clock_at(words);
     let table = words::table_at(words);
     let tree = words::tree_at(words);
     let order = words::order_at(words);
     let range = words::range_at(words);
     let aux = words::aux_at(words);
-    let parents = aux.parents;
-    let linked = aux.links;
-    let color = aux.color;
     let r = joins::run(
         table.units,
         table.links,
@@ -91,21 +67,12 @@ pub(crate) fn joins_stage(words: &mut [u16; STATE_WORDS], budget: u16) -> u16
         &order.pre,
         &range.low,
         &range.high,
-        clock,
-        parents,
-        linked,
+        words::clock_at(words),
+        aux.parents,
+        aux.links,
     );
     words::lay_clock(r.clock, words);
-    let new_parents = r.parents;
-    let new_links = r.links;
-    words::lay_aux(
-        Aux {
-            parents: new_parents,
-            links: new_links,
-            color,
-        },
-        words,
-    );
+    words::lay_aux(&r.parents, &r.links, &aux.color, words);
     r.made
 }
 
@@ -114,13 +81,9 @@ pub(crate) fn classes_stage(words: &mut [u16; STATE_WORDS], budget: u16) -> u16
     requires { ⌜ stateOf (now words) .clock .stage ≡ 9 ⌝ }
     ensures { λ r. ⌜ Moved budget (stateOf (now (words .entry))) r (stateOf (now (words .exit))) ⌝ }
 {
-    let clock = words::clock_at(words);
     let table = words::table_at(words);
     let tree = words::tree_at(words);
     let aux = words::aux_at(words);
-    let parents = aux.parents;
-    let linked = aux.links;
-    let color = aux.color;
     let r = classes::run(
         table.units,
         table.links,
@@ -129,19 +92,11 @@ pub(crate) fn classes_stage(words: &mut [u16; STATE_WORDS], budget: u16) -> u16
         &tree.parent,
         &aux.links,
         &aux.parents,
-        clock,
-        color,
+        words::clock_at(words),
+        aux.color,
     );
     words::lay_clock(r.clock, words);
-    let new_color = r.color;
-    words::lay_aux(
-        Aux {
-            parents,
-            links: linked,
-            color: new_color,
-        },
-        words,
-    );
+    words::lay_aux(&aux.parents, &aux.links, &r.color, words);
     r.made
 }
 
@@ -150,14 +105,11 @@ pub(crate) fn labels_stage(words: &mut [u16; STATE_WORDS], budget: u16) -> u16
     requires { ⌜ stateOf (now words) .clock .stage ≡ 10 ⌝ }
     ensures { λ r. ⌜ Moved budget (stateOf (now (words .entry))) r (stateOf (now (words .exit))) ⌝ }
 {
-    let clock = words::clock_at(words);
     let table = words::table_at(words);
     let tree = words::tree_at(words);
     let order = words::order_at(words);
     let aux = words::aux_at(words);
-    let labels = words::labels_at(words);
-    let class = labels.class;
-    let label = labels.label;
+    let Labels { class, label } = words::labels_at(words);
     let r = labels::run(
         table.units,
         table.links,
@@ -166,19 +118,11 @@ pub(crate) fn labels_stage(words: &mut [u16; STATE_WORDS], budget: u16) -> u16
         &tree.parent,
         &order.pre,
         &aux.color,
-        clock,
+        words::clock_at(words),
         class,
         label,
     );
     words::lay_clock(r.clock, words);
-    let new_class = r.class;
-    let new_label = r.label;
-    words::lay_labels(
-        Labels {
-            class: new_class,
-            label: new_label,
-        },
-        words,
-    );
+    words::lay_labels(&r.class, &r.label, words);
     r.made
 }

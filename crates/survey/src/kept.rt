@@ -44,7 +44,7 @@ impl Survey {
 }
 
 // The same of a state's numbers and tables, lent one by one: no copy is made.
-fn kept<'a>(
+pub(crate) fn kept<'a>(
     units: u16,
     links: u16,
     clock: Clock,

@@ -1,6 +1,7 @@
 // Rounds and runs. A run goes from stage to stage: the tables that a stage changes are taken out, its rounds are made on them, and they are put back; the
 // rest of the state stays where it is.
 use super::answer::Answer;
+use super::kept;
 use super::whole::Survey;
 use state::Aux;
 use state::Clock;
@@ -47,7 +48,35 @@ impl Survey {
     pub fn run(self, budget: u16) -> Answer
         ensures { λ r. ⌜ answerOf r ≡ runAnswer budget (of self) ⌝ }
     {
-        let refused = refusal(self.well_formed(), self.clock.stage);
+        // The tables are lent where they stand: `well_formed` would copy the state.
+        let well = kept::kept(
+            self.table.units,
+            self.table.links,
+            self.clock,
+            &self.table.ends,
+            &self.components.color,
+            &self.tree.parent,
+            &self.tree.dist,
+            &self.tour.next,
+            &self.tour.pred,
+            &self.ranking.jump,
+            &self.ranking.sum,
+            &self.order.forward,
+            &self.order.nd,
+            &self.order.pre,
+            &self.range.low,
+            &self.range.high,
+            &self.range.little,
+            &self.range.big,
+            &self.global.low,
+            &self.global.high,
+            &self.aux.parents,
+            &self.aux.links,
+            &self.aux.color,
+            &self.labels.class,
+            &self.labels.label,
+        );
+        let refused = refusal(well, self.clock.stage);
         if refused != 0 {
             return Answer {
                 survey: self,

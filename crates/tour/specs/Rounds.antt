@@ -14,10 +14,9 @@ use Rattle.machine.specs.State
 use Rattle.machine.specs.State.{State, units}
 use Rattle.machine.specs.Step
 use Rattle.machine.specs.Step.{nextClock}
-use Rattle.machine.specs.StageLaws
 use Rattle.machine.specs.KeptLaws.{parents-fit}
 use Rattle.machine.specs.InStage.{inStage, lastAt}
-use Rattle.machine.specs.StageSteps.{Stage}
+use Rattle.machine.specs.StageSteps.{Stage, step-by}
 use Rattle.tour.specs.declared.Ran.{Ran}
 
 -- the stage makes a round: its parents are units or absent, and the clock stands in it
@@ -47,7 +46,7 @@ into s x =
 
 pub stage : (s : State)
     → Stage 3 (units s) (every (nameOk (units s)) (s .tree .parent)) (λ (x : Ran). x .clock) (one (units s) (s .tree .parent)) (λ (x : Ran). x .made) (into s)
-unfolding one lastAt Step.lastRound Step.tour Step.tourNext Step.tourPred
+unfolding one lastAt Step.tour Step.tourNext Step.tourPred
 stage s =
     record {
       small = omega arith;
@@ -64,5 +63,5 @@ stage s =
 
     steps : (x : Ran) → x .clock .stage ≡ 3 → (eqb (x .clock .made) 0 ≡ true) ⊎ (eqb (x .clock .made) 0 ≡ false)
         → into s (one (units s) (s .tree .parent) x) ≡ Step.step (into s x)
-    steps x e (inl h) = rw (StageLaws.step-3 (into s x) e, StageLaws.ends-3 (into s x) e, StageLaws.requests-3 (into s x) e, h)
-    steps x e (inr h) = rw (StageLaws.step-3 (into s x) e, StageLaws.ends-3 (into s x) e, StageLaws.requests-3 (into s x) e, h)
+    steps x e (inl h) = rw (step-by 3 tt (into s x) e, h)
+    steps x e (inr h) = rw (step-by 3 tt (into s x) e, h)

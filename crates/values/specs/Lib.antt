@@ -1,3 +1,4 @@
+pub mod Passes
 pub mod Tops
 pub mod TopLaws
 pub mod Agreed

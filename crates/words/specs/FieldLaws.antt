@@ -147,9 +147,9 @@ fields-after (p ∷ ps) ws state fit j h =
     fields-after ps (laid (place (p .0)) (p .1) ws) (one-laid p ws state (fit .0)) (fit .1) j h
     ∙ ap (λ (old : List ℕ). chosen ps j old) (field-laid (p .0) j (p .1) ws state (ltb→lt (p .0) 24 (fit .0 .0)) h (fit .0 .1))
 
--- the state after fields were laid: each is the last table laid there, or the old one
-pub laid-fields : (ps : List (ℕ × List ℕ)) (ws : List ℕ) → length ws ≡ STATE-WORDS → AllFit ps
-    → stateOf (laidAll ps ws) ≡ stateBy (λ (j : ℕ). chosen ps j (field j ws))
+-- the state of words over which fields were laid: each is the last table laid there, or the old one
+pub laid-fields : (ps : List (ℕ × List ℕ)) (ws after : List ℕ) → after ≡ laidAll ps ws → length ws ≡ STATE-WORDS → AllFit ps
+    → stateOf after ≡ stateBy (λ (j : ℕ). chosen ps j (field j ws))
 unfolding stateOf
-laid-fields ps ws state fit =
-    same-fields (λ (j : ℕ). field j (laidAll ps ws)) (λ (j : ℕ). chosen ps j (field j ws)) (fields-after ps ws state fit)
+laid-fields ps ws after e state fit =
+    ap stateOf e ∙ same-fields (λ (j : ℕ). field j (laidAll ps ws)) (λ (j : ℕ). chosen ps j (field j ws)) (fields-after ps ws state fit)

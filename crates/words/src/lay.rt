@@ -2,20 +2,22 @@
 use super::copies;
 use super::layout;
 use super::layout::STATE_WORDS;
-use state::Aux;
 use state::Clock;
-use state::Components;
-use state::Global;
-use state::Labels;
-use state::Order;
-use state::Range;
-use state::Ranking;
 use state::Table;
-use state::Tour;
-use state::Tree;
 ghost use mathlib.Core.Path.{_≡_};
+ghost use Prim.Native.Nat.{_+_, _≤_};
+ghost use lib.ListN.{length};
 ghost use Rattle.machine.specs.State;
-ghost use Rattle.words.specs.Layout.{stateOf};
+ghost use Rattle.words.specs.Layout.{stateOf, laid};
+
+// Two tables, each from its place on.
+fn lay_two<'a>(one: &'a [u16], at: usize, two: &'a [u16], next: usize, words: &mut [u16])
+    requires { ⌜ (at + length (now one) ≤ length (now words)) × (next + length (now two) ≤ length (now words)) ⌝ }
+    ensures { λ _. ⌜ now (words .exit) ≡ laid next (now (two .entry)) (laid at (now (one .entry)) (now (words .entry))) ⌝ }
+{
+    copies::lay(one, at, words);
+    copies::lay(two, next, words);
+}
 
 // The counts and the ends.
 pub fn lay_table(t: Table, words: &mut [u16; STATE_WORDS])
@@ -37,76 +39,87 @@ pub fn lay_clock(c: Clock, words: &mut [u16; STATE_WORDS])
 }
 
 // Stage 1.
-pub fn lay_components(g: Components, words: &mut [u16; STATE_WORDS])
-    ensures { λ _. ⌜ stateOf (now (words .exit)) ≡ State.withComponents g (stateOf (now (words .entry))) ⌝ }
+pub fn lay_components(color: &[u16; 256], words: &mut [u16; STATE_WORDS])
+    ensures { λ _. ⌜ stateOf (now (words .exit)) ≡ State.withComponents (record { color = now (color .entry) }) (stateOf (now (words .entry))) ⌝ }
 {
-    copies::lay(&g.color, layout::COLOR, words);
+    copies::lay(color, layout::COLOR, words);
 }
 
 // Stage 2.
-pub fn lay_tree(g: Tree, words: &mut [u16; STATE_WORDS])
-    ensures { λ _. ⌜ stateOf (now (words .exit)) ≡ State.withTree g (stateOf (now (words .entry))) ⌝ }
+pub fn lay_tree<'a>(parent: &'a [u16; 256], dist: &'a [u16; 256], words: &mut [u16; STATE_WORDS])
+    ensures { λ _. ⌜ stateOf (now (words .exit)) ≡ State.withTree (record { parent = now (parent .entry); dist = now (dist .entry) }) (stateOf (now (words .entry))) ⌝ }
 {
-    copies::lay(&g.parent, layout::PARENT, words);
-    copies::lay(&g.dist, layout::DIST, words);
+    lay_two(parent, layout::PARENT, dist, layout::DIST, words);
 }
 
 // Stage 3.
-pub fn lay_tour(g: Tour, words: &mut [u16; STATE_WORDS])
-    ensures { λ _. ⌜ stateOf (now (words .exit)) ≡ State.withTour g (stateOf (now (words .entry))) ⌝ }
+pub fn lay_tour<'a>(next: &'a [u16; 512], pred: &'a [u16; 512], words: &mut [u16; STATE_WORDS])
+    ensures { λ _. ⌜ stateOf (now (words .exit)) ≡ State.withTour (record { next = now (next .entry); pred = now (pred .entry) }) (stateOf (now (words .entry))) ⌝ }
 {
-    copies::lay(&g.next, layout::NEXT, words);
-    copies::lay(&g.pred, layout::PRED, words);
+    lay_two(next, layout::NEXT, pred, layout::PRED, words);
 }
 
 // Stages 4 and 6.
-pub fn lay_ranking(g: Ranking, words: &mut [u16; STATE_WORDS])
-    ensures { λ _. ⌜ stateOf (now (words .exit)) ≡ State.withRanking g (stateOf (now (words .entry))) ⌝ }
+pub fn lay_ranking<'a>(jump: &'a [u16; 512], sum: &'a [u16; 512], words: &mut [u16; STATE_WORDS])
+    ensures { λ _. ⌜ stateOf (now (words .exit)) ≡ State.withRanking (record { jump = now (jump .entry); sum = now (sum .entry) }) (stateOf (now (words .entry))) ⌝ }
 {
-    copies::lay(&g.jump, layout::JUMP, words);
-    copies::lay(&g.sum, layout::SUM, words);
+    lay_two(jump, layout::JUMP, sum, layout::SUM, words);
 }
 
 // Stages 5 and 6.
-pub fn lay_order(g: Order, words: &mut [u16; STATE_WORDS])
-    ensures { λ _. ⌜ stateOf (now (words .exit)) ≡ State.withOrder g (stateOf (now (words .entry))) ⌝ }
+pub fn lay_order<'a>(
+    forward: &'a [u16; 512],
+    nd: &'a [u16; 256],
+    pre: &'a [u16; 256],
+    words: &mut [u16; STATE_WORDS],
+)
+    ensures { λ _. ⌜ stateOf (now (words .exit)) ≡ State.withOrder (record { forward = now (forward .entry); nd = now (nd .entry); pre = now (pre .entry) }) (stateOf (now (words .entry))) ⌝ }
 {
-    copies::lay(&g.forward, layout::FORWARD, words);
-    copies::lay(&g.nd, layout::ND, words);
-    copies::lay(&g.pre, layout::PRE, words);
+    lay_two(forward, layout::FORWARD, nd, layout::ND, words);
+    copies::lay(pre, layout::PRE, words);
 }
 
 // Stage 7.
-pub fn lay_range(g: Range, words: &mut [u16; STATE_WORDS])
-    ensures { λ _. ⌜ stateOf (now (words .exit)) ≡ State.withRange g (stateOf (now (words .entry))) ⌝ }
+pub fn lay_range<'a>(
+    low: &'a [u16; 256],
+    high: &'a [u16; 256],
+    little: &'a [u16; 256],
+    big: &'a [u16; 256],
+    words: &mut [u16; STATE_WORDS],
+)
+    ensures { λ _. ⌜ stateOf (now (words .exit)) ≡ State.withRange (record { low = now (low .entry); high = now (high .entry); little = now (little .entry); big = now (big .entry) }) (stateOf (now (words .entry))) ⌝ }
 {
-    copies::lay(&g.low, layout::LOW, words);
-    copies::lay(&g.high, layout::HIGH, words);
-    copies::lay(&g.little, layout::LITTLE, words);
-    copies::lay(&g.big, layout::BIG, words);
+    lay_two(low, layout::LOW, high, layout::HIGH, words);
+    lay_two(little, layout::LITTLE, big, layout::BIG, words);
 }
 
 // Stage 7, the segments.
-pub fn lay_global(g: Global, words: &mut [u16; STATE_WORDS])
-    ensures { λ _. ⌜ stateOf (now (words .exit)) ≡ State.withGlobal g (stateOf (now (words .entry))) ⌝ }
+pub fn lay_global<'a>(low: &'a [u16; 256], high: &'a [u16; 256], words: &mut [u16; STATE_WORDS])
+    ensures { λ _. ⌜ stateOf (now (words .exit)) ≡ State.withGlobal (record { low = now (low .entry); high = now (high .entry) }) (stateOf (now (words .entry))) ⌝ }
 {
-    copies::lay(&g.low, layout::LEAST, words);
-    copies::lay(&g.high, layout::GREATEST, words);
+    lay_two(low, layout::LEAST, high, layout::GREATEST, words);
 }
 
 // Stages 8 and 9.
-pub fn lay_aux(g: Aux, words: &mut [u16; STATE_WORDS])
-    ensures { λ _. ⌜ stateOf (now (words .exit)) ≡ State.withAux g (stateOf (now (words .entry))) ⌝ }
+pub fn lay_aux<'a>(
+    parents: &'a [u16; 256],
+    links: &'a [u16; 1024],
+    color: &'a [u16; 256],
+    words: &mut [u16; STATE_WORDS],
+)
+    ensures { λ _. ⌜ stateOf (now (words .exit)) ≡ State.withAux (record { parents = now (parents .entry); links = now (links .entry); color = now (color .entry) }) (stateOf (now (words .entry))) ⌝ }
 {
-    copies::lay(&g.parents, layout::PARENTS, words);
-    copies::lay(&g.links, layout::JOINED, words);
-    copies::lay(&g.color, layout::CLASSES, words);
+    lay_two(parents, layout::PARENTS, links, layout::JOINED, words);
+    copies::lay(color, layout::CLASSES, words);
 }
 
 // Stage 10.
-pub fn lay_labels(g: Labels, words: &mut [u16; STATE_WORDS])
-    ensures { λ _. ⌜ stateOf (now (words .exit)) ≡ State.withLabels g (stateOf (now (words .entry))) ⌝ }
+pub fn lay_labels<'a>(
+    class: &'a [u16; 1024],
+    label: &'a [u16; 1024],
+    words: &mut [u16; STATE_WORDS],
+)
+    ensures { λ _. ⌜ stateOf (now (words .exit)) ≡ State.withLabels (record { class = now (class .entry); label = now (label .entry) }) (stateOf (now (words .entry))) ⌝ }
 {
-    copies::lay(&g.class, layout::CLASS, words);
-    copies::lay(&g.label, layout::LABEL, words);
+    lay_two(class, layout::CLASS, label, layout::LABEL, words);
 }

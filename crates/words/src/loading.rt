@@ -38,19 +38,28 @@ fn lay_loaded(units: u16, table: &[u16], words: &mut [u16; STATE_WORDS])
 fn front(words: &mut [u16; STATE_WORDS])
     ensures { λ _. ⌜ stateOf (now (words .exit)) ≡ frontBegun (stateOf (now (words .entry))) ⌝ }
 {
-    lay::lay_components(begin::components(), words);
-    lay::lay_tree(begin::tree(), words);
-    lay::lay_tour(begin::tour(), words);
-    lay::lay_ranking(begin::ranking(), words);
-    lay::lay_order(begin::order(), words);
+    let components = begin::components();
+    lay::lay_components(&components.color, words);
+    let tree = begin::tree();
+    lay::lay_tree(&tree.parent, &tree.dist, words);
+    let tour = begin::tour();
+    lay::lay_tour(&tour.next, &tour.pred, words);
+    let ranking = begin::ranking();
+    lay::lay_ranking(&ranking.jump, &ranking.sum, words);
+    let order = begin::order();
+    lay::lay_order(&order.forward, &order.nd, &order.pre, words);
 }
 
 // Those of the stages 7 to 10.
 fn back(words: &mut [u16; STATE_WORDS])
     ensures { λ _. ⌜ stateOf (now (words .exit)) ≡ backBegun (stateOf (now (words .entry))) ⌝ }
 {
-    lay::lay_range(begin::range(), words);
-    lay::lay_global(begin::global(), words);
-    lay::lay_aux(begin::aux(), words);
-    lay::lay_labels(begin::labels(), words);
+    let range = begin::range();
+    lay::lay_range(&range.low, &range.high, &range.little, &range.big, words);
+    let global = begin::global();
+    lay::lay_global(&global.low, &global.high, words);
+    let aux = begin::aux();
+    lay::lay_aux(&aux.parents, &aux.links, &aux.color, words);
+    let labels = begin::labels();
+    lay::lay_labels(&labels.class, &labels.label, words);
 }

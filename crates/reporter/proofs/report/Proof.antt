@@ -1,49 +1,42 @@
--- By the input's length.
+-- What was read, then surveyed.
 use mathlib.Core.Path.{sym}
-use lib.ListN.{length}
+use lib.Seq.{length-take-le}
+use Rattle.reporter.specs.LaidLaws.{laid-fits}
 use borrow.Author.Needs.{needs}
-use Rattle.reporter.specs.Printed.{refusalLine, printedFile}
-use Rattle.reporter.specs.LaidLaws.{laid-fits, input-long, input-short}
 use Rattle.reporter.proofs.report.Statement.{statement}
 use Rattle.reporter.proofs.report.Tie as tie
 
-refusal-requires : tie.Need-refusal-requires
-refusal-requires c κs = search needs
+slice-aggregate-taken : tie.Need-slice-aggregate-taken
+slice-aggregate-taken c = search needs
+
+taken-requires : tie.Need-taken-requires
+taken-requires c κs = search needs
+
+array-share-prefix-words : tie.Need-array-share-prefix-words
+array-share-prefix-words c = search needs
+
+slice-aggregate-surveyed : tie.Need-slice-aggregate-surveyed
+slice-aggregate-surveyed c = sym (length-take-le _ _ (search needs))
+
+surveyed-requires : tie.Need-surveyed-requires
+surveyed-requires c κs = search needs
 
 same-length : tie.Need-same-length
 same-length c = search needs
 
 returns : tie.Need-returns
 returns c =
-    let a = c .before .before .before .before .before .before .before .args in
-    let r = c .before .before .refusal in
-    let fits = rw (sym (r .ensures .0)) at (laid-fits (refusalLine 1) (length (a .out .now))) in
-    rw (input-long (a .input .now) (c .before .before .before .before .if1 .taken)) (r .ensures .0, (r .ensures .1, fits))
-
-slice-aggregate-filed : tie.Need-slice-aggregate-filed
-slice-aggregate-filed c = search needs
-
-filed-requires : tie.Need-filed-requires
-filed-requires c κs = search needs
-
-same-length-2 : tie.Need-same-length-2
-same-length-2 c = search needs
-
-returns-2 : tie.Need-returns-2
-returns-2 c =
-    let a = c .before .before .before .before .before .before .before .before .before .args in
-    let r = c .before .before .before .filed in
-    let fits = rw (sym (r .ensures .0)) at (laid-fits (printedFile (a .input .now)) (length (a .out .now))) in
-    rw (input-short (a .input .now) (c .before .before .before .before .before .before .if1 .left)) (r .ensures .0, (r .ensures .1, fits))
+    let r = c .before .before .surveyed in
+    rw (c .before .before .before .before .before .before .taken .ensures .1) (r .ensures .0, (r .ensures .1, rw (r .ensures .0) (laid-fits _ _)))
 
 pub report-spec : {M : Type 1} → statement M
 report-spec =
     tie.close
     (tie.spec
-    refusal-requires
+    slice-aggregate-taken
+    taken-requires
+    array-share-prefix-words
+    slice-aggregate-surveyed
+    surveyed-requires
     same-length
-    returns
-    slice-aggregate-filed
-    filed-requires
-    same-length-2
-    returns-2)
+    returns)

@@ -9,7 +9,7 @@ use lib.Pow.{pow-pos}
 use Rattle.lists.specs.Tables.{over}
 use Rattle.lists.specs.Rounds.{over-more}
 use Rattle.rules.specs.MoveLaws.{oddBy, littleBy, bigBy, rangeBy, range-later, little-later, big-later}
-use Rattle.range.specs.Passes.{read-past, over-kept}
+use Rattle.values.specs.Passes.{read-past, over-kept}
 use Rattle.range.specs.Turns.{odd-by, range-stays, little-stays, big-stays, range-moves, little-moves, big-moves}
 use Rattle.range.proofs.later.units_move.Statement.{statement}
 use Rattle.range.proofs.later.units_move.Tie as tie

@@ -1,4 +1,4 @@
--- Load, run, report on the words of a state, by whether the table passes.
+-- Load, run, report on the words of a state, by whether the reading and the table pass.
 use mathlib.Core.Path.{_≡_, sym, _∙_}
 use Prim.Native.Nat.{_≤_}
 use native.Mathlib.Omega.{arith}
@@ -7,8 +7,8 @@ use Rattle.machine.specs.Load.{Input, loadRefusal}
 use Rattle.machine.specs.LoadLaws.{passed-fits}
 use Rattle.words.specs.Layout.{stateOf}
 use Rattle.lent.specs.FaceLaws.{load-number}
-use Rattle.reporter.specs.Printed.{surveyed}
-use Rattle.reporter.specs.LaidLaws.{number-byte, table-refused, survey-left, report-laid, report-none, report-all}
+use Rattle.reporter.specs.Printed.{surveyed, printedTable, laidOver}
+use Rattle.reporter.specs.LaidLaws.{number-byte, table-refused, survey-left, report-laid, report-none, report-all, read-refused, read-taken}
 use borrow.Author.Needs.{needs}
 use Rattle.reporter.proofs.on_words.surveyed.Statement.{statement}
 use Rattle.reporter.proofs.on_words.surveyed.Tie as tie
@@ -16,28 +16,26 @@ use Rattle.reporter.proofs.on_words.surveyed.Tie as tie
 -- what is loaded
 abbrev taken : tie.After-load → Input
 taken l =
-    let a = l .before .before .before .before .args in
+    let a = l .before .before .before .before .before .args in
     record { units = a .units; words = a .table .now }
 
 -- the number of the load
 told : (l : tie.After-load) → l .load .result ≡ loadRefusal (taken l)
 told l = l .load .ensures .0 ∙ load-number (taken l) _
 
-accepted : (e : tie.Else1) → loadRefusal (taken (e .before)) ≡ 0
-accepted e = sym (told (e .before)) ∙ e .if1 .left
+accepted : (e : tie.Else2) → loadRefusal (taken (e .before)) ≡ 0
+accepted e = sym (told (e .before)) ∙ e .if2 .left
 
-fits-in : (c : tie.Else2) → length (taken (c .before .before .before .before .before .before .before .before .before .before) .words) ≤ 2048
+fits-in : (c : tie.Else3) → length (taken (c .before .before .before .before .before .before .before .before .before .before) .words) ≤ 2048
 fits-in c = passed-fits (taken (c .before .before .before .before .before .before .before .before .before .before) .units) _ (accepted (c .before .before .before .before .before .before .before .before .before))
 
 -- the words after the run are the survey
 ended : (r : tie.After-run) → stateOf (r .run .last .0) ≡ surveyed (taken (r .before .before .before .before))
 ended r = survey-left (taken (r .before .before .before .before)) (accepted (r .before .before .before)) _ _ _ (r .before .before .before .before .load .ensures .1) (r .run .ensures .1 .0)
 
-load-requires : tie.Need-load-requires
-load-requires c κs = search needs
-
-cast-number : tie.Need-cast-number
-cast-number c = omega (arith, told (c .before), number-byte (taken (c .before)))
+-- and their report is laid down
+laid : (r : tie.After-report) → r .report .last .1 .0 ≡ laidOver (printedTable (taken (r .before .before .before .before .before .before .before))) (r .before .before .before .before .before .before .before .before .before .before .before .before .args .out .now)
+laid r = rw (ended (r .before .before .before)) at (r .report .ensures .1) ∙ report-laid (taken (r .before .before .before .before .before .before .before)) (accepted (r .before .before .before .before .before .before)) _
 
 refusal-requires : tie.Need-refusal-requires
 refusal-requires c κs = search needs
@@ -47,9 +45,26 @@ same-length c = search needs
 
 returns : tie.Need-returns
 returns c =
-    let l = c .before .before .before .before .before in
     let r = c .before .before .refusal in
-    rw (table-refused (taken l) (λ z. c .before .before .before .before .if1 .taken (told l ∙ z)), sym (told l)) (r .ensures .0, r .ensures .1)
+    rw (read-refused _ _ (c .before .before .before .before .if1 .taken)) (r .ensures .0, r .ensures .1)
+
+load-requires : tie.Need-load-requires
+load-requires c κs = search needs
+
+cast-number : tie.Need-cast-number
+cast-number c = omega (arith, told (c .before), number-byte (taken (c .before)))
+
+refusal-requires-2 : tie.Need-refusal-requires-2
+refusal-requires-2 c κs = search needs
+
+same-length-2 : tie.Need-same-length-2
+same-length-2 c = search needs
+
+returns-2 : tie.Need-returns-2
+returns-2 c =
+    let l = c .before .before .before .before .before in
+    let r = c .before .before .refusal2 in
+    rw (read-taken _ (taken l) (l .before .before .if1 .left), table-refused (taken l) (λ z. c .before .before .before .before .if2 .taken (told l ∙ z)), sym (told l)) (r .ensures .0, r .ensures .1)
 
 run-requires : tie.Need-run-requires
 run-requires c κs = search needs
@@ -57,17 +72,15 @@ run-requires c κs = search needs
 report-requires : tie.Need-report-requires
 report-requires c κs = search needs
 
-same-length-2 : tie.Need-same-length-2
-same-length-2 c = search needs
+same-length-3 : tie.Need-same-length-3
+same-length-3 c = search needs
 
-returns-2 : tie.Need-returns-2
-returns-2 c =
+returns-3 : tie.Need-returns-3
+returns-3 c =
     let e = c .before .before .before .before .before .before .before .before .before in
-    let r = c .before .before .before .report in
-    let a = accepted e in
-    let places = length (e .before .before .before .before .before .args .out .now) in
-    let n = rw (ended (c .before .before .before .before .before .before)) at (r .ensures .0) in
-    (report-none (taken (e .before)) a places (λ z. c .if2 .taken (n ∙ z)), rw (ended (c .before .before .before .before .before .before)) at (r .ensures .1) ∙ report-laid (taken (e .before)) a (e .before .before .before .before .before .args .out .now))
+    let told = rw (ended (c .before .before .before .before .before .before)) at (c .before .before .before .report .ensures .0) in
+    rw (read-taken _ (taken (e .before)) (e .before .before .before .if1 .left))
+    (report-none (taken (e .before)) (accepted e) _ (λ z. c .if3 .taken (told ∙ z)), laid (c .before .before .before))
 
 mul-result : tie.Need-mul-result
 mul-result c = search needs
@@ -84,35 +97,36 @@ mul-result-2 c = omega (arith, fits-in c)
 add-result-2 : tie.Need-add-result-2
 add-result-2 c = omega (arith, fits-in c)
 
-same-length-3 : tie.Need-same-length-3
-same-length-3 c = search needs
+same-length-4 : tie.Need-same-length-4
+same-length-4 c = search needs
 
-returns-3 : tie.Need-returns-3
-returns-3 c =
+returns-4 : tie.Need-returns-4
+returns-4 c =
     let e = c .before .before .before .before .before .before .before .before .before in
-    let r = c .before .before .before .report in
-    let a = accepted e in
-    let places = length (e .before .before .before .before .before .args .out .now) in
-    let n = rw (ended (c .before .before .before .before .before .before)) at (r .ensures .0) in
-    (report-all (taken (e .before)) a places (sym n ∙ c .if2 .left), rw (ended (c .before .before .before .before .before .before)) at (r .ensures .1) ∙ report-laid (taken (e .before)) a (e .before .before .before .before .before .args .out .now))
+    let told = rw (ended (c .before .before .before .before .before .before)) at (c .before .before .before .report .ensures .0) in
+    rw (read-taken _ (taken (e .before)) (e .before .before .before .if1 .left))
+    (report-all (taken (e .before)) (accepted e) _ (sym told ∙ c .if3 .left), laid (c .before .before .before))
 
 pub surveyed-spec : {M : Type 1} → statement M
 surveyed-spec =
     tie.close
     (tie.spec
-    load-requires
-    cast-number
     refusal-requires
     same-length
     returns
-    run-requires
-    report-requires
+    load-requires
+    cast-number
+    refusal-requires-2
     same-length-2
     returns-2
+    run-requires
+    report-requires
+    same-length-3
+    returns-3
     mul-result
     add-result
     cast-result
     mul-result-2
     add-result-2
-    same-length-3
-    returns-3)
+    same-length-4
+    returns-4)

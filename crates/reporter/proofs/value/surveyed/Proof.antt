@@ -1,4 +1,4 @@
--- Load, run, report by value, by whether the table passes.
+-- Load, run, report by value, by whether the reading and the table pass.
 use mathlib.Core.Path.{_≡_, sym, ap, _∙_}
 use lib.ListN.{length}
 use Rattle.machine.specs.Load.{Input, loadRefusal}
@@ -6,7 +6,7 @@ use Rattle.machine.specs.Calls.{Answer, numberOf}
 use Rattle.survey.specs.View.{of}
 use Rattle.lent.specs.FaceLaws.{load-number}
 use Rattle.reporter.specs.Printed.{countOf, surveyed}
-use Rattle.reporter.specs.LaidLaws.{table-refused, survey-left, report-laid, report-count}
+use Rattle.reporter.specs.LaidLaws.{table-refused, survey-left, report-laid, report-count, read-refused, read-taken}
 use borrow.Author.Needs.{needs}
 use Rattle.reporter.proofs.value.surveyed.Statement.{statement}
 use Rattle.reporter.proofs.value.surveyed.Tie as tie
@@ -14,15 +14,15 @@ use Rattle.reporter.proofs.value.surveyed.Tie as tie
 -- what is loaded
 abbrev taken : tie.After-number-of → Input
 taken n =
-    let a = n .before .before .before .before .before .args in
+    let a = n .before .before .before .before .before .before .args in
     record { units = a .units; words = a .table .now }
 
 -- the number of the load
 told : (n : tie.After-number-of) → n .number-of .result ≡ loadRefusal (taken n)
 told n = n .number-of .ensures ∙ (ap (λ (a : Answer). numberOf (a .reply)) (n .before .load .ensures) ∙ load-number (taken n) _)
 
-accepted : (e : tie.Else1) → loadRefusal (taken (e .before)) ≡ 0
-accepted e = sym (told (e .before)) ∙ e .if1 .left
+accepted : (e : tie.Else2) → loadRefusal (taken (e .before)) ≡ 0
+accepted e = sym (told (e .before)) ∙ e .if2 .left
 
 -- the state after the run is the survey
 ended : (r : tie.After-run) → of (r .run .result .survey) ≡ surveyed (taken (r .before .before .before))
@@ -30,6 +30,17 @@ ended r =
     survey-left (taken (r .before .before .before)) (accepted (r .before .before)) _ _ _
     (ap (λ (a : Answer). a .state) (r .before .before .before .before .load .ensures))
     (ap (λ (a : Answer). a .state) (r .run .ensures))
+
+refusal-requires : tie.Need-refusal-requires
+refusal-requires c κs = search needs
+
+same-length : tie.Need-same-length
+same-length c = search needs
+
+returns : tie.Need-returns
+returns c =
+    let r = c .before .before .refusal in
+    rw (read-refused _ _ (c .before .before .before .before .if1 .taken)) (r .ensures .0, r .ensures .1)
 
 new-requires : tie.Need-new-requires
 new-requires c κs = search needs
@@ -40,17 +51,17 @@ load-requires c κs = search needs
 number-of-requires : tie.Need-number-of-requires
 number-of-requires c κs = search needs
 
-refusal-requires : tie.Need-refusal-requires
-refusal-requires c κs = search needs
+refusal-requires-2 : tie.Need-refusal-requires-2
+refusal-requires-2 c κs = search needs
 
-same-length : tie.Need-same-length
-same-length c = search needs
+same-length-2 : tie.Need-same-length-2
+same-length-2 c = search needs
 
-returns : tie.Need-returns
-returns c =
+returns-2 : tie.Need-returns-2
+returns-2 c =
     let n = c .before .before .before .before .before in
-    let r = c .before .before .refusal in
-    rw (table-refused (taken n) (λ z. c .before .before .before .before .if1 .taken (told n ∙ z)), sym (told n)) (r .ensures .0, r .ensures .1)
+    let r = c .before .before .refusal2 in
+    rw (read-taken _ (taken n) (n .before .before .before .if1 .left), table-refused (taken n) (λ z. c .before .before .before .before .if2 .taken (told n ∙ z)), sym (told n)) (r .ensures .0, r .ensures .1)
 
 run-requires : tie.Need-run-requires
 run-requires c κs = search needs
@@ -61,31 +72,33 @@ report-requires c κs = search needs
 count-of-requires : tie.Need-count-of-requires
 count-of-requires c κs = search needs
 
-same-length-2 : tie.Need-same-length-2
-same-length-2 c = search needs
+same-length-3 : tie.Need-same-length-3
+same-length-3 c = search needs
 
-returns-2 : tie.Need-returns-2
-returns-2 c =
+returns-3 : tie.Need-returns-3
+returns-3 c =
     let e = c .before .before .before .before .before .before .before .before in
     let r = c .before .before .before .report in
-    let out = e .before .before .before .before .before .before .args .out .now in
-    let said = rw (ended (c .before .before .before .before .before .before)) at (r .ensures .0) in (
-      c .count-of .ensures ∙ (ap (λ (a : Answer). countOf (a .reply)) said ∙ report-count (taken (e .before)) (accepted e) (length out)),
-      rw (ended (c .before .before .before .before .before .before)) at (r .ensures .1) ∙ report-laid (taken (e .before)) (accepted e) out,
-    )
+    let out = e .before .before .before .before .before .before .before .args .out .now in
+    let said = rw (ended (c .before .before .before .before .before .before)) at (r .ensures .0) in
+    rw (read-taken _ (taken (e .before)) (e .before .before .before .before .if1 .left))
+    (c .count-of .ensures ∙ (ap (λ (a : Answer). countOf (a .reply)) said ∙ report-count (taken (e .before)) (accepted e) (length out)), rw (ended (c .before .before .before .before .before .before)) at (r .ensures .1) ∙ report-laid (taken (e .before)) (accepted e) out)
 
 pub surveyed-spec : {M : Type 1} → statement M
 surveyed-spec =
     tie.close
     (tie.spec
-    new-requires
-    load-requires
-    number-of-requires
     refusal-requires
     same-length
     returns
+    new-requires
+    load-requires
+    number-of-requires
+    refusal-requires-2
+    same-length-2
+    returns-2
     run-requires
     report-requires
     count-of-requires
-    same-length-2
-    returns-2)
+    same-length-3
+    returns-3)

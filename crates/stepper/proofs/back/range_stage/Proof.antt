@@ -7,9 +7,6 @@ use borrow.Author.Needs.{needs}
 use Rattle.stepper.proofs.back.range_stage.Statement.{statement}
 use Rattle.stepper.proofs.back.range_stage.Tie as tie
 
-clock-at-requires : tie.Need-clock-at-requires
-clock-at-requires c κs = search needs
-
 table-at-requires : tie.Need-table-at-requires
 table-at-requires c κs = search needs
 
@@ -25,6 +22,9 @@ range-at-requires c κs = search needs
 global-at-requires : tie.Need-global-at-requires
 global-at-requires c κs = search needs
 
+clock-at-requires : tie.Need-clock-at-requires
+clock-at-requires c κs = search needs
+
 run-requires : tie.Need-run-requires
 run-requires c κs = search needs
 
@@ -39,22 +39,22 @@ lay-global-requires c κs = search needs
 
 returns : tie.Need-returns
 returns c =
-    let start = c .before .before .before .before .before .before .before .before .before .before .before .before .before .before .before .before .before .before .before .before .before .before .before .before .before .before .before .before .before .before .before .before .before .before .before .before .before .before in
+    let start = c .before .before .before .before .before .before .before .before .before .before .before .before .before .before .before .before .before .before .before .before .before .before .before .before .before .before .before .before .before .before .before .before .before .before .before .before .before .before .before .before .before in
     let s = stateOf (start .args .words .now) in
     moved (Rounds.stage s) (start .args .budget) (record { low = s .range .low; high = s .range .high; little = s .range .little; big = s .range .big; least = s .global .low; greatest = s .global .high; clock = s .clock; made = 0 }) _ s _ (start .pre) refl refl
-    (rw (c .before .before .before .before .before .before .before .before .before .before .before .before .before .before .before .before .before .before .before .before .before .before .before .before .before .before .global-at .ensures, c .before .before .before .before .before .before .before .before .before .before .before .before .before .before .before .before .before .before .before .before .before .before .before .before .before .before .before .before .range-at .ensures, c .before .before .before .before .before .before .before .before .before .before .before .before .before .before .before .before .before .before .before .before .before .before .before .before .before .before .before .before .before .before .order-at .ensures, c .before .before .before .before .before .before .before .before .before .before .before .before .before .before .before .before .before .before .before .before .before .before .before .before .before .before .before .before .before .before .before .before .tree-at .ensures, c .before .before .before .before .before .before .before .before .before .before .before .before .before .before .before .before .before .before .before .before .before .before .before .before .before .before .before .before .before .before .before .before .before .before .table-at .ensures, c .before .before .before .before .before .before .before .before .before .before .before .before .before .before .before .before .before .before .before .before .before .before .before .before .before .before .before .before .before .before .before .before .before .before .before .before .clock-at .ensures) at (c .before .before .before .before .before .before .before .before .before .before .before .before .run .ensures))
-    (rw (c .lay-global .ensures, c .before .before .lay-range .ensures, c .before .before .before .before .before .before .before .before .before .before .lay-clock .ensures) refl)
+    (rw (c .before .before .before .before .before .before .before .before .before .before .before .before .before .before .before .before .clock-at .ensures, c .before .before .before .before .before .before .before .before .before .before .before .before .before .before .before .before .before .before .before .before .before .before .before .before .before .before .before .global-at .ensures, c .before .before .before .before .before .before .before .before .before .before .before .before .before .before .before .before .before .before .before .before .before .before .before .before .before .before .before .before .before .before .before .before .before .range-at .ensures, c .before .before .before .before .before .before .before .before .before .before .before .before .before .before .before .before .before .before .before .before .before .before .before .before .before .before .before .before .before .before .before .before .before .before .before .order-at .ensures, c .before .before .before .before .before .before .before .before .before .before .before .before .before .before .before .before .before .before .before .before .before .before .before .before .before .before .before .before .before .before .before .before .before .before .before .before .before .tree-at .ensures, c .before .before .before .before .before .before .before .before .before .before .before .before .before .before .before .before .before .before .before .before .before .before .before .before .before .before .before .before .before .before .before .before .before .before .before .before .before .before .before .table-at .ensures) at (c .before .before .before .before .before .before .before .before .before .before .before .before .before .before .before .run .ensures))
+    (rw (c .lay-global .ensures, c .before .before .before .before .before .lay-range .ensures, c .before .before .before .before .before .before .before .before .before .before .before .before .lay-clock .ensures) refl)
 
 pub range-stage-spec : {M : Type 1} → statement M
 range-stage-spec =
     tie.close
     (tie.spec
-    clock-at-requires
     table-at-requires
     tree-at-requires
     order-at-requires
     range-at-requires
     global-at-requires
+    clock-at-requires
     run-requires
     lay-clock-requires
     lay-range-requires

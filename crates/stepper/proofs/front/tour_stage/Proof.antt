@@ -7,9 +7,6 @@ use borrow.Author.Needs.{needs}
 use Rattle.stepper.proofs.front.tour_stage.Statement.{statement}
 use Rattle.stepper.proofs.front.tour_stage.Tie as tie
 
-clock-at-requires : tie.Need-clock-at-requires
-clock-at-requires c κs = search needs
-
 table-at-requires : tie.Need-table-at-requires
 table-at-requires c κs = search needs
 
@@ -21,6 +18,9 @@ tour-at-requires c κs = search needs
 
 ranking-at-requires : tie.Need-ranking-at-requires
 ranking-at-requires c κs = search needs
+
+clock-at-requires : tie.Need-clock-at-requires
+clock-at-requires c κs = search needs
 
 run-requires : tie.Need-run-requires
 run-requires c κs = search needs
@@ -36,21 +36,21 @@ lay-ranking-requires c κs = search needs
 
 returns : tie.Need-returns
 returns c =
-    let start = c .before .before .before .before .before .before .before .before .before .before .before .before .before .before .before .before .before .before .before .before .before .before .before .before .before .before .before in
+    let start = c .before .before .before .before .before .before .before .before .before .before .before .before .before .before .before .before .before .before .before .before .before .before .before .before .before .before .before .before .before .before in
     let s = stateOf (start .args .words .now) in
     moved (Rounds.stage s) (start .args .budget) (record { next = s .tour .next; pred = s .tour .pred; jump = s .ranking .jump; sum = s .ranking .sum; clock = s .clock; made = 0 }) _ s _ (start .pre) refl refl
-    (rw (c .before .before .before .before .before .before .before .before .before .before .before .before .before .before .before .before .before .ranking-at .ensures, c .before .before .before .before .before .before .before .before .before .before .before .before .before .before .before .before .before .before .before .tour-at .ensures, c .before .before .before .before .before .before .before .before .before .before .before .before .before .before .before .before .before .before .before .before .before .tree-at .ensures, c .before .before .before .before .before .before .before .before .before .before .before .before .before .before .before .before .before .before .before .before .before .before .before .table-at .ensures, c .before .before .before .before .before .before .before .before .before .before .before .before .before .before .before .before .before .before .before .before .before .before .before .before .before .clock-at .ensures) at (c .before .before .before .before .before .before .before .before .before .before .run .ensures))
-    (rw (c .lay-ranking .ensures, c .before .before .lay-tour .ensures, c .before .before .before .before .before .before .before .before .lay-clock .ensures) refl)
+    (rw (c .before .before .before .before .before .before .before .before .before .before .before .before .before .before .clock-at .ensures, c .before .before .before .before .before .before .before .before .before .before .before .before .before .before .before .before .before .before .before .before .ranking-at .ensures, c .before .before .before .before .before .before .before .before .before .before .before .before .before .before .before .before .before .before .before .before .before .before .before .before .tour-at .ensures, c .before .before .before .before .before .before .before .before .before .before .before .before .before .before .before .before .before .before .before .before .before .before .before .before .before .before .tree-at .ensures, c .before .before .before .before .before .before .before .before .before .before .before .before .before .before .before .before .before .before .before .before .before .before .before .before .before .before .before .before .table-at .ensures) at (c .before .before .before .before .before .before .before .before .before .before .before .before .before .run .ensures))
+    (rw (c .lay-ranking .ensures, c .before .before .before .before .before .lay-tour .ensures, c .before .before .before .before .before .before .before .before .before .before .lay-clock .ensures) refl)
 
 pub tour-stage-spec : {M : Type 1} → statement M
 tour-stage-spec =
     tie.close
     (tie.spec
-    clock-at-requires
     table-at-requires
     tree-at-requires
     tour-at-requires
     ranking-at-requires
+    clock-at-requires
     run-requires
     lay-clock-requires
     lay-tour-requires

@@ -7,9 +7,6 @@ use borrow.Author.Needs.{needs}
 use Rattle.stepper.proofs.front.tree_stage.Statement.{statement}
 use Rattle.stepper.proofs.front.tree_stage.Tie as tie
 
-clock-at-requires : tie.Need-clock-at-requires
-clock-at-requires c κs = search needs
-
 table-at-requires : tie.Need-table-at-requires
 table-at-requires c κs = search needs
 
@@ -18,6 +15,9 @@ components-at-requires c κs = search needs
 
 tree-at-requires : tie.Need-tree-at-requires
 tree-at-requires c κs = search needs
+
+clock-at-requires : tie.Need-clock-at-requires
+clock-at-requires c κs = search needs
 
 run-requires : tie.Need-run-requires
 run-requires c κs = search needs
@@ -30,20 +30,20 @@ lay-tree-requires c κs = search needs
 
 returns : tie.Need-returns
 returns c =
-    let start = c .before .before .before .before .before .before .before .before .before .before .before .before .before .before .before .before .before .before .before .before .before in
+    let start = c .before .before .before .before .before .before .before .before .before .before .before .before .before .before .before .before .before .before .before .before .before .before .before in
     let s = stateOf (start .args .words .now) in
     moved (Rounds.stage s) (start .args .budget) (record { parent = s .tree .parent; dist = s .tree .dist; clock = s .clock; made = 0 }) _ s _ (start .pre) refl refl
-    (rw (c .before .before .before .before .before .before .before .before .before .before .before .before .before .tree-at .ensures, c .before .before .before .before .before .before .before .before .before .before .before .before .before .before .before .components-at .ensures, c .before .before .before .before .before .before .before .before .before .before .before .before .before .before .before .before .before .table-at .ensures, c .before .before .before .before .before .before .before .before .before .before .before .before .before .before .before .before .before .before .before .clock-at .ensures) at (c .before .before .before .before .before .before .run .ensures))
-    (rw (c .lay-tree .ensures, c .before .before .before .before .lay-clock .ensures) refl)
+    (rw (c .before .before .before .before .before .before .before .before .before .clock-at .ensures, c .before .before .before .before .before .before .before .before .before .before .before .before .before .before .before .before .before .tree-at .ensures, c .before .before .before .before .before .before .before .before .before .before .before .before .before .before .before .before .before .before .before .components-at .ensures, c .before .before .before .before .before .before .before .before .before .before .before .before .before .before .before .before .before .before .before .before .before .table-at .ensures) at (c .before .before .before .before .before .before .before .before .run .ensures))
+    (rw (c .lay-tree .ensures, c .before .before .before .before .before .lay-clock .ensures) refl)
 
 pub tree-stage-spec : {M : Type 1} → statement M
 tree-stage-spec =
     tie.close
     (tie.spec
-    clock-at-requires
     table-at-requires
     components-at-requires
     tree-at-requires
+    clock-at-requires
     run-requires
     lay-clock-requires
     lay-tree-requires

@@ -6,21 +6,15 @@ use borrow.Author.Needs.{needs}
 use Rattle.words.proofs.lay.lay_aux.Statement.{statement}
 use Rattle.words.proofs.lay.lay_aux.Tie as tie
 
+lay-two-requires : tie.Need-lay-two-requires
+lay-two-requires c κs = search needs
+
 lay-requires : tie.Need-lay-requires
 lay-requires c κs = search needs
 
-lay-requires-2 : tie.Need-lay-requires-2
-lay-requires-2 c κs = search needs
-
-lay-requires-3 : tie.Need-lay-requires-3
-lay-requires-3 c κs = search needs
-
 returns : tie.Need-returns
 unfolding stateOf
-returns c =
-    let start = c .before .before .before .before .before .before .before .before .before .before .before .before .before .before .before in
-    let a = start .args in
-    rw (c .lay3 .ensures, c .before .before .before .before .before .lay2 .ensures, c .before .before .before .before .before .before .before .before .before .before .lay .ensures) (laid-fields ((19, a .t1 .parents) ∷ (20, a .t1 .links) ∷ (21, a .t1 .color) ∷ []) (a .words .now) (search needs) ((tt, search needs), ((tt, search needs), ((tt, search needs), tt))))
+returns c = laid-fields ((19, _) ∷ (20, _) ∷ (21, _) ∷ []) _ _ (rw (c .before .before .before .lay-two .ensures) at (c .lay .ensures)) (search needs) ((tt, search needs), ((tt, search needs), ((tt, search needs), tt)))
 
 pub lay-aux-spec : {M : Type 1} → statement M
-lay-aux-spec = tie.close (tie.spec lay-requires lay-requires-2 lay-requires-3 returns)
+lay-aux-spec = tie.close (tie.spec lay-two-requires lay-requires returns)

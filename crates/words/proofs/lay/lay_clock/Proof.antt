@@ -15,10 +15,7 @@ lay-requires c κs = search needs
 
 returns : tie.Need-returns
 unfolding stateOf
-returns c =
-    let a = c .before .before .before .args in
-    let k = a .c in
-    rw (c .lay .ensures) (laid-fields ((2, k .stage ∷ k .made ∷ k .rounds ∷ k .requests ∷ []) ∷ []) (a .words .now) (search needs) ((tt, refl), tt))
+returns c = laid-fields ((2, _) ∷ []) _ _ (c .lay .ensures) (search needs) ((tt, refl), tt)
 
 pub lay-clock-spec : {M : Type 1} → statement M
 lay-clock-spec = tie.close (tie.spec slice-aggregate-lay lay-requires returns)

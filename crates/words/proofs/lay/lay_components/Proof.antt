@@ -11,10 +11,7 @@ lay-requires c κs = search needs
 
 returns : tie.Need-returns
 unfolding stateOf
-returns c =
-    let start = c .before .before .before .before .before in
-    let a = start .args in
-    rw (c .lay .ensures) (laid-fields ((3, a .t1 .color) ∷ []) (a .words .now) (search needs) ((tt, search needs), tt))
+returns c = laid-fields ((3, _) ∷ []) _ _ (c .lay .ensures) (search needs) ((tt, search needs), tt)
 
 pub lay-components-spec : {M : Type 1} → statement M
 lay-components-spec = tie.close (tie.spec lay-requires returns)

@@ -6,18 +6,12 @@ use borrow.Author.Needs.{needs}
 use Rattle.words.proofs.lay.lay_labels.Statement.{statement}
 use Rattle.words.proofs.lay.lay_labels.Tie as tie
 
-lay-requires : tie.Need-lay-requires
-lay-requires c κs = search needs
-
-lay-requires-2 : tie.Need-lay-requires-2
-lay-requires-2 c κs = search needs
+lay-two-requires : tie.Need-lay-two-requires
+lay-two-requires c κs = search needs
 
 returns : tie.Need-returns
 unfolding stateOf
-returns c =
-    let start = c .before .before .before .before .before .before .before .before .before .before in
-    let a = start .args in
-    rw (c .lay2 .ensures, c .before .before .before .before .before .lay .ensures) (laid-fields ((22, a .t1 .class) ∷ (23, a .t1 .label) ∷ []) (a .words .now) (search needs) ((tt, search needs), ((tt, search needs), tt)))
+returns c = laid-fields ((22, _) ∷ (23, _) ∷ []) _ _ (c .lay-two .ensures) (search needs) ((tt, search needs), ((tt, search needs), tt))
 
 pub lay-labels-spec : {M : Type 1} → statement M
-lay-labels-spec = tie.close (tie.spec lay-requires lay-requires-2 returns)
+lay-labels-spec = tie.close (tie.spec lay-two-requires returns)

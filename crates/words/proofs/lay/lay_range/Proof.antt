@@ -6,25 +6,15 @@ use borrow.Author.Needs.{needs}
 use Rattle.words.proofs.lay.lay_range.Statement.{statement}
 use Rattle.words.proofs.lay.lay_range.Tie as tie
 
-lay-requires : tie.Need-lay-requires
-lay-requires c κs = search needs
+lay-two-requires : tie.Need-lay-two-requires
+lay-two-requires c κs = search needs
 
-lay-requires-2 : tie.Need-lay-requires-2
-lay-requires-2 c κs = search needs
-
-lay-requires-3 : tie.Need-lay-requires-3
-lay-requires-3 c κs = search needs
-
-lay-requires-4 : tie.Need-lay-requires-4
-lay-requires-4 c κs = search needs
+lay-two-requires-2 : tie.Need-lay-two-requires-2
+lay-two-requires-2 c κs = search needs
 
 returns : tie.Need-returns
 unfolding stateOf
-returns c =
-    let start = c .before .before .before .before .before .before .before .before .before .before .before .before .before .before .before .before .before .before .before .before in
-    let a = start .args in
-    rw (c .lay4 .ensures, c .before .before .before .before .before .lay3 .ensures, c .before .before .before .before .before .before .before .before .before .before .lay2 .ensures, c .before .before .before .before .before .before .before .before .before .before .before .before .before .before .before .lay .ensures) (laid-fields ((13, a .t1 .low) ∷ (14, a .t1 .high) ∷ (15, a .t1 .little) ∷ (16, a .t1 .big) ∷ []) (a .words .now) (search needs) ((tt, search needs), ((tt, search needs), ((tt, search needs), ((tt, search needs), tt)))))
+returns c = laid-fields ((13, _) ∷ (14, _) ∷ (15, _) ∷ (16, _) ∷ []) _ _ (rw (c .before .before .before .before .lay-two .ensures) at (c .lay-two2 .ensures)) (search needs) ((tt, search needs), ((tt, search needs), ((tt, search needs), ((tt, search needs), tt))))
 
 pub lay-range-spec : {M : Type 1} → statement M
-lay-range-spec =
-    tie.close (tie.spec lay-requires lay-requires-2 lay-requires-3 lay-requires-4 returns)
+lay-range-spec = tie.close (tie.spec lay-two-requires lay-two-requires-2 returns)

@@ -6,18 +6,12 @@ use borrow.Author.Needs.{needs}
 use Rattle.words.proofs.lay.lay_ranking.Statement.{statement}
 use Rattle.words.proofs.lay.lay_ranking.Tie as tie
 
-lay-requires : tie.Need-lay-requires
-lay-requires c κs = search needs
-
-lay-requires-2 : tie.Need-lay-requires-2
-lay-requires-2 c κs = search needs
+lay-two-requires : tie.Need-lay-two-requires
+lay-two-requires c κs = search needs
 
 returns : tie.Need-returns
 unfolding stateOf
-returns c =
-    let start = c .before .before .before .before .before .before .before .before .before .before in
-    let a = start .args in
-    rw (c .lay2 .ensures, c .before .before .before .before .before .lay .ensures) (laid-fields ((8, a .t1 .jump) ∷ (9, a .t1 .sum) ∷ []) (a .words .now) (search needs) ((tt, search needs), ((tt, search needs), tt)))
+returns c = laid-fields ((8, _) ∷ (9, _) ∷ []) _ _ (c .lay-two .ensures) (search needs) ((tt, search needs), ((tt, search needs), tt))
 
 pub lay-ranking-spec : {M : Type 1} → statement M
-lay-ranking-spec = tie.close (tie.spec lay-requires lay-requires-2 returns)
+lay-ranking-spec = tie.close (tie.spec lay-two-requires returns)

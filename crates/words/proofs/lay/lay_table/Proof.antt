@@ -18,11 +18,7 @@ lay-requires-2 c κs = search needs
 
 returns : tie.Need-returns
 unfolding stateOf
-returns c =
-    let a = c .before .before .before .before .before .before .before .before .args in
-    let t = a .t1 in
-    rw (c .lay2 .ensures, c .before .before .before .before .before .lay .ensures)
-    (laid-fields ((0, t .units ∷ t .links ∷ []) ∷ (1, t .ends) ∷ []) (a .words .now) (search needs) ((tt, refl), ((tt, search needs), tt)))
+returns c = laid-fields ((0, _) ∷ (1, _) ∷ []) _ _ (rw (c .before .before .before .before .before .lay .ensures) at (c .lay2 .ensures)) (search needs) ((tt, refl), ((tt, search needs), tt))
 
 pub lay-table-spec : {M : Type 1} → statement M
 lay-table-spec = tie.close (tie.spec slice-aggregate-lay lay-requires lay-requires-2 returns)

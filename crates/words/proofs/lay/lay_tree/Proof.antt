@@ -6,18 +6,12 @@ use borrow.Author.Needs.{needs}
 use Rattle.words.proofs.lay.lay_tree.Statement.{statement}
 use Rattle.words.proofs.lay.lay_tree.Tie as tie
 
-lay-requires : tie.Need-lay-requires
-lay-requires c κs = search needs
-
-lay-requires-2 : tie.Need-lay-requires-2
-lay-requires-2 c κs = search needs
+lay-two-requires : tie.Need-lay-two-requires
+lay-two-requires c κs = search needs
 
 returns : tie.Need-returns
 unfolding stateOf
-returns c =
-    let start = c .before .before .before .before .before .before .before .before .before .before in
-    let a = start .args in
-    rw (c .lay2 .ensures, c .before .before .before .before .before .lay .ensures) (laid-fields ((4, a .t1 .parent) ∷ (5, a .t1 .dist) ∷ []) (a .words .now) (search needs) ((tt, search needs), ((tt, search needs), tt)))
+returns c = laid-fields ((4, _) ∷ (5, _) ∷ []) _ _ (c .lay-two .ensures) (search needs) ((tt, search needs), ((tt, search needs), tt))
 
 pub lay-tree-spec : {M : Type 1} → statement M
-lay-tree-spec = tie.close (tie.spec lay-requires lay-requires-2 returns)
+lay-tree-spec = tie.close (tie.spec lay-two-requires returns)

@@ -29,7 +29,7 @@ lay-labels-requires : tie.Need-lay-labels-requires
 lay-labels-requires c κs = search needs
 
 returns : tie.Need-returns
-returns c = rw (c .lay-labels .ensures, c .before .before .labels .ensures, c .before .before .before .lay-aux .ensures, c .before .before .before .before .before .aux .ensures, c .before .before .before .before .before .before .lay-global .ensures, c .before .before .before .before .before .before .before .before .global .ensures, c .before .before .before .before .before .before .before .before .before .lay-range .ensures, c .before .before .before .before .before .before .before .before .before .before .before .range .ensures) refl
+returns c = rw (c .lay-labels .ensures, c .before .before .before .before .before .labels .ensures, c .before .before .before .before .before .before .lay-aux .ensures, c .before .before .before .before .before .before .before .before .before .before .before .before .aux .ensures, c .before .before .before .before .before .before .before .before .before .before .before .before .before .lay-global .ensures, c .before .before .before .before .before .before .before .before .before .before .before .before .before .before .before .before .before .before .global .ensures, c .before .before .before .before .before .before .before .before .before .before .before .before .before .before .before .before .before .before .before .lay-range .ensures, c .before .before .before .before .before .before .before .before .before .before .before .before .before .before .before .before .before .before .before .before .before .before .before .before .before .before .range .ensures) refl
 
 pub back-spec : {M : Type 1} → statement M
 back-spec =

@@ -35,7 +35,7 @@ lay-order-requires : tie.Need-lay-order-requires
 lay-order-requires c κs = search needs
 
 returns : tie.Need-returns
-returns c = rw (c .lay-order .ensures, c .before .before .order .ensures, c .before .before .before .lay-ranking .ensures, c .before .before .before .before .before .ranking .ensures, c .before .before .before .before .before .before .lay-tour .ensures, c .before .before .before .before .before .before .before .before .tour .ensures, c .before .before .before .before .before .before .before .before .before .lay-tree .ensures, c .before .before .before .before .before .before .before .before .before .before .before .tree .ensures, c .before .before .before .before .before .before .before .before .before .before .before .before .lay-components .ensures, c .before .before .before .before .before .before .before .before .before .before .before .before .before .before .components .ensures) refl
+returns c = rw (c .lay-order .ensures, c .before .before .before .before .before .before .order .ensures, c .before .before .before .before .before .before .before .lay-ranking .ensures, c .before .before .before .before .before .before .before .before .before .before .before .before .ranking .ensures, c .before .before .before .before .before .before .before .before .before .before .before .before .before .lay-tour .ensures, c .before .before .before .before .before .before .before .before .before .before .before .before .before .before .before .before .before .before .tour .ensures, c .before .before .before .before .before .before .before .before .before .before .before .before .before .before .before .before .before .before .before .lay-tree .ensures, c .before .before .before .before .before .before .before .before .before .before .before .before .before .before .before .before .before .before .before .before .before .before .before .before .tree .ensures, c .before .before .before .before .before .before .before .before .before .before .before .before .before .before .before .before .before .before .before .before .before .before .before .before .before .lay-components .ensures, c .before .before .before .before .before .before .before .before .before .before .before .before .before .before .before .before .before .before .before .before .before .before .before .before .before .before .before .before .before .components .ensures) refl
 
 pub front-spec : {M : Type 1} → statement M
 front-spec =

@@ -9,14 +9,14 @@ use Rattle.survey.specs.View.{of}
 use Rattle.survey.proofs.whole.Survey.run.Statement.{statement}
 use Rattle.survey.proofs.whole.Survey.run.Tie as tie
 
-well-formed-requires : tie.Need-well-formed-requires
-well-formed-requires c κs = search needs
+kept-requires : tie.Need-kept-requires
+kept-requires c κs = search needs
 
 abbrev given : tie.After-refusal → State
-given w = of (w .before .before .args .self)
+given w = of (w .before .before .before .before .before .before .before .before .before .before .before .before .before .before .before .before .before .before .before .before .before .before .before .before .before .before .args .t1)
 
 told : (w : tie.After-refusal) → w .refusal .result ≡ roundRefusal (given w)
-told w = refusal-told (given w) _ _ (w .before .well-formed .ensures) (w .refusal .ensures)
+told w = refusal-told (given w) _ _ (w .before .kept .ensures) (w .refusal .ensures)
 
 refusal-requires : tie.Need-refusal-requires
 refusal-requires c κs = search needs
@@ -38,4 +38,4 @@ returns-2 c =
     rw (c .before .go .ensures) (answered-made _ _ _ _ none)
 
 pub run-spec : {M : Type 1} → statement M
-run-spec = tie.close (tie.spec well-formed-requires refusal-requires returns go-requires returns-2)
+run-spec = tie.close (tie.spec kept-requires refusal-requires returns go-requires returns-2)
