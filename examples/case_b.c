@@ -7,8 +7,9 @@ static uint16_t state[LINK_SURVEY_STATE_WORDS];
 int main(void)
 {
     const uint16_t table[] = {0, 1, 1, 2, 0, 2, 2, 3};
+    const int16_t levels[] = {-61, -70, -58, -83};
     uint16_t made, unit[LINK_SURVEY_UNIT_WORDS];
-    uint32_t refused = link_survey_load(state, 4, table, 8);
+    uint32_t refused = link_survey_load(state, 4, table, 8, levels, 4);
 
     if (refused == LINK_SURVEY_DONE)
         refused = link_survey_run(state, LINK_SURVEY_MAX_ROUNDS, &made);

@@ -16,13 +16,14 @@
 
 static uint8_t file[MAX_INPUT + 1];
 static uint16_t table[2 * LINK_SURVEY_MAX_LINKS];
+static int16_t levels[LINK_SURVEY_MAX_LINKS];
 static uint16_t state[LINK_SURVEY_STATE_WORDS];
 static uint8_t report[LINK_SURVEY_MAX_REPORT_BYTES];
 
 static const char *const refusals[] = {
     "not refused",
     "a line of the file is faulty, or the file is too long",
-    "the lines are not one 01, any number of 02, one 0F",
+    "the lines are not one 01, any number of 02 and 03, one 0F",
     "the last line does not give the number of links",
     "the unit count is 0 or above 256",
     "the table has an odd number of words",
@@ -34,7 +35,9 @@ static const char *const refusals[] = {
     "the survey is finished",
     "the survey is not finished",
     "there is no such unit or link",
-    "there is too little room"
+    "there is too little room",
+    "the levels are not as many as the links",
+    "a level is below -127 or above 0 dBm"
 };
 
 static const char *const stages[] = {
@@ -115,8 +118,8 @@ static uint32_t lone_links(uint16_t links)
         if (refused != LINK_SURVEY_DONE)
             return refused;
         if (link[LINK_SURVEY_LINK_LONE] == 1) {
-            printf("link %u, between units %u and %u, is lone: no ring backs it up\n", (unsigned)j,
-                   (unsigned)table[2 * j], (unsigned)table[2 * j + 1]);
+            printf("link %u, between units %u and %u, at %d dBm, is lone: no ring backs it up\n", (unsigned)j,
+                   (unsigned)table[2 * j], (unsigned)table[2 * j + 1], (int)levels[j]);
             found++;
         }
     }
@@ -133,9 +136,10 @@ static uint32_t handled(size_t length, int every_round)
 
     if (length > MAX_INPUT)
         return LINK_SURVEY_FAULTY_LINE;
-    refused = link_survey_read(file, length, table, sizeof table / sizeof table[0], &units, &links);
+    refused = link_survey_read(file, length, table, sizeof table / sizeof table[0], levels,
+                               sizeof levels / sizeof levels[0], &units, &links);
     if (refused == LINK_SURVEY_DONE)
-        refused = link_survey_load(state, units, table, (size_t)2 * links);
+        refused = link_survey_load(state, units, table, (size_t)2 * links, levels, links);
     if (refused != LINK_SURVEY_DONE)
         return refused;
     printf("%u units, %u links\n", (unsigned)units, (unsigned)links);

@@ -3,12 +3,12 @@
  *
  * From a table of radio links between up to 256 units (up to 1,024 links) the survey works out, in rounds, every
  * single point (a unit whose loss parts the site) and every lone link (one that no ring backs up). "Document 01" is
- * the customer's paper.
+ * the customer's paper, "document 02" the list of changes to it.
  *
  * Link with libsurvey_c.a, made by `rt staticlib survey_c` (x86-64).
  *
  * - Re-entrance: the library has no variables of its own, so calls that share no lent memory may run at the same time.
- * - Stack: allow 96 KiB; the deepest call, link_survey_report, was measured at 55 KiB, all others below 30 KiB.
+ * - Stack: allow 96 KiB; the deepest call, link_survey_report, was measured at 65 KiB, all others below 30 KiB.
  * - Freestanding use: no heap, no files, no start-up code; of the C library only memcpy and memset are needed.
  * - Storing a state: its words may be saved and brought back, but keep a checksum of your own with them, for a changed
  *   bit may leave a state that is kept, and the survey then goes on from what it finds.
@@ -33,22 +33,30 @@
 #include <stddef.h>
 #include <stdint.h>
 
-/* The version of these declarations: it grows with each change. 3 has link_survey_read and link_survey_write. */
-#define LINK_SURVEY_VERSION 3
+/*
+ * The version of these declarations: it grows with each change. 3 has link_survey_read and link_survey_write; 4 has
+ * levels: link_survey_load, link_survey_read and link_survey_write take them, and a state has 1,024 words more.
+ */
+#define LINK_SURVEY_VERSION 4
 
 /*
  * The words of a state, lent by the caller to every call on a state (all but link_survey_report, link_survey_read and
  * link_survey_write): units, links, the ends of the links (2,048); stage, rounds made in the stage, all rounds,
- * requests; then the tables of the stages, each whole, in the order of crates/words/specs/Layout.antt. Any words are a
- * state. One whose words are out of their bounds is "not kept", and refused with 10 by all calls on a state but
+ * requests; then the tables of the stages, each whole, in the order of crates/words/specs/Layout.antt; last the levels
+ * of the links (1,024), each as its 16 bits in two's complement, 0 past the links after a load. Any words are a state.
+ * One whose words are out of their bounds is "not kept", and refused with 10 by all calls on a state but
  * link_survey_load. Before the first load the words may hold anything; all zeros are not kept.
  */
-#define LINK_SURVEY_STATE_WORDS 11014
+#define LINK_SURVEY_STATE_WORDS 12038
 
 /* The limits of a site, and the rounds that no survey exceeds. */
 #define LINK_SURVEY_MAX_UNITS 256
 #define LINK_SURVEY_MAX_LINKS 1024
 #define LINK_SURVEY_MAX_ROUNDS 804
+
+/* The level of a link: its received signal in dBm, from the lowest to the highest. */
+#define LINK_SURVEY_LOWEST_LEVEL (-127)
+#define LINK_SURVEY_HIGHEST_LEVEL 0
 
 /* The words of each reply. */
 #define LINK_SURVEY_STATUS_WORDS 4
@@ -59,22 +67,23 @@
 #define LINK_SURVEY_REPORT_BYTES(n, m) (26u + 23u * (n) + 15u * (m))
 #define LINK_SURVEY_MAX_REPORT_BYTES 21274
 
-/* The bytes of a survey file: of m links, and at most. */
-#define LINK_SURVEY_FILE_BYTES(m) (18u + 13u * (m))
-#define LINK_SURVEY_MAX_FILE_BYTES 13330
+/* The bytes of a survey file as it is written: of m links, and at most. */
+#define LINK_SURVEY_FILE_BYTES(m) (18u + 15u * (m))
+#define LINK_SURVEY_MAX_FILE_BYTES 15378
 
 /* "Absent": the parent of a root. */
 #define LINK_SURVEY_ABSENT 65535
 
 /*
- * Document 01's numbers of the refusals: 1 to 3 and 6 of reading a file, 4 to 9 of loading or writing a table, 10 to 13
- * of the calls on a state, 14 of whatever writes to a slice. 15 to 23 are free; take any number but 0 for a refusal.
+ * The customer's numbers of the refusals (15 and 16 are document 02's): 1 to 3, 6 and 16 of reading a file, 4 to 9, 15
+ * and 16 of loading or writing a table, 10 to 13 of the calls on a state, 14 of whatever writes to a slice. 17 to 23
+ * are free; take any number but 0 for a refusal.
  */
 enum link_survey_refusal {
     LINK_SURVEY_DONE = 0,            /* not refused */
     LINK_SURVEY_FAULTY_LINE = 1,     /* a line of the file is faulty (or a file for a report is above 65,535 bytes) */
-    LINK_SURVEY_OUT_OF_ORDER = 2,    /* the lines are not one 01, any number of 02, one 0F */
-    LINK_SURVEY_COUNT_DIFFERS = 3,   /* the 0F line does not give the number of 02 lines */
+    LINK_SURVEY_OUT_OF_ORDER = 2,    /* the lines are not one 01, any number of 02 and 03, one 0F */
+    LINK_SURVEY_COUNT_DIFFERS = 3,   /* the 0F line does not give the number of 02 and 03 lines */
     LINK_SURVEY_BAD_UNIT_COUNT = 4,  /* the unit count is 0 or above 256 */
     LINK_SURVEY_ODD_WORDS = 5,       /* the table has an odd number of words */
     LINK_SURVEY_TOO_MANY_LINKS = 6,  /* the table or the file has more than 1,024 links */
@@ -85,7 +94,9 @@ enum link_survey_refusal {
     LINK_SURVEY_AT_END = 11,         /* a round or run is wanted of a finished survey */
     LINK_SURVEY_BEFORE_END = 12,     /* a question or report is wanted before the end */
     LINK_SURVEY_NO_SUCH_NAME = 13,   /* the unit or position does not exist */
-    LINK_SURVEY_TOO_SHORT = 14       /* the slice for a report, a file or the ends of a file's links is too short */
+    LINK_SURVEY_TOO_SHORT = 14,      /* the slice for a report, a file, or a file's ends or levels is too short */
+    LINK_SURVEY_LEVELS_DIFFER = 15,  /* the levels are not as many as the links */
+    LINK_SURVEY_LEVEL_OUTSIDE = 16   /* a level is below -127 or above 0 */
 };
 
 /* The stages. */
@@ -133,7 +144,7 @@ extern "C" {
 
 /*
  * The whole work at once: from the bytes of a survey file to what the program prints for it, the report or only the 1E
- * line of the refusal (1, 2, 3, 6, then 4, 7, 8, 9), line feeds included. No state is used.
+ * line of the refusal (1, 2, 3, 6, 16, then 4, 7, 8, 9), line feeds included. No state is used.
  *
  * in       the file's frames, one a line. More than 65,535 bytes are refusal 1.
  * out      altered: the bytes at its front.
@@ -143,38 +154,42 @@ extern "C" {
 uint32_t link_survey_report(const uint8_t *in, size_t in_len, uint8_t *out, size_t out_len);
 
 /*
- * Read a survey file into words, for link_survey_load. No state is used.
+ * Read a survey file into words and levels, for link_survey_load. No state is used.
  *
- * in       the file's frames, one a line; of any length.
+ * in       the file's frames, one a line; of any length. A link of kind 02, which has no level, gets the lowest.
  * table    altered: the two ends of each link, 2 words a link, at its front. 2 * LINK_SURVEY_MAX_LINKS words are always
  *          enough.
+ * levels   altered: the level of each link, at its front. LINK_SURVEY_MAX_LINKS places are always enough.
  * units    altered: the number of units, as the file says and not judged (link_survey_load does that).
- * links    altered: the number of links. The table to load has 2 words for each; units and links are two words.
- * returns  1, 2, 3, 6, 14, or 0.
+ * links    altered: the number of links. What to load has 2 words and a level for each; units and links are two words.
+ * returns  1, 2, 3, 6, 16, 14 (table or levels), or 0.
  */
-uint32_t link_survey_read(const uint8_t *in, size_t in_len, uint16_t *table, size_t table_len, uint16_t *units,
-                          uint16_t *links);
+uint32_t link_survey_read(const uint8_t *in, size_t in_len, uint16_t *table, size_t table_len, int16_t *levels,
+                          size_t levels_len, uint16_t *units, uint16_t *links);
 
 /*
- * Write the survey file of a table, line feeds included. No state is used.
+ * Write the survey file of a table and its levels, every link as kind 03, line feeds included. No state is used.
  *
  * units    the number of units, 1 to 256.
  * table    the two ends of each link, as for link_survey_load.
+ * levels   the level of each link, as for link_survey_load.
  * out      altered: LINK_SURVEY_FILE_BYTES(m) bytes at its front, for the m links of the table.
- * returns  4, 5, 6, 7, 8, 9, 14, or 0.
+ * returns  4, 5, 6, 15, 16, 7, 8, 9, 14, or 0.
  */
-uint32_t link_survey_write(uint16_t units, const uint16_t *table, size_t table_len, uint8_t *out, size_t out_len);
+uint32_t link_survey_write(uint16_t units, const uint16_t *table, size_t table_len, const int16_t *levels,
+                           size_t levels_len, uint8_t *out, size_t out_len);
 
 /*
- * Load a table and begin its survey: stage 1, no round made.
+ * Load a table with its levels and begin its survey: stage 1, no round made.
  *
  * state    altered: the state loaded. Its old contents play no part.
  * units    the number of units, 1 to 256.
  * table    the two ends of each link, in either order: 2 words a link. A link's position is its number from 0.
- * returns  4, 5, 6, 7, 8, 9, or 0.
+ * levels   the level of each link, LINK_SURVEY_LOWEST_LEVEL to LINK_SURVEY_HIGHEST_LEVEL: as many as there are links.
+ * returns  4, 5, 6, 15, 16, 7, 8, 9, or 0.
  */
 uint32_t link_survey_load(uint16_t state[LINK_SURVEY_STATE_WORDS], uint16_t units, const uint16_t *table,
-                          size_t table_len);
+                          size_t table_len, const int16_t *levels, size_t levels_len);
 
 /*
  * Make one round.

@@ -12,7 +12,7 @@ import sys
 
 import layout
 from losses import Losses, contradictions, listed, neighbours_of, words
-from survey_text import REFUSALS, Fault, read_report, read_site
+from survey_text import LOWEST_LEVEL, REFUSALS, Fault, read_report, read_site
 
 RADIUS = 15
 MARGIN = 45
@@ -102,7 +102,8 @@ def svg_of(losses):
         (x1, y1), (x2, y2) = at[a], at[b]
         said = "lone" if lone else f"label {losses.labels[j]}"
         drawn = line(x1, y1, x2, y2, WEAK if lone else colors[losses.labels[j]], lone, link_width)
-        out.append(f'<g class="{"lone link" if lone else "link"}"><title>link {j} ({a}-{b}): {said}</title>{drawn}</g>')
+        level = f", {site.levels[j]} dBm" if site.levels[j] > LOWEST_LEVEL else ""
+        out.append(f'<g class="{"lone link" if lone else "link"}"><title>link {j} ({a}-{b}){level}: {said}</title>{drawn}</g>')
         if lone or len(site.links) <= NUMBERED:
             x, y = beside(x1, y1, x2, y2)
             numbers.append(text(x, y + 4, j, f'font-size="11" fill="#444" text-anchor="middle" {halo}'))

@@ -1,11 +1,11 @@
 """Survey files and reports as text: one frame a line, checked before anything is believed.
 
 A line is upper-case hexadecimal digits, two a byte, then a line feed. The first byte is the kind, the last makes the sum of all bytes
-wrap to 0 in eight bits. A number has two bytes, high byte first; a flag has one.
+wrap to 0 in eight bits. A number has two bytes, high byte first; a flag has one; a level has one, in two's complement.
 """
 from collections import namedtuple
 
-Site = namedtuple("Site", "units links")  # a count, and a list of pairs of units
+Site = namedtuple("Site", "units links levels")  # a count, a list of pairs of units, and the level of each link in dBm
 Report = namedtuple("Report", "rounds requests units links")
 UnitLine = namedtuple("UnitLine", "color parent place single")
 LinkLine = namedtuple("LinkLine", "label lone")
@@ -14,15 +14,17 @@ ABSENT = 0xFFFF
 MAX_INPUT = 65535
 MAX_UNITS = 256
 MAX_LINKS = 1024
+LOWEST_LEVEL = -127  # what a link of kind 02 is read as, which has no level
 
 # bytes in a frame of each kind, the kind and the check byte included
-FILE_KINDS = {0x01: 4, 0x02: 6, 0x0F: 4}
+FILE_KINDS = {0x01: 4, 0x02: 6, 0x03: 7, 0x0F: 4}
+LINK_KINDS = 0x02, 0x03
 REPORT_KINDS = {0x11: 6, 0x12: 11, 0x13: 7, 0x1E: 3, 0x1F: 6}
 
 REFUSALS = {
     1: "a line is faulty (empty, no line feed, a wrong character, kind, length or sum), or the input is longer than 65,535 bytes",
-    2: "the lines are not one 01 line, then 02 lines, then one 0F line",
-    3: "the number of links in the 0F line is not the number of 02 lines",
+    2: "the lines are not one 01 line, then 02 and 03 lines, then one 0F line",
+    3: "the number of links in the 0F line is not the number of 02 and 03 lines",
     4: "the unit count is 0 or above 256",
     5: "the table of links has an odd number of words",
     6: "there are more than 1,024 links",
@@ -34,6 +36,8 @@ REFUSALS = {
     12: "an answer was wanted before the survey was finished",
     13: "a unit or link that does not exist was asked for",
     14: "the output has too little room",
+    15: "the levels are not as many as the links",
+    16: "a link has a level below -127 or above 0",
 }
 
 
@@ -85,6 +89,13 @@ def word(frame, at):
     return frame[at] * 256 + frame[at + 1]
 
 
+def level_of(frame):
+    """The level in a link's frame."""
+    if frame[0] == 0x02:
+        return LOWEST_LEVEL
+    return frame[5] - 256 if frame[5] >= 128 else frame[5]
+
+
 def flag(frame, at, line):
     if frame[at] > 1:
         raise Fault(f"line {line}: the flag is {frame[at]:02X}, it should be 00 or 01")
@@ -92,24 +103,29 @@ def flag(frame, at, line):
 
 
 def read_site(data):
-    """The units and links of a survey file. Faults come in the order in which the survey program looks for them."""
+    """The units, links and levels of a survey file. Faults come in the order in which the survey program looks for them."""
     if len(data) > MAX_INPUT:
         raise Fault(f"the file has {len(data)} bytes, more than 65,535", 1)
     frames = frames_of(data, FILE_KINDS)
     if not frames:
         raise Fault("the file is empty", 2)
     for number, frame in enumerate(frames, 1):
-        wanted = 0x01 if number == 1 else 0x0F if number == len(frames) else 0x02
-        if frame[0] != wanted:
-            raise Fault(f"line {number}: a line of kind {wanted:02X} should stand here, not {frame[0]:02X}", 2)
+        wanted = (0x01,) if number == 1 else (0x0F,) if number == len(frames) else LINK_KINDS
+        if frame[0] not in wanted:
+            kinds = " or ".join(f"{kind:02X}" for kind in wanted)
+            raise Fault(f"line {number}: a line of kind {kinds} should stand here, not {frame[0]:02X}", 2)
     if len(frames) == 1:
         raise Fault("the last line, of kind 0F, is missing", 2)
     units = word(frames[0], 1)
     links = [(word(frame, 1), word(frame, 3)) for frame in frames[1:-1]]
+    levels = [level_of(frame) for frame in frames[1:-1]]
     if word(frames[-1], 1) != len(links):
         raise Fault(f"line {len(frames)}: it counts {word(frames[-1], 1)} links, but the file has {len(links)}", 3)
     if len(links) > MAX_LINKS:
         raise Fault(f"the file has {len(links)} links, more than 1,024", 6)
+    for j, level in enumerate(levels):
+        if not LOWEST_LEVEL <= level <= 0:
+            raise Fault(f"line {j + 2}: link {j} has the level {level}, it should be {LOWEST_LEVEL} to 0", 16)
     if not 1 <= units <= MAX_UNITS:
         raise Fault(f"line 1: the unit count is {units}, it should be 1 to 256", 4)
     for j, (a, b) in enumerate(links):
@@ -123,7 +139,7 @@ def read_site(data):
         i = first.setdefault((min(a, b), max(a, b)), j)
         if i != j:
             raise Fault(f"line {j + 2}: link {j} ({a}-{b}) joins the same two units as link {i}", 9)
-    return Site(units, links)
+    return Site(units, links, levels)
 
 
 def read_report(data):

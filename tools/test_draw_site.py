@@ -14,19 +14,20 @@ import xml.etree.ElementTree as ElementTree
 import draw_site
 import layout
 from losses import Losses, neighbours_of
-from survey_text import Fault, read_site
+from survey_text import Fault, level_of, read_site
 
 HERE = os.path.dirname(os.path.abspath(__file__))
 ROOT = os.path.dirname(HERE)
 VECTORS = os.environ.get("LINK_SURVEY_VECTORS", os.path.join(ROOT, "crates", "vector_check", "data"))
+LEVELS = os.path.join(ROOT, "evidence", "tests", "levels", "program")
 EXAMPLES = os.path.join(ROOT, "examples")
 SVG = "{http://www.w3.org/2000/svg}"
 
 
-def vectors(pattern):
-    found = sorted(path[:-3] for path in glob.glob(os.path.join(VECTORS, pattern + ".in")))
+def vectors(pattern, folder=VECTORS):
+    found = sorted(path[:-3] for path in glob.glob(os.path.join(folder, pattern + ".in")))
     if not found:
-        raise AssertionError(f"no vectors {pattern} in {VECTORS}")
+        raise AssertionError(f"no vectors {pattern} in {folder}")
     return found
 
 
@@ -158,6 +159,67 @@ class Refusals(Drawn):
         code, said, _ = self.draw(b"010000FF\n0F0000F1\n", b"1E07DB\n")
         self.assertEqual(code, 1)
         self.assertIn("that is not what is wrong", said)
+
+
+def line(*body):
+    """The line of a frame."""
+    return bytes([*body, -sum(body) % 256]).hex().upper().encode() + b"\n"
+
+
+class Levels(Drawn):
+    """Links of kind 03, which have a level, and of kind 02, which have none."""
+
+    def site(self, *links):
+        return line(0x01, 0, 4) + b"".join(line(*link) for link in links) + line(0x0F, *divmod(len(links), 256))
+
+    def refused(self, site, number, words):
+        with self.assertRaises(Fault) as caught:
+            read_site(site)
+        self.assertEqual(caught.exception.number, number)
+        self.assertIn(words, str(caught.exception))
+
+    def test_both_kinds(self):
+        file = self.site((3, 0, 0, 0, 1, 0xC3), (2, 0, 1, 0, 2), (3, 0, 0, 0, 2, 0x00), (3, 0, 2, 0, 3, 0x81))
+        site = read_site(file)
+        self.assertEqual((site.links, site.levels), ([(0, 1), (1, 2), (0, 2), (2, 3)], [-61, -127, 0, -127]))
+        report = contents(os.path.join(EXAMPLES, "case-b.report.txt"))
+        code, said, drawing = self.draw(file, report)
+        self.assertEqual((code, said), self.draw(contents(os.path.join(EXAMPLES, "case-b.txt")), report)[:2])
+        for title in b"link 0 (0-1), -61 dBm: label 0", b"link 1 (1-2): label 0", b"link 2 (0-2), 0 dBm: label 0", b"link 3 (2-3): lone":
+            self.assertIn(b"<title>" + title + b"</title>", drawing)
+
+    def test_level_bytes(self):
+        """00 and 81 to FF are levels, and each is the byte of its level; 01 to 80 are refused."""
+        for byte in range(256):
+            file = self.site((3, 0, 0, 0, 1, byte))
+            if 0x01 <= byte <= 0x80:
+                self.refused(file, 16, "line 2: link 0 has the level ")
+            else:
+                self.assertEqual(read_site(file).levels[0] % 256, byte)
+            self.assertEqual(level_of(bytes([3, 0, 0, 0, 1, byte, 0])) % 256, byte)
+
+    def test_faults(self):
+        link, bad = (3, 0, 0, 0, 1, 0xC3), (3, 0, 0, 0, 1, 0x01)
+        self.refused(self.site(link).replace(b"C3", b"C4"), 1, "line 2: the check byte is 39")
+        self.refused(self.site(bad, (3, 0, 0, 0, 1)), 1, "line 3: a line of kind 03 has 14 digits, this one has 12")
+        self.refused(self.site(bad, (2, 0, 0, 0, 1, 0)), 1, "line 3: a line of kind 02 has 12 digits, this one has 14")
+        self.refused(self.site(bad, (1, 0, 4)), 2, "line 3: a line of kind 02 or 03 should stand here, not 01")
+        self.refused(self.site(bad).replace(b"0F0001F0", b"0F0002EF"), 3, "line 3: it counts 2 links, but the file has 1")
+        self.refused(self.site(*[bad] * 1025), 6, "the file has 1025 links")
+        self.refused(self.site(bad).replace(b"010004FB", b"010000FF"), 16, "line 2: link 0 has the level 1")
+        self.refused(self.site(link, (3, 0, 9, 0, 9, 0x80)), 16, "line 3: link 1 has the level -128")
+
+    def test_vectors(self):
+        for path in vectors("t01_*", LEVELS):
+            with self.subTest(os.path.basename(path)):
+                report = contents(path + ".out")
+                code, said, _ = self.draw(path + ".in", path + ".out")
+                if report.startswith(b"1E"):
+                    self.assertEqual(code, 2, said)
+                    self.assertIn(f"with number {int(report[2:4], 16)}:", said)
+                    self.assertNotIn("but that is not", said)
+                else:
+                    self.assertEqual(code, 0, said)
 
 
 class CaseE(Drawn):

@@ -14,6 +14,7 @@ import unittest
 ROOT = os.path.dirname(os.path.dirname(os.path.abspath(__file__)))
 EXAMPLES = os.path.join(ROOT, "examples")
 VECTORS = os.path.join(ROOT, "crates", "vector_check", "data")
+LEVELS = os.path.join(ROOT, "evidence", "tests", "levels", "program")
 ARCHIVE = os.path.join(ROOT, "target", "staticlib", "libsurvey_c.a")
 WARNINGS = ["-Wall", "-Wextra", "-Wpedantic", "-Werror"]
 
@@ -32,7 +33,7 @@ round  23  countdown   5  classes
 round  25  countdown   2  labels
 round  27  countdown   0  finished
 unit 2 is a single point: without it, others lose each other
-link 3, between units 2 and 3, is lone: no ring backs it up
+link 3, between units 2 and 3, at -127 dBm, is lone: no ring backs it up
 """
 
 
@@ -100,6 +101,15 @@ class Programs(unittest.TestCase):
         with open(example("case-b.txt"), "rb") as file:
             self.assertEqual(self.made("handset", given=file.read()), (0, printed, ""))
 
+    def test_levels(self):
+        """Case B with levels, its third link without one: the report is the same, and a lone link is shown with its level."""
+        given = b"010004FB\n0300000001C339\n0300010002BA40\n0200000002FC\n0300020003AD4B\n0F0004ED\n"
+        printed = CASE_B.replace("-127 dBm", "-83 dBm") + contents(example("case-b.report.txt"))
+        self.assertEqual(self.made("handset", given=given), (0, printed, ""))
+        status, printed, told = self.made("handset", given=given.replace(b"AD4B", b"01F7"))
+        self.assertEqual((status, printed), (1, ""))
+        self.assertIn("refused, number 16:", told)
+
     def test_no_lone_link(self):
         status, printed, _ = self.made("handset", example("case-e.txt"))
         self.assertEqual(status, 0)
@@ -126,9 +136,9 @@ class Programs(unittest.TestCase):
 
     def test_vectors(self):
         """The report of each file, or the number of its refusal with words."""
-        found = sorted(glob.glob(os.path.join(VECTORS, "*.in")))
-        self.assertTrue(found)
-        for path in found:
+        found, levels = (sorted(glob.glob(os.path.join(folder, "*.in"))) for folder in (VECTORS, LEVELS))
+        self.assertTrue(found and levels)
+        for path in found + levels:
             with self.subTest(os.path.basename(path)):
                 expected = contents(path[:-3] + ".out")
                 status, printed, told = self.made("handset", path)
@@ -163,6 +173,7 @@ class Texts(unittest.TestCase):
             with open(source, "w", encoding="utf-8") as file:
                 file.write('#include "link_survey.h"\nunsigned file_bytes() { return LINK_SURVEY_FILE_BYTES(4u); }\n')
                 file.write("unsigned report_bytes() { return LINK_SURVEY_REPORT_BYTES(4u, 4u); }\n")
+                file.write("int lowest_level() { return LINK_SURVEY_LOWEST_LEVEL; }\n")
             self.compiled(compilers("g++", "clang++"), ["c++11", "c++14", "c++17", "c++20"], [source], "-Wold-style-cast")
 
     def compiled(self, found, standards, sources, *more):

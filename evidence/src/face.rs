@@ -4,9 +4,26 @@ use crate::words::{Calls, LinkReply, State, StatusReply, UnitReply};
 
 unsafe extern "C" {
     fn link_survey_report(input: *const u8, input_len: usize, out: *mut u8, out_len: usize) -> u32;
-    fn link_survey_read(input: *const u8, input_len: usize, table: *mut u16, table_len: usize, units: *mut u16, links: *mut u16) -> u32;
-    fn link_survey_write(units: u16, table: *const u16, table_len: usize, out: *mut u8, out_len: usize) -> u32;
-    fn link_survey_load(state: *mut u16, units: u16, table: *const u16, table_len: usize) -> u32;
+    fn link_survey_read(
+        input: *const u8,
+        input_len: usize,
+        table: *mut u16,
+        table_len: usize,
+        levels: *mut i16,
+        levels_len: usize,
+        units: *mut u16,
+        links: *mut u16,
+    ) -> u32;
+    fn link_survey_write(
+        units: u16,
+        table: *const u16,
+        table_len: usize,
+        levels: *const i16,
+        levels_len: usize,
+        out: *mut u8,
+        out_len: usize,
+    ) -> u32;
+    fn link_survey_load(state: *mut u16, units: u16, table: *const u16, table_len: usize, levels: *const i16, levels_len: usize) -> u32;
     fn link_survey_round(state: *mut u16) -> u32;
     fn link_survey_run(state: *mut u16, budget: u16, made: *mut u16) -> u32;
     fn link_survey_status(state: *const u16, reply: *mut u16) -> u32;
@@ -21,16 +38,18 @@ pub fn report(input: &[u8], out: &mut [u8]) -> u32 {
     unsafe { link_survey_report(input.as_ptr(), input.len(), out.as_mut_ptr(), out.len()) }
 }
 
-pub fn read(input: &[u8], table: &mut [u16], units: &mut u16, links: &mut u16) -> u32 {
-    unsafe { link_survey_read(input.as_ptr(), input.len(), table.as_mut_ptr(), table.len(), units, links) }
+pub fn read(input: &[u8], table: &mut [u16], levels: &mut [i16], units: &mut u16, links: &mut u16) -> u32 {
+    let (table, table_len) = (table.as_mut_ptr(), table.len());
+    unsafe { link_survey_read(input.as_ptr(), input.len(), table, table_len, levels.as_mut_ptr(), levels.len(), units, links) }
 }
 
-pub fn write(units: u16, table: &[u16], out: &mut [u8]) -> u32 {
-    unsafe { link_survey_write(units, table.as_ptr(), table.len(), out.as_mut_ptr(), out.len()) }
+pub fn write(units: u16, table: &[u16], levels: &[i16], out: &mut [u8]) -> u32 {
+    let (table, table_len) = (table.as_ptr(), table.len());
+    unsafe { link_survey_write(units, table, table_len, levels.as_ptr(), levels.len(), out.as_mut_ptr(), out.len()) }
 }
 
-pub fn load(state: &mut State, units: u16, table: &[u16]) -> u32 {
-    unsafe { link_survey_load(state.as_mut_ptr(), units, table.as_ptr(), table.len()) }
+pub fn load(state: &mut State, units: u16, table: &[u16], levels: &[i16]) -> u32 {
+    unsafe { link_survey_load(state.as_mut_ptr(), units, table.as_ptr(), table.len(), levels.as_ptr(), levels.len()) }
 }
 
 pub fn round(state: &mut State) -> u32 {

@@ -1,7 +1,8 @@
 //! Document 01's "kept".
 
 use crate::parts::Entry;
-use crate::{ABSENT, FINISHED, MAX_LINKS, MAX_NUMBER, Survey, ceiling, check_table};
+use crate::table::check_links;
+use crate::{ABSENT, FINISHED, LOWEST_LEVEL, MAX_LINKS, MAX_NUMBER, Survey, ceiling, word_of_level};
 
 /// Every entry is absent or below the count. Absent wraps to 0 here.
 fn names(entries: &[u16], count: u16) -> bool {
@@ -16,6 +17,11 @@ fn distances(entries: &[u16]) -> bool {
     greatest(entries, |x| if x == ABSENT { 0 } else { x }) <= MAX_NUMBER
 }
 
+/// Every entry is the word of a level, 0 or so much below it.
+fn levels(entries: &[u16]) -> bool {
+    greatest(entries, u16::wrapping_neg) <= word_of_level(-LOWEST_LEVEL)
+}
+
 fn greatest(entries: &[u16], of: impl Fn(u16) -> u16) -> u16 {
     entries.iter().fold(0, |most, &x| most.max(of(x)))
 }
@@ -27,7 +33,7 @@ impl Survey {
     }
 
     fn table_kept(&self) -> bool {
-        self.m() <= MAX_LINKS && check_table(self.units, self.pairs().as_flattened()).is_ok()
+        self.m() <= MAX_LINKS && check_links(self.units, self.pairs().as_flattened()).is_ok()
     }
 
     fn clock_kept(&self) -> bool {
@@ -46,6 +52,7 @@ impl Survey {
             Entry::Position => names(entries, self.links),
             Entry::Distance => distances(entries),
             Entry::Number => numbers(entries),
+            Entry::Level => levels(entries),
         })
     }
 }

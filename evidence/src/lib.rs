@@ -1,5 +1,5 @@
-//! The link survey in plain Rust, written from document 01 and docs/DECISIONS.md and from nothing of the proved code: a second
-//! opinion for the tests, and the measure of the proved library's speed.
+//! The link survey in plain Rust, written from documents 01 and 02 and docs/DECISIONS.md and from nothing of the proved
+//! code: a second opinion for the tests, and the measure of the proved library's speed.
 //!
 //! The W-numbers in comments are rows of docs/DECISIONS.md.
 
@@ -9,6 +9,7 @@ mod ceilings;
 mod files;
 mod frames;
 mod kept;
+mod levels;
 pub mod parts;
 mod refusal;
 mod report;
@@ -31,6 +32,7 @@ pub use answers::{LinkAnswer, UnitAnswer};
 pub use calls::Status;
 pub use ceilings::{ceiling, countdown, lg};
 pub use files::{Contents, file_length, read_file, write_file};
+pub use levels::{HIGHEST_LEVEL, LOWEST_LEVEL, byte_of_level, level_of_byte, level_of_word, word_of_level};
 pub use refusal::Refusal;
 pub use report::{MAX_INPUT, report_length, report_of_file};
 pub use survey::Survey;

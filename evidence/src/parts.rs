@@ -14,12 +14,13 @@ pub enum Entry {
     Position,
     Distance,
     Number,
+    Level,
 }
 
 pub type Part<'a> = (&'static str, Entry, &'a [u16]);
 pub type PartMut<'a> = (&'static str, Entry, &'a mut [u16]);
 
-const PARTS: usize = 28;
+const PARTS: usize = 29;
 
 // The order of the words, written once for both ways of lending.
 macro_rules! parts {
@@ -53,13 +54,14 @@ macro_rules! parts {
             ("aux_color", Entry::Unit, $($lend)+ $s.aux_color),
             ("class", Entry::Unit, $($lend)+ $s.class),
             ("label", Entry::Position, $($lend)+ $s.label),
+            ("levels", Entry::Level, $($lend)+ $s.levels),
         ]
     };
 }
 
 impl Survey {
     /// The words of a state.
-    pub const WORDS: usize = 11_014;
+    pub const WORDS: usize = 12_038;
 
     pub fn parts(&self) -> [Part<'_>; PARTS] {
         parts!(self, from_ref, as_flattened, &)

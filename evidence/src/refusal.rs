@@ -1,4 +1,4 @@
-/// Why a call is turned down. The number of each is document 01's.
+/// Why a call is turned down. The number of each is document 01's, from 15 on document 02's.
 #[derive(Clone, Copy, Debug, PartialEq, Eq)]
 #[repr(u8)]
 pub enum Refusal {
@@ -16,6 +16,8 @@ pub enum Refusal {
     NotFinished = 12,
     NoSuchName = 13,
     TooShort = 14,
+    LevelsDiffer = 15,
+    LevelOutside = 16,
 }
 
 impl Refusal {

@@ -1,7 +1,7 @@
 //! The report of a finished survey, and what the program prints for a file.
 
 use crate::frames::{line_length, write_line};
-use crate::{LinkAnswer, Refusal, Survey, UnitAnswer, read_file};
+use crate::{LinkAnswer, MAX_LINKS, Refusal, Survey, UnitAnswer, read_file};
 
 /// The program's input is at most this long.
 pub const MAX_INPUT: usize = 65535;
@@ -92,9 +92,10 @@ fn survey_file(input: &[u8], survey: &mut Survey) -> Result<(), Refusal> {
     if input.len() > MAX_INPUT {
         return Err(Refusal::FaultyLine);
     }
-    let mut words = [0; 2048];
-    let contents = read_file(input, &mut words)?;
-    survey.load(contents.units, &words[..2 * usize::from(contents.links)])?;
+    let (mut words, mut levels) = ([0; 2 * MAX_LINKS], [0; MAX_LINKS]);
+    let contents = read_file(input, &mut words, &mut levels)?;
+    let links = usize::from(contents.links);
+    survey.load(contents.units, &words[..2 * links], &levels[..links])?;
     survey.run(u16::MAX)?;
     Ok(())
 }

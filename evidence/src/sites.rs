@@ -1,20 +1,21 @@
 //! Tables of links of many shapes.
 
 use crate::random::Random;
-use crate::{MAX_LINKS, MAX_UNITS};
+use crate::{HIGHEST_LEVEL, LOWEST_LEVEL, MAX_LINKS, MAX_UNITS};
 use std::collections::HashSet;
 
-/// A unit count and a table that a load takes.
+/// A unit count, a table and its levels that a load takes.
 #[derive(Clone, Debug)]
 pub struct Site {
     pub units: u16,
     pub table: Vec<u16>,
+    pub levels: Vec<i16>,
 }
 
 impl Site {
     fn new(units: usize, links: impl IntoIterator<Item = (usize, usize)>) -> Site {
-        let table = links.into_iter().flat_map(|(a, b)| [a as u16, b as u16]).collect();
-        Site { units: units as u16, table }
+        let table: Vec<u16> = links.into_iter().flat_map(|(a, b)| [a as u16, b as u16]).collect();
+        Site { units: units as u16, levels: vec![LOWEST_LEVEL; table.len() / 2], table }
     }
 
     pub fn links(&self) -> usize {
@@ -82,20 +83,45 @@ fn beside(left: Site, right: &Site) -> Site {
     }
     let mut table = left.table;
     table.extend(right.table.iter().map(|end| end + left.units));
-    Site { units: left.units + right.units, table }
+    Site { units: left.units + right.units, table, levels: [left.levels, right.levels.clone()].concat() }
 }
 
 /// Other numbers for the units, another order of the links and of their ends.
 pub fn renamed(random: &mut Random, site: &Site) -> Site {
     let mut names: Vec<u16> = (0..site.units).collect();
     random.shuffle(&mut names);
-    let mut links: Vec<[u16; 2]> = site.table.as_chunks().0.to_vec();
+    let mut links: Vec<([u16; 2], i16)> = site.table.as_chunks().0.iter().copied().zip(site.levels.iter().copied()).collect();
     random.shuffle(&mut links);
-    for ends in &mut links {
+    for (ends, _) in &mut links {
         *ends = ends.map(|end| names[usize::from(end)]);
         random.shuffle(ends);
     }
-    Site { units: site.units, table: links.concat() }
+    let (table, levels): (Vec<[u16; 2]>, Vec<i16>) = links.into_iter().unzip();
+    Site { units: site.units, table: table.concat(), levels }
+}
+
+/// Any level, or one near the limits.
+pub fn some_level(random: &mut Random) -> i16 {
+    match random.below(8) {
+        0 => LOWEST_LEVEL,
+        1 => HIGHEST_LEVEL,
+        2 => random.pick(&[LOWEST_LEVEL + 1, HIGHEST_LEVEL - 1, -64, -63]),
+        _ => random.between(0, 127) as i16 + LOWEST_LEVEL,
+    }
+}
+
+/// Levels for all links: any, few that come again and again, or one for all.
+fn levelled(random: &mut Random, mut site: Site) -> Site {
+    let few: [i16; 3] = std::array::from_fn(|_| some_level(random));
+    let kind = random.below(4);
+    for level in &mut site.levels {
+        *level = match kind {
+            0 => few[0],
+            1 => random.pick(&few),
+            _ => some_level(random),
+        };
+    }
+    site
 }
 
 /// A number of units: mostly few, at times as many as there may be.
@@ -135,5 +161,8 @@ pub fn any_site(random: &mut Random) -> Site {
         let m = some_units(random);
         site = beside(site, &shape(random, m));
     }
-    if random.once_in(4) { site } else { renamed(random, &site) }
+    if !random.once_in(4) {
+        site = renamed(random, &site);
+    }
+    if random.once_in(8) { site } else { levelled(random, site) }
 }

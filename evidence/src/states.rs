@@ -2,12 +2,12 @@
 
 use crate::parts::Entry;
 use crate::random::Random;
-use crate::sites::{Site, any_site};
-use crate::{ABSENT, FINISHED, MAX_NUMBER, Survey, ceiling};
+use crate::sites::{Site, any_site, some_level};
+use crate::{ABSENT, FINISHED, MAX_NUMBER, Survey, ceiling, word_of_level};
 
 pub fn loaded(site: &Site) -> Survey {
     let mut survey = Survey::new();
-    survey.load(site.units, &site.table).expect("a site passes the checks");
+    survey.load(site.units, &site.table, &site.levels).expect("a site passes the checks");
     survey
 }
 
@@ -39,7 +39,7 @@ impl Counts {
     /// How many things an entry may name, or the values that it may have; and whether it may be absent.
     fn bound(self, entry: Entry) -> (u16, bool) {
         match entry {
-            Entry::Count => (0, false),
+            Entry::Count | Entry::Level => (0, false),
             Entry::Unit => (self.units, true),
             Entry::Arc => (2 * self.units, true),
             Entry::Position => (self.links, true),
@@ -50,6 +50,9 @@ impl Counts {
 
     /// A value that a kept state may have at such an entry.
     fn value(self, random: &mut Random, entry: Entry) -> u16 {
+        if entry == Entry::Level {
+            return word_of_level(some_level(random));
+        }
         let (count, absent) = self.bound(entry);
         let near = |x: u16| if x < count { x } else { 0 };
         if count == 0 || (absent && random.once_in(8)) {

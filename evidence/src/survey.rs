@@ -1,6 +1,6 @@
 //! The state of a survey and its load.
 
-use crate::{ABSENT, MAX_LINKS, MAX_UNITS, Refusal, check_table};
+use crate::{ABSENT, HIGHEST_LEVEL, MAX_LINKS, MAX_UNITS, Refusal, check_table, word_of_level};
 
 const UNITS: usize = MAX_UNITS;
 /// Directed tree links, document 01's list places: 2v is the one into v, 2v + 1 the one out of v.
@@ -45,6 +45,8 @@ pub struct Survey {
     pub aux_color: [u16; UNITS],
     pub class: [u16; LINKS],
     pub label: [u16; LINKS],
+    /// Each level as its word.
+    pub levels: [u16; LINKS],
 }
 
 impl Survey {
@@ -82,16 +84,20 @@ impl Survey {
             aux_color: [ABSENT; UNITS],
             class: [ABSENT; LINKS],
             label: [ABSENT; LINKS],
+            levels: [word_of_level(HIGHEST_LEVEL); LINKS],
         }
     }
 
-    /// Refused with 4 to 9.
-    pub fn load(&mut self, units: u16, table: &[u16]) -> Result<(), Refusal> {
-        check_table(units, table)?;
+    /// Refused with 4, 5, 6, 15, 16, 7, 8, 9.
+    pub fn load(&mut self, units: u16, table: &[u16], levels: &[i16]) -> Result<(), Refusal> {
+        check_table(units, table, levels)?;
         *self = Survey::new();
         self.units = units;
         self.links = (table.len() / 2) as u16;
         self.ends.as_flattened_mut()[..table.len()].copy_from_slice(table);
+        for (word, &level) in self.levels.iter_mut().zip(levels) {
+            *word = word_of_level(level);
+        }
         Ok(())
     }
 

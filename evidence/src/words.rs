@@ -1,5 +1,5 @@
 //! The calls on lent words, as the C face has them: the number of the refusal, 0 where there is none. A state and a reply are arrays
-//! of their fixed size; a report, a file or the ends of a file's links go to the front of a slice.
+//! of their fixed size; a report, a file, or the ends or levels of a file's links go to the front of a slice.
 
 use crate::{Refusal, Survey, read_file, report_of_file, write_file};
 
@@ -13,13 +13,16 @@ pub type UnitReply = [u16; 5];
 /// Position, label, lone.
 pub type LinkReply = [u16; 3];
 
+/// From a file to its ends, its levels, its unit count and its number of links.
+pub type ReadCall = fn(&[u8], &mut [u16], &mut [i16], &mut u16, &mut u16) -> u32;
+
 /// One side's calls.
 #[derive(Clone, Copy)]
 pub struct Calls {
     pub report: fn(&[u8], &mut [u8]) -> u32,
-    pub read: fn(&[u8], &mut [u16], &mut u16, &mut u16) -> u32,
-    pub write: fn(u16, &[u16], &mut [u8]) -> u32,
-    pub load: fn(&mut State, u16, &[u16]) -> u32,
+    pub read: ReadCall,
+    pub write: fn(u16, &[u16], &[i16], &mut [u8]) -> u32,
+    pub load: fn(&mut State, u16, &[u16], &[i16]) -> u32,
     pub round: fn(&mut State) -> u32,
     pub run: fn(&mut State, u16, &mut u16) -> u32,
     pub status: fn(&State, &mut StatusReply) -> u32,
@@ -42,25 +45,25 @@ pub fn report(input: &[u8], out: &mut [u8]) -> u32 {
     report_of_file(input, out) as u32
 }
 
-/// The unit count and the number of links go to words of their own. Refused with 1, 2, 3, 6, 14.
-pub fn read(input: &[u8], table: &mut [u16], units: &mut u16, links: &mut u16) -> u32 {
+/// The unit count and the number of links go to words of their own. Refused with 1, 2, 3, 6, 16, 14.
+pub fn read(input: &[u8], table: &mut [u16], levels: &mut [i16], units: &mut u16, links: &mut u16) -> u32 {
     number((|| {
-        let contents = read_file(input, table)?;
+        let contents = read_file(input, table, levels)?;
         (*units, *links) = (contents.units, contents.links);
         Ok(())
     })())
 }
 
-/// Refused with 4 to 9, 14.
-pub fn write(units: u16, table: &[u16], out: &mut [u8]) -> u32 {
-    number(write_file(units, table, out).map(|_| ()))
+/// Refused with 4, 5, 6, 15, 16, 7, 8, 9, 14.
+pub fn write(units: u16, table: &[u16], levels: &[i16], out: &mut [u8]) -> u32 {
+    number(write_file(units, table, levels, out).map(|_| ()))
 }
 
-/// Refused with 4 to 9.
-pub fn load(state: &mut State, units: u16, table: &[u16]) -> u32 {
+/// Refused with 4, 5, 6, 15, 16, 7, 8, 9.
+pub fn load(state: &mut State, units: u16, table: &[u16], levels: &[i16]) -> u32 {
     number((|| {
         let mut survey = Survey::new();
-        survey.load(units, table)?;
+        survey.load(units, table, levels)?;
         survey.write_words(state);
         Ok(())
     })())

@@ -1,19 +1,31 @@
 //! Document 01's cases A to K, and its example.
 
-use plain::{Refusal, Survey, check_table, report_of_file};
+use plain::{LOWEST_LEVEL, Refusal, Survey, report_of_file};
+
+/// Cases A to K have no levels.
+fn levels(table: &[u16]) -> Vec<i16> {
+    vec![LOWEST_LEVEL; table.len() / 2]
+}
+
+fn check_table(units: u16, table: &[u16]) -> Result<(), Refusal> {
+    plain::check_table(units, table, &levels(table))
+}
+
+fn loaded(units: u16, table: &[u16]) -> Survey {
+    let mut survey = Survey::new();
+    survey.load(units, table, &levels(table)).unwrap();
+    survey
+}
 
 fn finished(units: u16, table: &[u16]) -> Survey {
-    let mut survey = Survey::new();
-    survey.load(units, table).unwrap();
+    let mut survey = loaded(units, table);
     survey.run(u16::MAX).unwrap();
     assert!(survey.finished());
     survey
 }
 
 fn first_countdown(units: u16, table: &[u16]) -> u16 {
-    let mut survey = Survey::new();
-    survey.load(units, table).unwrap();
-    survey.status().unwrap().countdown
+    loaded(units, table).status().unwrap().countdown
 }
 
 fn labels(survey: &Survey) -> Vec<u16> {
@@ -85,8 +97,7 @@ fn g_places() {
 #[test]
 fn h_list_of_five() {
     // a ranking of five objects among the eight list places of four units
-    let mut survey = Survey::new();
-    survey.load(4, &[]).unwrap();
+    let mut survey = loaded(4, &[]);
     survey.stage = 4;
     for object in 0..5 {
         survey.sum[object] = 1;

@@ -3,9 +3,9 @@
 mod rules;
 
 use plain::random::Random;
-use plain::sites::any_site;
+use plain::sites::{Site, any_site};
 use plain::states::{any_kept, loaded};
-use plain::{Survey, countdown};
+use plain::{LOWEST_LEVEL, Survey, countdown, level_of_word, word_of_level};
 
 fn same(ours: &Survey, theirs: &Survey, case: &str) {
     for ((name, _, ours), (_, _, theirs)) in ours.parts().iter().zip(&theirs.parts()) {
@@ -91,6 +91,23 @@ fn words_there_and_back() {
         let words = survey.to_words();
         same(&Survey::from_words(&words), &survey, "words");
         assert_eq!((words[0], words[1], words[2050], words[2053]), (survey.units, survey.links, survey.stage, survey.requests));
+        assert_eq!((words.len(), &words[11014..]), (12038, &survey.levels[..]));
+    }
+}
+
+/// A load keeps the levels as the last words, with 0 past the links; no round changes them, and no other word has to do with them.
+#[test]
+fn levels_of_a_load() {
+    for case in 0..200 {
+        let site = any_site(&mut Random::new(6, case));
+        let mut survey = loaded(&site);
+        let mut bare = loaded(&Site { levels: vec![LOWEST_LEVEL; site.links()], ..site.clone() });
+        survey.run(u16::MAX).unwrap();
+        bare.run(u16::MAX).unwrap();
+        let (words, others) = (survey.to_words(), bare.to_words());
+        let levels: Vec<i16> = words[11014..].iter().map(|&word| level_of_word(word)).collect();
+        assert!(levels[..site.links()] == site.levels && levels[site.links()..].iter().all(|&level| level == 0), "load {case}");
+        assert!(words[..11014] == others[..11014], "load {case}");
     }
 }
 
@@ -101,9 +118,13 @@ fn every_entry_is_judged() {
     let survey = any_kept(random);
     let words = survey.to_words();
     for i in 0..words.len() {
-        // all else is at most 2,048
-        let requests = i == 2053;
-        for out in [if requests { 8159 } else { 2049 }, 65534] {
+        // a level is -127 to 0, all else but the requests at most 2,048
+        let outside = match i {
+            2053 => [8159, 65534],
+            11014.. => [1, word_of_level(-128)],
+            _ => [2049, 65534],
+        };
+        for out in outside {
             let mut words = words.clone();
             words[i] = out;
             assert!(!Survey::from_words(&words).kept(), "word {i} = {out}");

@@ -14,27 +14,46 @@ ghost use mathlib.Core.Path.{_≡_};
 ghost use mathlib.Core.List.{_++_};
 ghost use Prim.Native.Nat.{_≤_, min};
 ghost use lib.ListN.{length, drop, take};
-ghost use Rattle.machine.specs.Load.{absents, firstClock, blankComponents, blankTree, blankTour, blankRanking, blankOrder, blankRange, blankGlobal, blankAux, blankLabels, tableOf};
+ghost use Rattle.machine.specs.Load.{absents, silences, firstClock, blankComponents, blankTree, blankTour, blankRanking, blankOrder, blankRange, blankGlobal, blankAux, blankLabels, endsOf, levelsOf, tableOf};
 
-// The table of links, from its first 2,048 words.
-pub fn table(units: u16, words: &[u16]) -> Table
-    ensures { λ r. ⌜ r ≡ tableOf (record { units = units; words = take 2048 (now (words .entry)) }) ⌝ }
+// The table of links, from its first 2,048 words and its first 1,024 levels.
+pub fn table(units: u16, words: &[u16], levels: &[i16]) -> Table
+    ensures { λ r. ⌜ r ≡ tableOf (record { units = units; words = take 2048 (now (words .entry)); levels = take 1024 (now (levels .entry)) }) ⌝ }
 {
-    let mut ends = blank();
-    let count = held(words.len());
-    copy_in(&words[..count], &mut ends);
+    let count = held(2048, words.len());
     Table {
         units,
         links: (count / 2) as u16,
-        ends,
+        ends: ends(words),
+        levels: heard(levels),
     }
 }
 
-// How many of so many words the table holds.
-fn held(count: usize) -> usize
-    ensures { λ r. ⌜ r ≡ min 2048 count ⌝ }
+// The words in an array, absent past the last.
+fn ends(words: &[u16]) -> [u16; 2048]
+    ensures { λ r. ⌜ r ≡ endsOf (take 2048 (now (words .entry))) ⌝ }
 {
-    if 2048 < count { 2048 } else { count }
+    let mut ends = blank();
+    let count = held(2048, words.len());
+    copy_in(&words[..count], &mut ends);
+    ends
+}
+
+// The levels in an array, 0 past the last.
+fn heard(levels: &[i16]) -> [i16; 1024]
+    ensures { λ r. ⌜ r ≡ levelsOf (take 1024 (now (levels .entry))) ⌝ }
+{
+    let mut heard = silent();
+    let count = held(1024, levels.len());
+    levels_in(&levels[..count], &mut heard);
+    heard
+}
+
+// How many of so many entries a table of this size holds.
+fn held(size: usize, count: usize) -> usize
+    ensures { λ r. ⌜ r ≡ min size count ⌝ }
+{
+    if size < count { size } else { count }
 }
 
 fn blank() -> [u16; 2048]
@@ -51,6 +70,25 @@ fn copy_in(words: &[u16], ends: &mut [u16])
     let mut i = 0;
     while i < words.len() {
         ends[i] = words[i];
+        i += 1;
+    }
+}
+
+fn silent() -> [i16; 1024]
+    ensures { λ r. ⌜ r ≡ silences 1024 ⌝ }
+{
+    [0; 1024]
+}
+
+// The levels from the first place on; the rest stays.
+fn levels_in(levels: &[i16], heard: &mut [i16])
+    requires { ⌜ length (now levels) ≤ length (now heard) ⌝ }
+    ensures { λ _. ⌜ now (heard .exit) ≡ now (levels .entry) ++ drop (length (now (levels .entry))) (now (heard .entry)) ⌝ }
+{
+    let mut i = 0;
+    while i < levels.len() {
+        let level = levels[i];
+        heard[i] = level;
         i += 1;
     }
 }

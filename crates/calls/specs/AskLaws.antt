@@ -18,6 +18,7 @@ use Rattle.state.specs.declared.reply.Reply.{Reply}
 use Rattle.state.specs.declared.reply.Reply.the-variants.{Refused, Read, Written}
 use Rattle.machine.specs.State.{units, links, finished, FINISHED}
 use Rattle.machine.specs.WellFormed.{wellFormed}
+use Rattle.machine.specs.Load.{Input}
 use Rattle.machine.specs.Report.{reportLength}
 use Rattle.machine.specs.Calls.{Answer, questionRefusal, reportRefusal, readAnswer, writeAnswer}
 
@@ -62,22 +63,25 @@ abbrev pub writingAnswer : State → Writing → Answer
 writingAnswer s (writing.Written k) = record { state = s; reply = Written k }
 writingAnswer s (writing.Refused k) = record { state = s; reply = Refused k }
 
-pub read-answer : (input : List ℕ) (places : ℕ) (s : State)
-    → readingAnswer s (readReply input places) ≡ readAnswer input places s
+pub read-answer : (input : List ℕ) (places spaces : ℕ) (s : State)
+    → readingAnswer s (readReply input places spaces) ≡ readAnswer input places spaces s
 unfolding readAnswer readReply
-read-answer input places s = go (either (eqb (readRefusal (linesOf input) places) 0))
+read-answer input places spaces s = go (either (eqb (readRefusal (linesOf input) places spaces) 0))
   where
-    go : (eqb (readRefusal (linesOf input) places) 0 ≡ true) ⊎ (eqb (readRefusal (linesOf input) places) 0 ≡ false)
-        → readingAnswer s (readReply input places) ≡ readAnswer input places s
+    go : (eqb (readRefusal (linesOf input) places spaces) 0 ≡ true) ⊎ (eqb (readRefusal (linesOf input) places spaces) 0 ≡ false)
+        → readingAnswer s (readReply input places spaces) ≡ readAnswer input places spaces s
     go (inl e) = rw e refl
     go (inr e) = rw e refl
 
-pub write-answer : (n : ℕ) (t : List ℕ) (places : ℕ) (s : State)
-    → writingAnswer s (writeReply n t places) ≡ writeAnswer n t places s
+pub write-answer : (input : Input) (places : ℕ) (s : State)
+    → writingAnswer s (writeReply (input .units) (input .words) (input .levels) places) ≡ writeAnswer input places s
 unfolding writeAnswer writeReply
-write-answer n t places s = go (either (eqb (writeRefusal n t places) 0))
+write-answer input places s = go (either (eqb refusal 0))
   where
-    go : (eqb (writeRefusal n t places) 0 ≡ true) ⊎ (eqb (writeRefusal n t places) 0 ≡ false)
-        → writingAnswer s (writeReply n t places) ≡ writeAnswer n t places s
+    refusal : ℕ
+    refusal = writeRefusal (input .units) (input .words) (input .levels) places
+
+    go : (eqb refusal 0 ≡ true) ⊎ (eqb refusal 0 ≡ false)
+        → writingAnswer s (writeReply (input .units) (input .words) (input .levels) places) ≡ writeAnswer input places s
     go (inl e) = rw e refl
     go (inr e) = rw e refl

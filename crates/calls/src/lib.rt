@@ -6,7 +6,7 @@ ghost use mathlib.Core.List.{[], _∷_};
 ghost use lib.Dec.{eqb, ltb};
 ghost use lib.ListN.{length};
 ghost use Rattle.table.specs.Refusals.{firstOf};
-ghost use Rattle.files.specs.File.{readWords, writtenFile};
+ghost use Rattle.files.specs.File.{readWords, readLevels, writtenFile};
 ghost use Rattle.machine.specs.Report.{reportLength};
 ghost use Rattle.machine.specs.Calls.{questionRefusal, unitAnswer, linkAnswer, reportAnswer, reported, readAnswer, writeAnswer};
 ghost use Rattle.survey.specs.View.{of, answerOf};
@@ -124,12 +124,13 @@ pub fn report_refusal(well: bool, stage: u16, units: u16, links: u16, places: us
     0
 }
 
-// A file's ends into words: 1, 2, 3, 6, 14. Words past the last end stay.
-pub fn read(survey: Survey, file: &[u8], words: &mut [u16]) -> Answer
-    ensures reply { λ r. ⌜ answerOf r ≡ readAnswer (now (file .entry)) (length (now (words .entry))) (of survey) ⌝ }
-    ensures lent { λ _. ⌜ now (words .exit) ≡ readWords (now (file .entry)) (now (words .entry)) ⌝ }
+// A file's ends into words and its levels beside them: 1, 2, 3, 6, 16, 14. What stands past the last link stays.
+pub fn read(survey: Survey, file: &[u8], words: &mut [u16], levels: &mut [i16]) -> Answer
+    ensures reply { λ r. ⌜ answerOf r ≡ readAnswer (now (file .entry)) (length (now (words .entry))) (length (now (levels .entry))) (of survey) ⌝ }
+    ensures lent { λ _. ⌜ now (words .exit) ≡ readWords (now (file .entry)) (now (words .entry)) (length (now (levels .entry))) ⌝ }
+    ensures levels { λ _. ⌜ now (levels .exit) ≡ readLevels (now (file .entry)) (length (now (words .entry))) (now (levels .entry)) ⌝ }
 {
-    let found = files::read(file, words);
+    let found = files::read(file, words, levels);
     match found {
         Reading::Refused(number) => Answer {
             survey,
@@ -142,12 +143,12 @@ pub fn read(survey: Survey, file: &[u8], words: &mut [u16]) -> Answer
     }
 }
 
-// The file of a unit count and a table: 4 to 9, 14. Bytes past it stay.
-pub fn write(survey: Survey, units: u16, words: &[u16], out: &mut [u8]) -> Answer
-    ensures reply { λ r. ⌜ answerOf r ≡ writeAnswer units (now (words .entry)) (length (now (out .entry))) (of survey) ⌝ }
-    ensures lent { λ _. ⌜ now (out .exit) ≡ writtenFile units (now (words .entry)) (now (out .entry)) ⌝ }
+// The file of a unit count, a table and its levels: 4 to 6, 15, 16, 7 to 9, 14. Bytes past it stay.
+pub fn write(survey: Survey, units: u16, words: &[u16], levels: &[i16], out: &mut [u8]) -> Answer
+    ensures reply { λ r. ⌜ answerOf r ≡ writeAnswer (record { units = units; words = now (words .entry); levels = now (levels .entry) }) (length (now (out .entry))) (of survey) ⌝ }
+    ensures lent { λ _. ⌜ now (out .exit) ≡ writtenFile units (now (words .entry)) (now (levels .entry)) (now (out .entry)) ⌝ }
 {
-    let done = files::write(units, words, out);
+    let done = files::write(units, words, levels, out);
     match done {
         Writing::Refused(number) => Answer {
             survey,

@@ -5,12 +5,12 @@ ghost use mathlib.Core.Path.{_≡_};
 ghost use mathlib.Core.Bool.{true, _&&_};
 ghost use Prim.Native.Nat.{_≤_};
 ghost use lib.ListN.{length, take};
-ghost use Rattle.table.specs.Table.{tableRefusal};
+ghost use Rattle.table.specs.Table.{bareRefusal};
 ghost use Rattle.machine.specs.WellFormed.{tableOk, madeOk, clockOk};
 
 // Both tests. Only a table that passes has units few enough for ceilings.
 pub fn front_ok(units: u16, links: u16, ends: &[u16], c: Clock) -> bool
-    ensures { λ r. ⌜ r ≡ (tableOk (record { units = units; links = links; ends = now (ends .entry) }) && clockOk units c) ⌝ }
+    ensures { λ r. ⌜ r ≡ (tableOk units links (now (ends .entry)) && clockOk units c) ⌝ }
 {
     if !table_ok(units, links, ends) {
         return false;
@@ -20,7 +20,7 @@ pub fn front_ok(units: u16, links: u16, ends: &[u16], c: Clock) -> bool
 
 // The first words of the table, or all that are there, pass 4 to 9.
 fn table_ok(units: u16, links: u16, ends: &[u16]) -> bool
-    ensures exact { λ r. ⌜ r ≡ tableOk (record { units = units; links = links; ends = now (ends .entry) }) ⌝ }
+    ensures exact { λ r. ⌜ r ≡ tableOk units links (now (ends .entry)) ⌝ }
     ensures few { λ r. ⌜ (r ≡ true → units ≤ 256) ⌝ }
 {
     if 1024 < links {
@@ -31,12 +31,12 @@ fn table_ok(units: u16, links: u16, ends: &[u16]) -> bool
 
 // The number of the first check that the first words fail.
 fn refusal_of(units: u16, words: usize, ends: &[u16]) -> u8
-    ensures { λ r. ⌜ r ≡ tableRefusal units (take words (now (ends .entry))) ⌝ }
+    ensures { λ r. ⌜ r ≡ bareRefusal units (take words (now (ends .entry))) ⌝ }
 {
     if ends.len() < words {
-        return table::refusal(units, ends);
+        return table::bare_refusal(units, ends);
     }
-    table::refusal(units, &ends[..words])
+    table::bare_refusal(units, &ends[..words])
 }
 
 fn clock_ok(units: u16, c: Clock) -> bool

@@ -1,5 +1,5 @@
-// Reads each file that an argument names and writes it back: a line with its name, and the number of a refusal, or "same" where every
-// byte came back.
+// Reads each file that an argument names and writes it back, and does the same with what was written: a line with its name, and the number of a refusal, or
+// "same" where every byte of what was written came back.
 use files::Writing;
 use libc::STDOUT_FILENO;
 
@@ -15,15 +15,35 @@ fn compared(copy: &[u8], end: usize, file: &[u8]) -> u8 {
     }
 }
 
-// The number of a refusal; 0 where the file came back as it was, 255 where it did not.
-fn verdict(file: &[u8]) -> u8 {
+// The number of a refusal; 0 where a written file came back as it was, 255 where it did not.
+fn again(file: &[u8]) -> u8 {
     let mut words = [0u16; 2048];
+    let mut levels = [0i16; 1024];
     let mut copy = [0u8; 65536];
-    let done = files::trips::read_then_write(file, &mut words, &mut copy);
+    let done = files::trips::read_then_write(file, &mut words, &mut levels, &mut copy);
     match done {
         Writing::Refused(number) => number,
         Writing::Written(characters) => compared(&copy, characters as usize, file),
     }
+}
+
+// The number of a refusal; else what comes of the file that was written.
+fn verdict(file: &[u8]) -> u8 {
+    let mut words = [0u16; 2048];
+    let mut levels = [0i16; 1024];
+    let mut copy = [0u8; 65536];
+    let done = files::trips::read_then_write(file, &mut words, &mut levels, &mut copy);
+    match done {
+        Writing::Refused(number) => number,
+        Writing::Written(characters) => first(&copy, characters as usize),
+    }
+}
+
+fn first(copy: &[u8], end: usize) -> u8 {
+    if copy.len() < end {
+        return 255;
+    }
+    again(&copy[..end])
 }
 
 // A program's input is at most 65,535 bytes long: one more is refusal 1.

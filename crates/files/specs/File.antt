@@ -1,14 +1,17 @@
--- A survey file (document 01): kind 01 the unit count, a kind 02 for each link with its two ends, kind 0F the number of links.
+-- A survey file (documents 01 and 02, T-01): kind 01 the unit count, for each link a kind 03 with its two ends and its level or a kind 02 without a level,
+-- kind 0F the number of links.
 use mathlib.Core.Bool.{Bool, true, false, cond, not, _&&_, _||_}
 use mathlib.Core.List.{List, [], _∷_, _++_}
 use Prim.Native.Nat.{ℕ, _+_, _*_, _%_}
 use lib.Dec.{ltb, eqb}
 use lib.ListN.{length, getD}
+use lib.IntN.{ℤ}
+use Rattle.levels.specs.Level.{LOWEST, levelByte, byteLevel}
 use Rattle.table.specs.Refusals.{firstOf, written}
-use Rattle.table.specs.Table.{linkCount, maxLinks, tableTests}
+use Rattle.table.specs.Table.{linkCount, maxLinks, levelOutside, tableTests}
 use Rattle.frames.specs.Frame.{LF, wordOf, lineOf, allDigits, bytesOf, sumOf}
 use Rattle.frames.specs.Bodies.{unitsBody, linkBody, endBody}
-use Rattle.frames.specs.Kinds.{UNITS, LINK, END, frameBytes}
+use Rattle.frames.specs.Kinds.{UNITS, LINK, END, frameBytes, linkKind}
 use Rattle.files.specs.declared.Reading.{Reading}
 use Rattle.files.specs.declared.Reading.the-variants.{Read}
 use Rattle.files.specs.declared.Writing.{Writing}
@@ -47,29 +50,30 @@ unless k values = cond (eqb k 0) values []
 
 -- ---- written
 
-unfoldable pub linkLines : List ℕ → List ℕ
-linkLines [] = []
-linkLines (a ∷ []) = []
-linkLines (a ∷ b ∷ t) = lineOf (linkBody a b) ++ linkLines t
+unfoldable pub linkLines : List ℕ → List ℤ → List ℕ
+linkLines [] ls = []
+linkLines (a ∷ []) ls = []
+linkLines (a ∷ b ∷ t) [] = []
+linkLines (a ∷ b ∷ t) (z ∷ ls) = lineOf (linkBody a b (levelByte z)) ++ linkLines t ls
 
--- the file of a unit count and a table of links
-unfoldable pub fileOf : ℕ → List ℕ → List ℕ
-fileOf n t = lineOf (unitsBody n) ++ linkLines t ++ lineOf (endBody (linkCount t))
+-- the file of a unit count, a table of links and their levels
+unfoldable pub fileOf : ℕ → List ℕ → List ℤ → List ℕ
+fileOf n t ls = lineOf (unitsBody n) ++ linkLines t ls ++ lineOf (endBody (linkCount t))
 
 -- its number of characters
 abbrev pub fileLength : ℕ → ℕ
-fileLength m = 18 + 13 * m
+fileLength m = 18 + 15 * m
 
--- writing into a slice with this many places: 4 to 9, then 14
-unfoldable pub writeRefusal : ℕ → List ℕ → ℕ → ℕ
-writeRefusal n t places = firstOf (tableTests n t ++ (14, ltb places (fileLength (linkCount t))) ∷ [])
+-- writing into a slice with this many places: the table's refusals, then 14
+unfoldable pub writeRefusal : ℕ → List ℕ → List ℤ → ℕ → ℕ
+writeRefusal n t ls places = firstOf (tableTests n t ls ++ (14, ltb places (fileLength (linkCount t))) ∷ [])
 
 -- the reply, and the slice after the call
-unfoldable pub writeReply : ℕ → List ℕ → ℕ → Writing
-writeReply n t places = writingOf (writeRefusal n t places) (fileLength (linkCount t))
+unfoldable pub writeReply : ℕ → List ℕ → List ℤ → ℕ → Writing
+writeReply n t ls places = writingOf (writeRefusal n t ls places) (fileLength (linkCount t))
 
-unfoldable pub writtenFile : ℕ → List ℕ → List ℕ → List ℕ
-writtenFile n t out = written (writeRefusal n t (length out)) (fileOf n t) out
+unfoldable pub writtenFile : ℕ → List ℕ → List ℤ → List ℕ → List ℕ
+writtenFile n t ls out = written (writeRefusal n t ls (length out)) (fileOf n t ls) out
 
 -- ---- read
 
@@ -108,21 +112,21 @@ unfoldable pub faultyLine : List Line → Bool
 faultyLine [] = false
 faultyLine (l ∷ ls) = not (whole l) || faultyLine ls
 
--- what follows the first frame: any number of 02, then one 0F, and nothing more
+-- what follows the first frame: any number of 02 and 03, then one 0F, and nothing more
 unfoldable pub inOrderAfter : List Line → Bool
 inOrderAfter [] = false
 inOrderAfter (l ∷ []) = eqb (kindOf l) END
-inOrderAfter (l ∷ k ∷ ls) = eqb (kindOf l) LINK && inOrderAfter (k ∷ ls)
+inOrderAfter (l ∷ k ∷ ls) = linkKind (kindOf l) && inOrderAfter (k ∷ ls)
 
--- one 01, any number of 02, one 0F
+-- one 01, any number of 02 and 03, one 0F
 unfoldable pub inOrder : List Line → Bool
 inOrder [] = false
 inOrder (l ∷ ls) = eqb (kindOf l) UNITS && inOrderAfter ls
 
--- the number of 02 frames
+-- the number of 02 and 03 frames
 unfoldable pub linkFrames : List Line → ℕ
 linkFrames [] = 0
-linkFrames (l ∷ ls) = cond (eqb (kindOf l) LINK) 1 0 + linkFrames ls
+linkFrames (l ∷ ls) = cond (linkKind (kindOf l)) 1 0 + linkFrames ls
 
 -- the count in the last frame
 unfoldable pub statedCount : List Line → ℕ
@@ -135,25 +139,38 @@ unfoldable pub unitsIn : List Line → ℕ
 unitsIn [] = 0
 unitsIn (l ∷ ls) = numberAt l 1
 
--- the ends in the 02 frames, in order
+-- the ends in the 02 and 03 frames, in order
 unfoldable pub endsIn : List Line → List ℕ
 endsIn [] = []
-endsIn (l ∷ ls) = let later = endsIn ls in cond (eqb (kindOf l) LINK) (numberAt l 1 ∷ numberAt l 3 ∷ later) later
+endsIn (l ∷ ls) = let later = endsIn ls in cond (linkKind (kindOf l)) (numberAt l 1 ∷ numberAt l 3 ∷ later) later
 
--- reading lines into a slice with this many places: 1, 2, 3, 6, 14, each judged over the whole input
-unfoldable pub readRefusal : List Line → ℕ → ℕ
-readRefusal ls places =
+-- the level of a link's frame: −127 where it has none
+abbrev pub levelOf : Line → ℤ
+levelOf l = cond (eqb (kindOf l) LINK) (byteLevel (getD (bytesOf (l .0)) 5 0)) LOWEST
+
+-- the levels in these frames, in order
+unfoldable pub levelsIn : List Line → List ℤ
+levelsIn [] = []
+levelsIn (l ∷ ls) = let later = levelsIn ls in cond (linkKind (kindOf l)) (levelOf l ∷ later) later
+
+-- reading lines into slices with so many places for words and so many for levels: 1, 2, 3, 6, 16, 14, each judged over the whole input
+unfoldable pub readRefusal : List Line → ℕ → ℕ → ℕ
+readRefusal ls places spaces =
     firstOf
     ((1, faultyLine ls)
     ∷ (2, not (inOrder ls))
     ∷ (3, not (eqb (statedCount ls) (linkFrames ls)))
     ∷ (6, ltb maxLinks (linkFrames ls))
-    ∷ (14, ltb places (2 * linkFrames ls))
+    ∷ (16, levelOutside (levelsIn ls))
+    ∷ (14, ltb places (2 * linkFrames ls) || ltb spaces (linkFrames ls))
     ∷ [])
 
--- the reply to reading characters into a slice with this many places, and the slice after the call
-unfoldable pub readReply : List ℕ → ℕ → Reading
-readReply s places = readingOf (readRefusal (linesOf s) places) (unitsIn (linesOf s)) (linkFrames (linesOf s))
+-- the reply, and the slices after the call
+unfoldable pub readReply : List ℕ → ℕ → ℕ → Reading
+readReply s places spaces = readingOf (readRefusal (linesOf s) places spaces) (unitsIn (linesOf s)) (linkFrames (linesOf s))
 
-unfoldable pub readWords : List ℕ → List ℕ → List ℕ
-readWords s words = written (readRefusal (linesOf s) (length words)) (endsIn (linesOf s)) words
+unfoldable pub readWords : List ℕ → List ℕ → ℕ → List ℕ
+readWords s words spaces = written (readRefusal (linesOf s) (length words) spaces) (endsIn (linesOf s)) words
+
+unfoldable pub readLevels : List ℕ → ℕ → List ℤ → List ℤ
+readLevels s places levels = written (readRefusal (linesOf s) places (length levels)) (levelsIn (linesOf s)) levels

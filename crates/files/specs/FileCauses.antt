@@ -1,6 +1,6 @@
 -- Why reading or writing a file is refused, in the words of document 01, and that each test decides its cause: the reasons of both calls, in order.
 use mathlib.Core.Path.{_≡_, refl, sym, ap, _∙_}
-use mathlib.Core.Bool.{Bool, true, false, not, _&&_, false≢true, true≢false}
+use mathlib.Core.Bool.{Bool, true, false, not, _&&_, _||_, false≢true, true≢false}
 use mathlib.Core.Logic.{_⊎_, inl, inr, _↔_}
 use mathlib.Core.List.{List, [], _∷_, _++_}
 use Prim.Native.Nat.{ℕ, zero, suc, _+_, _*_, _%_, _<_, suc-le-suc}
@@ -9,16 +9,17 @@ use native.Mathlib.Numerals.{add-one}
 use native.Mathlib.Omega.{arith}
 use lib.Dec.{eqb, ltb}
 use lib.ListN.{length, getD}
+use lib.IntN.{ℤ}
 use borrow.Author.Tests.{eq-eqb, ne-eqb, eqb-true, eqb-false, ltb-true, lt-ltb, not-true, not-false}
-use Rattle.lists.specs.Tests.{either, or-cases, or-left, or-right, and-left, and-right, and-true, not-both, refuted}
+use Rattle.lists.specs.Tests.{either, or-cases, or-left, or-right, or-exact, and-left, and-right, and-true, not-both, refuted}
 use Rattle.table.specs.Refusals.{firstOf}
 use Rattle.table.specs.RefusalLaws.{Reason, tests}
-use Rattle.table.specs.Table.{linkCount, maxLinks}
-use Rattle.table.specs.TableCauses.{tableReasons}
+use Rattle.table.specs.Table.{linkCount, maxLinks, levelOutside}
+use Rattle.table.specs.TableCauses.{LevelOutside, levelOutside-exact, tableReasons}
 use Rattle.frames.specs.Frame.{digitValue, allDigits, bytesOf, sumOf}
 use Rattle.frames.specs.FrameLaws.{IsDigit, digit-exact}
-use Rattle.frames.specs.Kinds.{UNITS, LINK, END, frameBytes}
-use Rattle.files.specs.File.{Line, kindOf, whole, faultyLine, inOrderAfter, inOrder, linkFrames, statedCount, readRefusal, fileLength, writeRefusal}
+use Rattle.frames.specs.Kinds.{UNITS, BARE-LINK, LINK, END, frameBytes, linkKind}
+use Rattle.files.specs.File.{Line, kindOf, whole, faultyLine, inOrderAfter, inOrder, linkFrames, statedCount, levelsIn, readRefusal, fileLength, writeRefusal}
 
 -- line i
 abbrev lineAt : List Line → ℕ → Line
@@ -28,7 +29,7 @@ lineAt ls i = getD ls i ([], true)
 
 -- no kind of a file
 abbrev UnknownKind : ℕ → Type 0
-UnknownKind k = (k ≡ UNITS → ⊥) × (k ≡ LINK → ⊥) × (k ≡ END → ⊥)
+UnknownKind k = (k ≡ UNITS → ⊥) × (k ≡ BARE-LINK → ⊥) × (k ≡ LINK → ⊥) × (k ≡ END → ⊥)
 
 -- what can be wrong with a line
 pub data Fault (l : Line) : Type 0 where
@@ -43,11 +44,15 @@ abbrev FaultyLine : List Line → Type 0
 FaultyLine ls = (i : ℕ) × (i < length ls) × Fault (lineAt ls i)
 
 unknown-bytes : (k : ℕ) → UnknownKind k → frameBytes k ≡ 0
-unknown-bytes k u = rw (ne-eqb k UNITS (u .0), ne-eqb k LINK (u .1), ne-eqb k END (u .2))
+unknown-bytes k u = rw (ne-eqb k UNITS (u .0), ne-eqb k BARE-LINK (u .1), ne-eqb k LINK (u .2), ne-eqb k END (u .3))
 
 no-bytes : (k : ℕ) → frameBytes k ≡ 0 → UnknownKind k
-no-bytes k e =
-    (λ q. omega (arith, sym (ap frameBytes q) ∙ e), λ q. omega (arith, sym (ap frameBytes q) ∙ e), λ q. omega (arith, sym (ap frameBytes q) ∙ e))
+no-bytes k e = (
+  λ q. omega (arith, sym (ap frameBytes q) ∙ e),
+  λ q. omega (arith, sym (ap frameBytes q) ∙ e),
+  λ q. omega (arith, sym (ap frameBytes q) ∙ e),
+  λ q. omega (arith, sym (ap frameBytes q) ∙ e),
+)
 
 -- an empty line has no kind
 no-bytes-kind : frameBytes (getD (bytesOf []) 0 0) ≡ 0
@@ -157,19 +162,26 @@ faulty-exact ls = (faults-forth ls, λ f. faults-back ls (f .0) (f .1) (f .2))
 abbrev kindAt : List Line → ℕ → ℕ
 kindAt ls i = kindOf (lineAt ls i)
 
--- m times 02, then one 0F, and nothing more
-abbrev LinksThenEnd : List Line → ℕ → Type 0
-LinksThenEnd ls m = (length ls ≡ m + 1) × ((i : ℕ) → i < m → kindAt ls i ≡ LINK) × (kindAt ls m ≡ END)
+-- a link's line: 02 or 03
+abbrev IsLink : ℕ → Type 0
+IsLink k = (k ≡ BARE-LINK) ⊎ (k ≡ LINK)
 
--- one 01, any number m of 02, one 0F
+link-exact : (k : ℕ) → (linkKind k ≡ true) ↔ IsLink k
+link-exact k = or-exact (eqb k BARE-LINK) (eqb k LINK) (eqb-true k BARE-LINK, eq-eqb k BARE-LINK) (eqb-true k LINK, eq-eqb k LINK)
+
+-- m times 02 or 03, then one 0F, and nothing more
+abbrev LinksThenEnd : List Line → ℕ → Type 0
+LinksThenEnd ls m = (length ls ≡ m + 1) × ((i : ℕ) → i < m → IsLink (kindAt ls i)) × (kindAt ls m ≡ END)
+
+-- one 01, any number m of 02 and 03, one 0F
 abbrev InOrder : List Line → Type 0
 InOrder ls =
-    (m : ℕ) × (length ls ≡ m + 2) × (kindAt ls 0 ≡ UNITS) × ((i : ℕ) → i < m → kindAt ls (i + 1) ≡ LINK) × (kindAt ls (m + 1) ≡ END)
+    (m : ℕ) × (length ls ≡ m + 2) × (kindAt ls 0 ≡ UNITS) × ((i : ℕ) → i < m → IsLink (kindAt ls (i + 1))) × (kindAt ls (m + 1) ≡ END)
 
-links-more : (l : Line) (ls : List Line) → kindOf l ≡ LINK → (m : ℕ) × LinksThenEnd ls m → (m : ℕ) × LinksThenEnd (l ∷ ls) m
+links-more : (l : Line) (ls : List Line) → IsLink (kindOf l) → (m : ℕ) × LinksThenEnd ls m → (m : ℕ) × LinksThenEnd (l ∷ ls) m
 links-more l ls k c = (suc (c .0), (omega (arith, c .1 .0), links, c .1 .2))
   where
-    links : (i : ℕ) → i < suc (c .0) → kindAt (l ∷ ls) i ≡ LINK
+    links : (i : ℕ) → i < suc (c .0) → IsLink (kindAt (l ∷ ls) i)
     links zero h = k
     links (suc i) h = c .1 .1 i (le-of-suc-le-suc h)
 
@@ -178,8 +190,8 @@ unfolding inOrderAfter
 after-forth [] e = absurd (false≢true e)
 after-forth (l ∷ []) e = (zero, (refl, λ i h. absurd (not-suc-le-zero h), eqb-true (kindOf l) END e))
 after-forth (l ∷ k ∷ ls) e =
-    links-more l (k ∷ ls) (eqb-true (kindOf l) LINK (and-left (eqb (kindOf l) LINK) (inOrderAfter (k ∷ ls)) e))
-    (after-forth (k ∷ ls) (and-right (eqb (kindOf l) LINK) (inOrderAfter (k ∷ ls)) e))
+    links-more l (k ∷ ls) (link-exact (kindOf l) .0 (and-left (linkKind (kindOf l)) (inOrderAfter (k ∷ ls)) e))
+    (after-forth (k ∷ ls) (and-right (linkKind (kindOf l)) (inOrderAfter (k ∷ ls)) e))
 
 after-back : (ls : List Line) (m : ℕ) → LinksThenEnd ls m → inOrderAfter ls ≡ true
 unfolding inOrderAfter
@@ -188,7 +200,7 @@ after-back (l ∷ []) zero c = eq-eqb (kindOf l) END (c .2)
 after-back (l ∷ []) (suc m) c = absurd (omega (arith, c .0))
 after-back (l ∷ k ∷ ls) zero c = absurd (omega (arith, c .0))
 after-back (l ∷ k ∷ ls) (suc m) c =
-    and-true (eqb (kindOf l) LINK) (inOrderAfter (k ∷ ls)) (eq-eqb (kindOf l) LINK (c .1 zero (omega arith)))
+    and-true (linkKind (kindOf l)) (inOrderAfter (k ∷ ls)) (link-exact (kindOf l) .1 (c .1 zero (omega arith)))
     (after-back (k ∷ ls) m (omega (arith, c .0), λ (i : ℕ) (h : i < m). c .1 (suc i) (suc-le-suc h), c .2))
 
 order-forth : (ls : List Line) → inOrder ls ≡ true → InOrder ls
@@ -226,10 +238,15 @@ count-exact a b = (λ e. eqb-false a b (not-true (eqb a b) e), λ n. rw (ne-eqb 
 pub below-exact : (a b : ℕ) → (ltb a b ≡ true) ↔ (a < b)
 below-exact a b = (ltb-true a b, lt-ltb a b)
 
--- ---- reading: 1, 2, 3, 6, 14
+-- ---- 14: a slice is too short
 
-unfoldable pub readReasons : List Line → ℕ → List Reason
-readReasons ls places =
+pub short-exact : (a b c d : ℕ) → ((ltb a b || ltb c d) ≡ true) ↔ ((a < b) ⊎ (c < d))
+short-exact a b c d = or-exact (ltb a b) (ltb c d) (below-exact a b) (below-exact c d)
+
+-- ---- reading: 1, 2, 3, 6, 16, 14
+
+unfoldable pub readReasons : List Line → ℕ → ℕ → List Reason
+readReasons ls places spaces =
     record { number = 1; test = faultyLine ls; cause = FaultyLine ls; exact = faulty-exact ls }
     ∷ record { number = 2; test = not (inOrder ls); cause = InOrder ls → ⊥; exact = order-exact ls }
     ∷ record {
@@ -245,22 +262,28 @@ readReasons ls places =
       exact = below-exact maxLinks (linkFrames ls);
     }
     ∷ record {
+      number = 16;
+      test = levelOutside (levelsIn ls);
+      cause = LevelOutside (levelsIn ls);
+      exact = levelOutside-exact (levelsIn ls);
+    }
+    ∷ record {
       number = 14;
-      test = ltb places (2 * linkFrames ls);
-      cause = places < 2 * linkFrames ls;
-      exact = below-exact places (2 * linkFrames ls);
+      test = ltb places (2 * linkFrames ls) || ltb spaces (linkFrames ls);
+      cause = (places < 2 * linkFrames ls) ⊎ (spaces < linkFrames ls);
+      exact = short-exact places (2 * linkFrames ls) spaces (linkFrames ls);
     }
     ∷ []
 
-pub readRefusal-tests : (ls : List Line) (places : ℕ) → readRefusal ls places ≡ firstOf (tests (readReasons ls places))
+pub readRefusal-tests : (ls : List Line) (places spaces : ℕ) → readRefusal ls places spaces ≡ firstOf (tests (readReasons ls places spaces))
 unfolding readRefusal readReasons
-readRefusal-tests ls places = refl
+readRefusal-tests ls places spaces = refl
 
--- ---- writing: 4 to 9, 14
+-- ---- writing: the table's, 14
 
-unfoldable pub writeReasons : ℕ → List ℕ → ℕ → List Reason
-writeReasons n t places =
-    tableReasons n t
+unfoldable pub writeReasons : ℕ → List ℕ → List ℤ → ℕ → List Reason
+writeReasons n t ls places =
+    tableReasons n t ls
     ++ record {
       number = 14;
       test = ltb places (fileLength (linkCount t));
@@ -269,6 +292,6 @@ writeReasons n t places =
     }
     ∷ []
 
-pub writeRefusal-tests : (n : ℕ) (t : List ℕ) (places : ℕ) → writeRefusal n t places ≡ firstOf (tests (writeReasons n t places))
+pub writeRefusal-tests : (n : ℕ) (t : List ℕ) (ls : List ℤ) (places : ℕ) → writeRefusal n t ls places ≡ firstOf (tests (writeReasons n t ls places))
 unfolding writeRefusal writeReasons tableReasons
-writeRefusal-tests n t places = refl
+writeRefusal-tests n t ls places = refl

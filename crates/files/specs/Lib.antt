@@ -6,10 +6,10 @@ pub mod Marks
 pub mod ReadLaws
 pub mod WriteLaws
 pub mod WrittenLaws
+pub mod LinesRight
 pub mod RewrittenLaws
 pub mod FileCauses
 pub mod RoundTrip
 pub mod TripLaws
 pub mod Replies
 pub mod Example
-pub mod LinesRight

@@ -1,6 +1,6 @@
 -- The first line of characters: it is whole exactly when the characters begin with the line of a frame of a file kind.
 use mathlib.Core.Path.{_≡_, refl, sym, ap, _∙_}
-use mathlib.Core.Bool.{true, false, not, _&&_, _||_}
+use mathlib.Core.Bool.{true, false, not, _&&_, _||_, false≢true}
 use mathlib.Core.Logic.{_⊎_, inl, inr}
 use mathlib.Core.List.{List, [], _∷_, _++_}
 use Prim.Native.Nat.{ℕ, _+_, _*_, _%_, _≤_, _<_}
@@ -87,23 +87,35 @@ pub record Whole (p : List ℕ) (bytes : ℕ) : Type 0 where
   pub kind : frameBytes (getD (bytesOf p) 0 0) ≡ bytes
   pub known : bytes ≡ 0 → ⊥
 
-whole-says : (p : List ℕ) → whole (p, true) ≡ true → Whole p (frameBytes (getD (bytesOf p) 0 0))
+pub whole-line : (l : Line) → whole l ≡ true → Whole (l .0) (frameBytes (kindOf l))
 unfolding whole
-whole-says p h =
-    let k = getD (bytesOf p) 0 0 in
+whole-line l h =
+    let p = l .0 in
+    let k = kindOf l in
+    let fed = l .1 in
     let d = allDigits p in
     let u = not (eqb (frameBytes k) 0) in
-    let l = eqb (length p) (2 * frameBytes k) in
+    let m = eqb (length p) (2 * frameBytes k) in
     let z = eqb (sumOf (bytesOf p) % 256) 0 in
-    let three = and-left (d && u && l) z h in
-    let two = and-left (d && u) l three in
+    let four = and-left (fed && d && u && m) z h in
+    let three = and-left (fed && d && u) m four in
+    let two = and-left (fed && d) u three in
     record {
-      digits = and-left d u two;
-      long = eqb-true (length p) (2 * frameBytes k) (and-right (d && u) l three);
-      sums = eqb-true (sumOf (bytesOf p) % 256) 0 (and-right (d && u && l) z h);
+      digits = and-right fed d two;
+      long = eqb-true (length p) (2 * frameBytes k) (and-right (fed && d && u) m four);
+      sums = eqb-true (sumOf (bytesOf p) % 256) 0 (and-right (fed && d && u && m) z h);
       kind = refl;
-      known = eqb-false (frameBytes k) 0 (not-true (eqb (frameBytes k) 0) (and-right d u two));
+      known = eqb-false (frameBytes k) 0 (not-true (eqb (frameBytes k) 0) (and-right (fed && d) u three));
     }
+
+-- it has its line feed
+pub line-fed : (l : Line) → whole l ≡ true → l .1 ≡ true
+unfolding whole
+line-fed l h = go (either (l .1))
+  where
+    go : (l .1 ≡ true) ⊎ (l .1 ≡ false) → l .1 ≡ true
+    go (inl e) = e
+    go (inr e) = absurd (false≢true (rw e at h))
 
 pub says-whole : (p : List ℕ) (bytes : ℕ) → Whole p bytes → whole (p, true) ≡ true
 unfolding whole
@@ -197,13 +209,14 @@ front-byte s n j l h =
     let long : length (take n s) ≡ n = length-take-le n s l in
     bytes-at (take n s) j (omega arith) ∙ rw (getD-take n s (2 * j) 0 (omega arith), getD-take n s (2 * j + 1) 0 h)
 
--- a number of the first line stands in its characters
+-- a byte of the first line stands in its characters, and so does a number
+pub front-byte-at : (s : List ℕ) → fileFront s ≡ true → (j : ℕ) → j < frameBytes (kindFront s) → getD (bytesOf (frontLine s .0)) j 0 ≡ byteAt s (2 * j)
+front-byte-at s h j k = front-byte s (2 * frameBytes (kindFront s)) j (omega (arith, front-says s h .short)) (omega arith)
+
 pub front-word : (s : List ℕ) → fileFront s ≡ true → (i : ℕ) → i + 1 < frameBytes (kindFront s) → numberAt (frontLine s) i ≡ wordAt s (2 * i)
 front-word s h i k =
-    let n = 2 * frameBytes (kindFront s) in
     let e : 2 * (i + 1) ≡ 2 * i + 2 = omega arith in
-    let fits : n ≤ length s = omega (arith, front-says s h .short) in
-    rw (front-byte s n i fits (omega arith), front-byte s n (i + 1) fits (omega arith), e)
+    rw (front-byte-at s h i (omega arith), front-byte-at s h (i + 1) (omega arith), e)
 
 pub faulty-later : (s : List ℕ) → fileFront s ≡ true → faultyLine (linesOf s) ≡ faultyLine (linesOf (pastLine s))
 unfolding faultyLine
@@ -217,7 +230,7 @@ faulty-ended s p rest h e l = rw l (go (either (whole (p, true))))
   where
     go : (whole (p, true) ≡ true) ⊎ (whole (p, true) ≡ false) → (not (whole (p, true)) || faultyLine (linesOf rest)) ≡ true
     go (inl w) =
-        absurd (not-both (fileFront s) (rw e (whole-front p rest (frameBytes (getD (bytesOf p) 0 0)) (whole-says p w))) h)
+        absurd (not-both (fileFront s) (rw e (whole-front p rest (frameBytes (getD (bytesOf p) 0 0)) (whole-line (p, true) w))) h)
     go (inr w) = rw w
 
 pub faulty-here : (s : List ℕ) → 0 < length s → fileFront s ≡ false → faultyLine (linesOf s) ≡ true

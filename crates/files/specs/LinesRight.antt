@@ -14,7 +14,7 @@ use Rattle.frames.specs.Frame.{LF}
 use Rattle.files.specs.File.{Line, prepend, linesOf}
 
 -- the characters of lines
-abbrev joined : List Line → List ℕ
+abbrev pub joined : List Line → List ℕ
 joined [] = []
 joined (l ∷ ls) = l .0 ++ (cond (l .1) (LF ∷ []) [] ++ joined ls)
 

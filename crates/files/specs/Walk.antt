@@ -1,23 +1,28 @@
 -- A walk along the lines of a file with a cursor: what is known of the whole from the lines passed and those that are left.
 use mathlib.Core.Path.{_≡_, refl, sym, ap, subst, _∙_}
-use mathlib.Core.Bool.{Bool, true, false, cond}
+use mathlib.Core.Bool.{Bool, true, false, cond, not, _&&_, _||_, or-assoc, or-false}
+use mathlib.Core.Logic.{_⊎_, inl, inr}
 use mathlib.Core.List.{List, [], _∷_, _++_}
 use Prim.Native.Nat.{ℕ, suc, _+_, _*_, _≤_, _<_}
 use native.Mathlib.Nat.{add-zero}
 use native.Mathlib.Decide.{ℕ-discrete, decLt}
 use native.Mathlib.Omega.{arith}
 use lib.Dec.{eqb}
-use lib.ListN.{length, take, drop, set, length-drop, length-set}
+use lib.ListN.{length, getD, take, drop, set, length-drop, length-set}
+use lib.IntN.{ℤ}
 use lib.Seq.{drop-drop, getD-drop, take-add, take-length, length-take-le}
-use borrow.Author.Tests.{ne-eqb}
+use borrow.Author.Tests.{eqb-true, ne-eqb}
 use Rattle.lists.specs.Lent.{lent, lent-rest}
-use Rattle.lists.specs.Puts.{put-two}
-use Rattle.frames.specs.Frame.{byteAt, wordAt}
-use Rattle.frames.specs.Kinds.{UNITS, LINK, END, frameBytes, kindFront, fileFront, lineKind}
+use Rattle.lists.specs.Puts.{put-one, put-two}
+use Rattle.lists.specs.Tests.{either, or-cases, or-false-left, or-false-right}
+use Rattle.levels.specs.Level.{LOWEST, inRange, byteLevel}
+use Rattle.table.specs.Table.{levelOutside}
+use Rattle.frames.specs.Frame.{byteAt, wordAt, bytesOf}
+use Rattle.frames.specs.Kinds.{UNITS, BARE-LINK, LINK, END, frameBytes, linkKind, kindFront, fileFront, lineKind}
 use Rattle.frames.specs.FrontLaws.{none-front, some-front}
-use Rattle.files.specs.File.{Line, linesOf, kindOf, numberAt, faultyLine, inOrderAfter, inOrder, linkFrames, statedCount, endsIn}
-use Rattle.files.specs.LineLaws.{none-lines, no-lines, front-says, front-lines, front-kind, front-word, faulty-here, faulty-later, sound-front, frontLine, pastLine}
-use Rattle.files.specs.LineSteps.{frames-more, ends-link, ends-other, after-link, no-order}
+use Rattle.files.specs.File.{Line, linesOf, kindOf, numberAt, faultyLine, inOrderAfter, inOrder, linkFrames, statedCount, endsIn, levelOf, levelsIn}
+use Rattle.files.specs.LineLaws.{none-lines, no-lines, front-says, front-lines, front-kind, front-byte-at, front-word, faulty-here, faulty-later, sound-front, frontLine, pastLine}
+use Rattle.files.specs.LineSteps.{frames-more, frames-link, ends-link, ends-other, levels-link, levels-other, after-link, no-order, length-ends, length-levels}
 
 -- ---- the order of the frames, line by line
 
@@ -38,7 +43,7 @@ BROKEN = 3
 abbrev pub nextOrder : ℕ → ℕ → ℕ
 nextOrder order kind =
     cond (eqb order START) (cond (eqb kind UNITS) LINKS BROKEN)
-    (cond (eqb order LINKS) (cond (eqb kind LINK) LINKS (cond (eqb kind END) ENDED BROKEN)) BROKEN)
+    (cond (eqb order LINKS) (cond (linkKind kind) LINKS (cond (eqb kind END) ENDED BROKEN)) BROKEN)
 
 -- the lines that are left keep it
 unfoldable pub orderFrom : ℕ → List Line → Bool
@@ -53,7 +58,7 @@ after-start l ls = go (ℕ-discrete (kindOf l) UNITS)
     go (yes e) = rw e
     go (no n) = rw (ne-eqb (kindOf l) UNITS n)
 
-after-other : (l : Line) (ls : List Line) → (kindOf l ≡ LINK → ⊥)
+after-other : (l : Line) (ls : List Line) → linkKind (kindOf l) ≡ false
     → inOrderAfter (l ∷ ls) ≡ orderFrom (cond (eqb (kindOf l) END) ENDED BROKEN) ls
 unfolding inOrderAfter orderFrom
 after-other l ls n = go ls (ℕ-discrete (kindOf l) END)
@@ -62,16 +67,17 @@ after-other l ls n = go ls (ℕ-discrete (kindOf l) END)
     go [] (yes e) = rw e
     go [] (no m) = rw (ne-eqb (kindOf l) END m)
     go (k ∷ ls) (yes e) = rw (e, ne-eqb (suc (length ls)) 0 (omega arith))
-    go (k ∷ ls) (no m) = rw (ne-eqb (kindOf l) END m, ne-eqb (kindOf l) LINK n)
+    go (k ∷ ls) (no m) = rw (ne-eqb (kindOf l) END m, n)
 
 after-links : (l : Line) (ls : List Line)
-    → inOrderAfter (l ∷ ls) ≡ orderFrom (cond (eqb (kindOf l) LINK) LINKS (cond (eqb (kindOf l) END) ENDED BROKEN)) ls
+    → inOrderAfter (l ∷ ls) ≡ orderFrom (cond (linkKind (kindOf l)) LINKS (cond (eqb (kindOf l) END) ENDED BROKEN)) ls
 unfolding orderFrom
-after-links l ls = go (ℕ-discrete (kindOf l) LINK)
+after-links l ls = go (either (linkKind (kindOf l)))
   where
-    go : Dec (kindOf l ≡ LINK) → inOrderAfter (l ∷ ls) ≡ orderFrom (cond (eqb (kindOf l) LINK) LINKS (cond (eqb (kindOf l) END) ENDED BROKEN)) ls
-    go (yes e) = after-link l ls e ∙ rw e
-    go (no n) = after-other l ls n ∙ rw (ne-eqb (kindOf l) LINK n)
+    go : (linkKind (kindOf l) ≡ true) ⊎ (linkKind (kindOf l) ≡ false)
+        → inOrderAfter (l ∷ ls) ≡ orderFrom (cond (linkKind (kindOf l)) LINKS (cond (eqb (kindOf l) END) ENDED BROKEN)) ls
+    go (inl e) = after-link l ls e ∙ rw e
+    go (inr n) = after-other l ls n ∙ rw n
 
 neither : (b : Bool) → cond b false false ≡ false
 neither true = refl
@@ -122,14 +128,24 @@ wordAt-drop s n i =
 kind-at : (s : List ℕ) (at : ℕ) → kindFront (drop at s) ≡ byteAt s at
 kind-at s at = byteAt-drop s at 0 ∙ ap (byteAt s) (add-zero at)
 
-known-long : (kind : ℕ) → (frameBytes kind ≡ 0 → ⊥) → 4 ≤ frameBytes kind
-known-long kind n = go (ℕ-discrete kind UNITS) (ℕ-discrete kind LINK) (ℕ-discrete kind END)
+-- a link's frame has its two ends
+link-long : (kind : ℕ) → linkKind kind ≡ true → 6 ≤ frameBytes kind
+link-long kind e = go (or-cases (eqb kind BARE-LINK) (eqb kind LINK) e)
   where
-    go : Dec (kind ≡ UNITS) → Dec (kind ≡ LINK) → Dec (kind ≡ END) → 4 ≤ frameBytes kind
+    go : (eqb kind BARE-LINK ≡ true) ⊎ (eqb kind LINK ≡ true) → 6 ≤ frameBytes kind
+    go (inl q) = rw (eqb-true kind BARE-LINK q) (omega arith)
+    go (inr q) = rw (eqb-true kind LINK q) (omega arith)
+
+known-long : (kind : ℕ) → (frameBytes kind ≡ 0 → ⊥) → 4 ≤ frameBytes kind
+known-long kind n = go (ℕ-discrete kind UNITS) (either (linkKind kind)) (ℕ-discrete kind END)
+  where
+    go : Dec (kind ≡ UNITS) → (linkKind kind ≡ true) ⊎ (linkKind kind ≡ false) → Dec (kind ≡ END) → 4 ≤ frameBytes kind
     go (yes e) b c = rw e (omega arith)
-    go (no a) (yes e) c = rw e (omega arith)
-    go (no a) (no b) (yes e) = rw e (omega arith)
-    go (no a) (no b) (no c) = absurd (n (rw (ne-eqb kind UNITS a, ne-eqb kind LINK b, ne-eqb kind END c)))
+    go (no a) (inl e) c = omega (arith, link-long kind e)
+    go (no a) (inr b) (yes e) = rw e (omega arith)
+    go (no a) (inr b) (no c) =
+        absurd
+        (n (rw (ne-eqb kind UNITS a, or-false-left (eqb kind BARE-LINK) (eqb kind LINK) b, or-false-right (eqb kind BARE-LINK) (eqb kind LINK) b, ne-eqb kind END c)))
 
 -- where the line at a place ends, by its kind
 abbrev pub pastAt : ℕ → ℕ → ℕ
@@ -162,6 +178,18 @@ module _ (s : List ℕ) (at kind : ℕ) (l : LineAt s at kind) where
   line-word : (i : ℕ) → i + 1 < frameBytes kind → numberAt (frontLine (drop at s)) i ≡ wordAt s (at + 2 * i)
   line-word i h = front-word (drop at s) (l .front) i (omega (arith, size)) ∙ wordAt-drop s at (2 * i)
 
+  line-byte : (j : ℕ) → j < frameBytes kind → getD (bytesOf (frontLine (drop at s) .0)) j 0 ≡ byteAt s (at + 2 * j)
+  line-byte j h = front-byte-at (drop at s) (l .front) j (omega (arith, size)) ∙ byteAt-drop s at (2 * j)
+
+  -- the level of a link's line
+  line-level : levelOf (frontLine (drop at s)) ≡ cond (eqb kind LINK) (byteLevel (byteAt s (at + 10))) LOWEST
+  line-level = rw line-kind (go (ℕ-discrete kind LINK))
+    where
+      go : Dec (kind ≡ LINK)
+          → cond (eqb kind LINK) (byteLevel (getD (bytesOf (frontLine (drop at s) .0)) 5 0)) LOWEST ≡ cond (eqb kind LINK) (byteLevel (byteAt s (at + 10))) LOWEST
+      go (yes e) = rw (line-byte 5 (rw e (omega arith)))
+      go (no n) = rw (ne-eqb kind LINK n)
+
   -- no frame of a file is shorter than one number's
   line-long : 4 ≤ frameBytes kind
   line-long = known-long kind (λ e. front-says (drop at s) (l .front) .body .known (size ∙ e))
@@ -174,17 +202,19 @@ told-line s at kind e n =
 
 -- ---- the walk that judges
 
--- what is known of the whole at a place: how far the order has come, the links passed, and where the last line passed begins
-pub record Walked (s : List ℕ) (at order links last : ℕ) : Type 0 where
+-- what is known of the whole at a place: how far the order has come, the links passed, where the last line passed begins, and whether a level passed is out
+-- of range
+pub record Walked (s : List ℕ) (at order links last : ℕ) (outside : Bool) : Type 0 where
   pub inside : at ≤ length s
   pub faults : faultyLine (linesOf s) ≡ faultyLine (linesOf (drop at s))
   pub kept : inOrder (linesOf s) ≡ orderFrom order (linesOf (drop at s))
   pub count : linkFrames (linesOf s) ≡ links + linkFrames (linesOf (drop at s))
   pub stated : 0 < length s → statedCount (linesOf s) ≡ statedFrom (wordAt s (last + 2)) (linesOf (drop at s))
+  pub levels : levelOutside (levelsIn (linesOf s)) ≡ (outside || levelOutside (levelsIn (linesOf (drop at s))))
   pub few : links ≤ at
   pub long : 0 < at → last + 8 ≤ at
 
-pub walk-start : (s : List ℕ) → Walked s 0 START 0 0
+pub walk-start : (s : List ℕ) → Walked s 0 START 0 0 false
 unfolding orderFrom
 walk-start s =
     record {
@@ -193,26 +223,47 @@ walk-start s =
       kept = refl;
       count = omega arith;
       stated = stated-some (wordAt s 2) s;
+      levels = refl;
       few = omega arith;
       long = λ h. absurd (omega (arith, h));
     }
 
-module _ (s : List ℕ) (at order links last : ℕ) (w : Walked s at order links last) where
+-- a level more that is out of range or not
+outside-cons : (z : ℤ) (ls : List ℤ) → levelOutside (z ∷ ls) ≡ (not (inRange z) || levelOutside ls)
+outside-cons z ls = go (either (inRange z))
+  where
+    go : (inRange z ≡ true) ⊎ (inRange z ≡ false) → levelOutside (z ∷ ls) ≡ (not (inRange z) || levelOutside ls)
+    go (inl e) = rw e
+    go (inr e) = rw e
+
+outside-more : (l : Line) (ls : List Line)
+    → levelOutside (levelsIn (l ∷ ls)) ≡ ((linkKind (kindOf l) && not (inRange (levelOf l))) || levelOutside (levelsIn ls))
+outside-more l ls = go (either (linkKind (kindOf l)))
+  where
+    go : (linkKind (kindOf l) ≡ true) ⊎ (linkKind (kindOf l) ≡ false)
+        → levelOutside (levelsIn (l ∷ ls)) ≡ ((linkKind (kindOf l) && not (inRange (levelOf l))) || levelOutside (levelsIn ls))
+    go (inl e) = rw (levels-link l ls e, e) (outside-cons (levelOf l) (levelsIn ls))
+    go (inr e) = rw (levels-other l ls e, e)
+
+module _ (s : List ℕ) (at order links last : ℕ) (outside : Bool) (w : Walked s at order links last outside) where
   -- a line that is none
   pub walk-fault : at < length s → lineKind (lent at s) ≡ 0 → faultyLine (linesOf s) ≡ true
   walk-fault h e =
       w .faults ∙ faulty-here (drop at s) (omega (arith, length-drop at s)) (none-front (drop at s) (ap lineKind (sym (lent-rest at s)) ∙ e))
 
   -- one line more
-  walk-on : (kind one : ℕ) → one ≡ cond (eqb kind LINK) 1 0 → one ≤ 1 → LineAt s at kind
-      → Walked s (pastAt at kind) (nextOrder order kind) (links + one) at
-  walk-on kind one c o l =
+  walk-on : (kind one : ℕ) (bad : Bool) → one ≡ cond (linkKind kind) 1 0 → one ≤ 1
+      → bad ≡ (linkKind kind && not (inRange (cond (eqb kind LINK) (byteLevel (byteAt s (at + 10))) LOWEST))) → LineAt s at kind
+      → Walked s (pastAt at kind) (nextOrder order kind) (links + one) at (outside || bad)
+  walk-on kind one bad c o b l =
       let rest = linesOf (drop (pastAt at kind) s) in
       let first = frontLine (drop at s) in
       let k : kindOf first ≡ kind = line-kind s at kind l in
       let lines : linesOf (drop at s) ≡ first ∷ rest = line-lines s at kind l in
       let more : linkFrames (linesOf (drop at s)) ≡ one + linkFrames rest =
       ap linkFrames lines ∙ frames-more first rest ∙ rw (k, c) in
+      let here : (linkKind (kindOf first) && not (inRange (levelOf first))) ≡ bad =
+      ap (λ (z : ℤ). linkKind (kindOf first) && not (inRange z)) (line-level s at kind l) ∙ ap (λ (x : ℕ). linkKind x && not (inRange (cond (eqb kind LINK) (byteLevel (byteAt s (at + 10))) LOWEST))) k ∙ sym b in
       record {
         inside = line-fits s at kind l;
         faults = w .faults ∙ line-faults s at kind l;
@@ -223,17 +274,35 @@ module _ (s : List ℕ) (at order links last : ℕ) (w : Walked s at order links
             ∙ ap (statedFrom (wordAt s (last + 2))) lines
             ∙ stated-next (wordAt s (last + 2)) first rest
             ∙ ap (λ (x : ℕ). statedFrom x rest) (line-word s at kind l 1 (omega (arith, line-long s at kind l)));
+        levels =
+            w .levels
+            ∙ ap (λ (ls : List Line). outside || levelOutside (levelsIn ls)) lines
+            ∙ ap (λ (x : Bool). outside || x) (outside-more first rest ∙ ap (λ (x : Bool). x || levelOutside (levelsIn rest)) here)
+            ∙ sym (or-assoc outside bad (levelOutside (levelsIn rest)));
         few = omega (arith, w .few);
         long = λ _. omega (arith, line-long s at kind l);
       }
 
-  pub walk-link : LineAt s at LINK → Walked s (pastAt at LINK) (nextOrder order LINK) (links + 1) at
-  walk-link l = walk-on LINK 1 refl (omega arith) l
+  pub walk-link : LineAt s at LINK
+      → Walked s (pastAt at LINK) (nextOrder order LINK) (links + 1) at (outside || not (inRange (byteLevel (byteAt s (at + 10)))))
+  walk-link l = walk-on LINK 1 (not (inRange (byteLevel (byteAt s (at + 10))))) refl (omega arith) refl l
 
-  pub walk-other : (kind : ℕ) → (kind ≡ LINK → ⊥) → LineAt s at kind → Walked s (pastAt at kind) (nextOrder order kind) links at
-  walk-other kind n l =
-      subst (λ (m : ℕ). Walked s (pastAt at kind) (nextOrder order kind) m at) (add-zero links)
-      (walk-on kind 0 (rw (ne-eqb kind LINK n)) (omega arith) l)
+  lowest : inRange LOWEST ≡ true
+  unfolding inRange
+  lowest = refl
+
+  pub walk-bare : LineAt s at BARE-LINK → Walked s (pastAt at BARE-LINK) (nextOrder order BARE-LINK) (links + 1) at outside
+  walk-bare l =
+      subst (λ (x : Bool). Walked s (pastAt at BARE-LINK) (nextOrder order BARE-LINK) (links + 1) at x) (or-false outside)
+      (walk-on BARE-LINK 1 false refl (omega arith) (rw lowest) l)
+
+  pub walk-other : (kind : ℕ) → (kind ≡ LINK → ⊥) → (kind ≡ BARE-LINK → ⊥) → LineAt s at kind
+      → Walked s (pastAt at kind) (nextOrder order kind) links at outside
+  walk-other kind n m l =
+      let none : linkKind kind ≡ false = rw (ne-eqb kind LINK n, ne-eqb kind BARE-LINK m) in
+      subst (λ (x : Bool). Walked s (pastAt at kind) (nextOrder order kind) links at x) (or-false outside)
+      (subst (λ (m : ℕ). Walked s (pastAt at kind) (nextOrder order kind) m at (outside || false)) (add-zero links)
+      (walk-on kind 0 false (rw none) (omega arith) (rw none) l))
 
   -- past the last line
   module _ (e : length s ≤ at) where
@@ -251,6 +320,10 @@ module _ (s : List ℕ) (at order links last : ℕ) (w : Walked s at order links
     pub walk-kept : order ≡ ENDED → inOrder (linesOf s) ≡ true
     unfolding orderFrom
     walk-kept q = w .kept ∙ rw (none, q)
+
+    pub walk-levels : levelOutside (levelsIn (linesOf s)) ≡ outside
+    unfolding levelsIn
+    walk-levels = w .levels ∙ rw none (or-false outside)
 
     pub walk-count : linkFrames (linesOf s) ≡ links
     unfolding linkFrames
@@ -273,19 +346,33 @@ module _ (s : List ℕ) (at order links last : ℕ) (w : Walked s at order links
 
 -- ---- the walk that fills
 
--- n words are laid down at a place of a file without a faulty line
-pub record Filled (s old words : List ℕ) (at n : ℕ) : Type 0 where
+-- the ends and levels of n links are laid down at a place of a file without a faulty line
+pub record Filled (s old words : List ℕ) (oldLevels levels : List ℤ) (at n : ℕ) : Type 0 where
   pub inside : at ≤ length s
   pub sound : faultyLine (linesOf (drop at s)) ≡ false
-  pub left : drop n (endsIn (linesOf s)) ≡ endsIn (linesOf (drop at s))
-  pub some : n ≤ length (endsIn (linesOf s))
+  pub count : linkFrames (linesOf s) ≡ n + linkFrames (linesOf (drop at s))
+  pub left : drop (2 * n) (endsIn (linesOf s)) ≡ endsIn (linesOf (drop at s))
+  pub leftLevels : drop n (levelsIn (linesOf s)) ≡ levelsIn (linesOf (drop at s))
   pub same : length words ≡ length old
-  pub laid : words ≡ take n (endsIn (linesOf s)) ++ drop n old
+  pub sameLevels : length levels ≡ length oldLevels
+  pub laid : words ≡ take (2 * n) (endsIn (linesOf s)) ++ drop (2 * n) old
+  pub laidLevels : levels ≡ take n (levelsIn (linesOf s)) ++ drop n oldLevels
 
-pub fill-start : (s old : List ℕ) → faultyLine (linesOf s) ≡ false → Filled s old old 0 0
-fill-start s old h = record { inside = omega arith; sound = h; left = refl; some = omega arith; same = refl; laid = refl }
+pub fill-start : (s old : List ℕ) (oldLevels : List ℤ) → faultyLine (linesOf s) ≡ false → Filled s old old oldLevels oldLevels 0 0
+fill-start s old oldLevels h =
+    record {
+      inside = omega arith;
+      sound = h;
+      count = omega arith;
+      left = refl;
+      leftLevels = refl;
+      same = refl;
+      sameLevels = refl;
+      laid = refl;
+      laidLevels = refl;
+    }
 
-module _ (s old words : List ℕ) (at n : ℕ) (f : Filled s old words at n) where
+module _ (s old words : List ℕ) (oldLevels levels : List ℤ) (at n : ℕ) (f : Filled s old words oldLevels levels at n) where
   fill-front : at < length s → fileFront (drop at s) ≡ true
   fill-front h = sound-front (drop at s) (f .sound) (omega (arith, length-drop at s))
 
@@ -300,57 +387,111 @@ module _ (s old words : List ℕ) (at n : ℕ) (f : Filled s old words at n) whe
       omega (arith, line-fits s at k l, line-long s at k l)
 
   module _ (kind : ℕ) (l : LineAt s at kind) where
-    left-ends : drop n (endsIn (linesOf s)) ≡ endsIn (frontLine (drop at s) ∷ linesOf (drop (pastAt at kind) s))
-    left-ends = f .left ∙ ap endsIn (line-lines s at kind l)
+    first : Line
+    first = frontLine (drop at s)
 
-    later-sound : faultyLine (linesOf (drop (pastAt at kind) s)) ≡ false
+    rest : List Line
+    rest = linesOf (drop (pastAt at kind) s)
+
+    lines : linesOf (drop at s) ≡ first ∷ rest
+    unfolding first rest
+    lines = line-lines s at kind l
+
+    first-kind : kindOf first ≡ kind
+    unfolding first
+    first-kind = line-kind s at kind l
+
+    later-sound : faultyLine rest ≡ false
+    unfolding rest
     later-sound = sym (line-faults s at kind l) ∙ f .sound
 
-    pub fill-other : (kind ≡ LINK → ⊥) → Filled s old words (pastAt at kind) n
+    pub fill-other : linkKind kind ≡ false → Filled s old words oldLevels levels (pastAt at kind) n
+    unfolding rest
     fill-other o =
+        let k : linkKind (kindOf first) ≡ false = ap linkKind first-kind ∙ o in
+        let none : linkFrames (linesOf (drop at s)) ≡ linkFrames rest = ap linkFrames lines ∙ frames-more first rest ∙ rw k (omega arith) in
         record {
           inside = line-fits s at kind l;
           sound = later-sound;
-          left =
-              left-ends
-              ∙ ends-other (frontLine (drop at s)) (linesOf (drop (pastAt at kind) s)) (λ e. o (sym (line-kind s at kind l) ∙ e));
-          some = f .some;
+          count = omega (arith, f .count, none);
+          left = f .left ∙ ap endsIn lines ∙ ends-other first rest k;
+          leftLevels = f .leftLevels ∙ ap levelsIn lines ∙ levels-other first rest k;
           same = f .same;
+          sameLevels = f .sameLevels;
           laid = f .laid;
+          laidLevels = f .laidLevels;
         }
 
-  module _ (l : LineAt s at LINK) where
-    two-left : drop n (endsIn (linesOf s)) ≡ wordAt s (at + 2) ∷ wordAt s (at + 6) ∷ endsIn (linesOf (drop (pastAt at LINK) s))
-    two-left =
-        left-ends LINK l
-        ∙ ends-link (frontLine (drop at s)) (linesOf (drop (pastAt at LINK) s)) (line-kind s at LINK l)
-        ∙ rw (line-word s at LINK l 1 (omega arith), line-word s at LINK l 3 (omega arith))
+    module _ (link : linkKind kind ≡ true) where
+      k : linkKind (kindOf first) ≡ true
+      k = ap linkKind first-kind ∙ link
 
-    pub two-more : n + 2 ≤ length (endsIn (linesOf s))
-    two-more = omega (arith, ap length two-left, length-drop n (endsIn (linesOf s)))
+      -- two words and a level more
+      two-left : drop (2 * n) (endsIn (linesOf s)) ≡ wordAt s (at + 2) ∷ wordAt s (at + 6) ∷ endsIn rest
+      unfolding first
+      two-left =
+          f .left
+          ∙ ap endsIn lines
+          ∙ ends-link first rest k
+          ∙ rw (line-word s at kind l 1 (omega (arith, link-long kind link)), line-word s at kind l 3 (omega (arith, link-long kind link)))
 
-    pub fill-link : (a b : ℕ) → a ≡ wordAt s (at + 2) → b ≡ wordAt s (at + 6) → length (endsIn (linesOf s)) ≤ length old
-        → Filled s old (set (set words n a) (n + 1) b) (pastAt at LINK) (n + 2)
-    fill-link a b p q fits =
-        let ends = endsIn (linesOf s) in
-        let more : take (n + 2) ends ≡ take n ends ++ a ∷ b ∷ [] = take-add n 2 ends ∙ rw (two-left, p, q) in
-        record {
-          inside = line-fits s at LINK l;
-          sound = later-sound LINK l;
-          left = sym (drop-drop 2 n ends) ∙ rw two-left;
-          some = two-more;
-          same = length-set (set words n a) (n + 1) b ∙ length-set words n a ∙ f .same;
-          laid = rw (f .laid, more) (put-two (take n ends) old n a b (length-take-le n ends (f .some)) (omega (arith, two-more)));
-        }
+      one-left : drop n (levelsIn (linesOf s)) ≡ cond (eqb kind LINK) (byteLevel (byteAt s (at + 10))) LOWEST ∷ levelsIn rest
+      unfolding first
+      one-left = f .leftLevels ∙ ap levelsIn lines ∙ levels-link first rest k ∙ ap (λ (z : ℤ). z ∷ levelsIn rest) (line-level s at kind l)
+
+      one-more : linkFrames (linesOf s) ≡ suc n + linkFrames rest
+      one-more = omega (arith, f .count, ap linkFrames lines ∙ frames-link first rest k)
+
+      pub fill-more : n + 1 ≤ linkFrames (linesOf s)
+      fill-more = omega (arith, one-more)
+
+      pub fill-stands : at + 9 < length s
+      fill-stands = omega (arith, line-fits s at kind l, link-long kind link)
+
+      pub fill-link : (a b : ℕ) (z : ℤ) → a ≡ wordAt s (at + 2) → b ≡ wordAt s (at + 6)
+          → z ≡ cond (eqb kind LINK) (byteLevel (byteAt s (at + 10))) LOWEST
+          → 2 * linkFrames (linesOf s) ≤ length old → linkFrames (linesOf s) ≤ length oldLevels
+          → Filled s old (set (set words (2 * n) a) (2 * n + 1) b) oldLevels (set levels n z) (pastAt at kind) (n + 1)
+      unfolding rest
+      fill-link a b z p q r fits room =
+          let ends = endsIn (linesOf s) in
+          let all = levelsIn (linesOf s) in
+          let e : 2 * (n + 1) ≡ 2 * n + 2 = omega arith in
+          let more : take (2 * n + 2) ends ≡ take (2 * n) ends ++ a ∷ b ∷ [] = take-add (2 * n) 2 ends ∙ rw (two-left, p, q) in
+          let moreLevels : take (n + 1) all ≡ take n all ++ z ∷ [] = take-add n 1 all ∙ rw (one-left, r) in
+          let long = length-ends (linesOf s) in
+          let longLevels = length-levels (linesOf s) in
+          record {
+            inside = line-fits s at kind l;
+            sound = later-sound;
+            count = omega (arith, one-more);
+            left = ap (λ (i : ℕ). drop i ends) e ∙ sym (drop-drop 2 (2 * n) ends) ∙ rw two-left;
+            leftLevels = sym (drop-drop 1 n all) ∙ rw one-left;
+            same = length-set (set words (2 * n) a) (2 * n + 1) b ∙ length-set words (2 * n) a ∙ f .same;
+            sameLevels = length-set levels n z ∙ f .sameLevels;
+            laid =
+                rw (e, f .laid, more)
+                (put-two (take (2 * n) ends) old (2 * n) a b (length-take-le (2 * n) ends (omega (arith, fill-more, long))) (omega (arith, fill-more)));
+            laidLevels =
+                rw (f .laidLevels, moreLevels)
+                (put-one (take n all) oldLevels n z (length-take-le n all (omega (arith, fill-more, longLevels))) (omega (arith, fill-more)));
+          }
 
   -- past the last line
   module _ (e : length s ≤ at) where
-    pub fill-count : n ≡ length (endsIn (linesOf s))
-    unfolding endsIn
-    fill-count =
-        let none : linesOf (drop at s) ≡ [] = none-lines (drop at s) (omega (arith, length-drop at s)) in
-        let over : length (drop n (endsIn (linesOf s))) ≡ 0 = ap length (f .left) ∙ rw none in
-        omega (arith, over, length-drop n (endsIn (linesOf s)), f .some)
+    none-left : linesOf (drop at s) ≡ []
+    none-left = none-lines (drop at s) (omega (arith, length-drop at s))
+
+    pub fill-count : n ≡ linkFrames (linesOf s)
+    unfolding linkFrames
+    fill-count = sym (f .count ∙ rw none-left (omega arith))
 
     pub fill-end : words ≡ endsIn (linesOf s) ++ drop (length (endsIn (linesOf s))) old
-    fill-end = f .laid ∙ rw (fill-count, take-length (endsIn (linesOf s)))
+    fill-end =
+        let k : 2 * n ≡ length (endsIn (linesOf s)) = omega (arith, fill-count, length-ends (linesOf s)) in
+        f .laid ∙ rw (k, take-length (endsIn (linesOf s)))
+
+    pub fill-levels : levels ≡ levelsIn (linesOf s) ++ drop (length (levelsIn (linesOf s))) oldLevels
+    fill-levels =
+        let k : n ≡ length (levelsIn (linesOf s)) = omega (arith, fill-count, length-levels (linesOf s)) in
+        f .laidLevels ∙ rw (k, take-length (levelsIn (linesOf s)))

@@ -1,22 +1,28 @@
 -- What is written is read back: the lines of a file that was written, and what is read from them.
 use mathlib.Core.Path.{_≡_, refl, sym, ap, _∙_}
-use mathlib.Core.Bool.{true, false}
+use mathlib.Core.Bool.{true, false, cond, _||_}
 use mathlib.Core.List.{List, [], _∷_, _++_, append-assoc, append-nil}
 use Prim.Native.Nat.{ℕ, zero, suc, _+_, _*_, _/_, _%_, _≤_, _<_}
 use native.Mathlib.Decide.{decLt}
 use native.Mathlib.Omega.{arith}
+use lib.Dec.{ltb}
 use lib.ListN.{length, getD, length-append, List·getD-eq-default}
-use borrow.Author.Tests.{eq-eqb}
-use Rattle.table.specs.Table.{linkCount, tableRefusal}
-use Rattle.table.specs.Passes.{Passes, passes}
+use lib.IntN.{ℤ}
+use borrow.Author.Tests.{eq-eqb, le-ltb}
+use Rattle.lists.specs.Folds.{every}
+use Rattle.lists.specs.Tests.{and-left, and-right}
+use Rattle.levels.specs.Level.{inRange, levelByte}
+use Rattle.levels.specs.LevelLaws.{byte-below, byte-back}
+use Rattle.table.specs.Table.{linkCount, maxLinks, tableRefusal}
+use Rattle.table.specs.Passes.{Passes, passes, table-alone, table-levelled, table-range}
 use Rattle.frames.specs.Frame.{LF, wordBytes, hexesOf, checkByte, lineOf, bytesOf}
 use Rattle.frames.specs.FrameLaws.{Bytes, line-hexes, hexes-digits, bytes-hexes, length-hexes, check-below, check-sum}
-use Rattle.frames.specs.Kinds.{UNITS, LINK, END, frameBytes}
+use Rattle.frames.specs.Kinds.{UNITS, LINK, END, frameBytes, linkKind}
 use Rattle.frames.specs.Bodies.{unitsBody, linkBody, endBody}
-use Rattle.files.specs.File.{Line, linesOf, kindOf, numberAt, whole, faultyLine, inOrderAfter, inOrder, linkFrames, statedCount, unitsIn, endsIn, linkLines, fileOf, readRefusal}
+use Rattle.files.specs.File.{Line, linesOf, kindOf, numberAt, whole, faultyLine, inOrderAfter, inOrder, linkFrames, statedCount, unitsIn, endsIn, levelOf, levelsIn, linkLines, fileOf, readRefusal}
 use Rattle.files.specs.LineLaws.{lines-more, says-whole}
-use Rattle.files.specs.LineSteps.{after-link, frames-link, ends-link, frames-units, ends-units, units-first}
-use Rattle.files.specs.ReadLaws.{accepted, refused-14}
+use Rattle.files.specs.LineSteps.{after-link, frames-link, ends-link, levels-link, frames-units, ends-units, levels-units, units-first}
+use Rattle.files.specs.ReadLaws.{laterRefusal, counted}
 
 -- ---- the line of one frame
 
@@ -70,8 +76,11 @@ bytes-word w f h = bytes-cons (w / 256 % 256) (w % 256 ∷ f) (omega arith) (byt
 number-bytes : (k w : ℕ) → k < 256 → Bytes (k ∷ wordBytes w)
 number-bytes k w h = bytes-cons k (wordBytes w) h (bytes-word w [] bytes-none)
 
-link-bytes : (a b : ℕ) → Bytes (linkBody a b)
-link-bytes a b = bytes-cons LINK (wordBytes a ++ wordBytes b) (omega arith) (bytes-word a (wordBytes b) (bytes-word b [] bytes-none))
+link-bytes : (a b : ℕ) (z : ℤ) → Bytes (linkBody a b (levelByte z))
+link-bytes a b z =
+    let level = levelByte z ∷ [] in
+    bytes-cons LINK (wordBytes a ++ wordBytes b ++ level) (omega arith)
+    (bytes-word a (wordBytes b ++ level) (bytes-word b level (bytes-cons (levelByte z) [] (byte-below z) bytes-none)))
 
 -- a frame of one number: its kind, its number, and that its line is whole
 abbrev numberLine : ℕ → ℕ → Line
@@ -88,54 +97,65 @@ module _ (k w : ℕ) (h : k < 256) where
   number-whole e = line-whole (k ∷ wordBytes w) (number-bytes k w h) e
 
 -- a link's frame
-abbrev linkFrame : ℕ → ℕ → Line
-linkFrame a b = frameLine (linkBody a b)
+abbrev linkFrame : ℕ → ℕ → ℤ → Line
+linkFrame a b z = frameLine (linkBody a b (levelByte z))
 
-module _ (a b : ℕ) where
-  link-kind : kindOf (linkFrame a b) ≡ LINK
-  link-kind = rw (line-bytes (linkBody a b) (link-bytes a b))
+module _ (a b : ℕ) (z : ℤ) where
+  read-bytes : bytesOf (linkFrame a b z .0) ≡ linkBody a b (levelByte z) ++ checkByte (linkBody a b (levelByte z)) ∷ []
+  read-bytes = line-bytes (linkBody a b (levelByte z)) (link-bytes a b z)
 
-  link-first : a < 65536 → numberAt (linkFrame a b) 1 ≡ a
-  link-first l = rw (line-bytes (linkBody a b) (link-bytes a b)) (omega arith)
+  link-kind : kindOf (linkFrame a b z) ≡ LINK
+  link-kind = rw read-bytes
 
-  link-second : b < 65536 → numberAt (linkFrame a b) 3 ≡ b
-  link-second l = rw (line-bytes (linkBody a b) (link-bytes a b)) (omega arith)
+  link-kinds : linkKind (kindOf (linkFrame a b z)) ≡ true
+  link-kinds = ap linkKind link-kind
 
-  link-whole : whole (linkFrame a b) ≡ true
-  link-whole = line-whole (linkBody a b) (link-bytes a b) refl
+  link-first : a < 65536 → numberAt (linkFrame a b z) 1 ≡ a
+  link-first l = rw read-bytes (omega arith)
+
+  link-second : b < 65536 → numberAt (linkFrame a b z) 3 ≡ b
+  link-second l = rw read-bytes (omega arith)
+
+  link-level : inRange z ≡ true → levelOf (linkFrame a b z) ≡ z
+  link-level e = rw (link-kind, read-bytes) (byte-back z e)
+
+  link-whole : whole (linkFrame a b z) ≡ true
+  link-whole = line-whole (linkBody a b (levelByte z)) (link-bytes a b z) refl
 
 -- ---- the lines of a file
 
-unfoldable linkFramesOf : List ℕ → List Line
-linkFramesOf [] = []
-linkFramesOf (a ∷ []) = []
-linkFramesOf (a ∷ b ∷ t) = linkFrame a b ∷ linkFramesOf t
+unfoldable linkFramesOf : List ℕ → List ℤ → List Line
+linkFramesOf [] ls = []
+linkFramesOf (a ∷ []) ls = []
+linkFramesOf (a ∷ b ∷ t) [] = []
+linkFramesOf (a ∷ b ∷ t) (z ∷ ls) = linkFrame a b z ∷ linkFramesOf t ls
 
-links-lines : (t s : List ℕ) → linesOf (linkLines t ++ s) ≡ linkFramesOf t ++ linesOf s
+links-lines : (t : List ℕ) (ls : List ℤ) (s : List ℕ) → linesOf (linkLines t ls ++ s) ≡ linkFramesOf t ls ++ linesOf s
 unfolding linkLines linkFramesOf
-links-lines [] s = refl
-links-lines (a ∷ []) s = refl
-links-lines (a ∷ b ∷ t) s =
-    let f = linkBody a b in
-    ap linesOf (append-assoc (lineOf f) (linkLines t) s)
-    ∙ line-first f (link-bytes a b) (linkLines t ++ s)
-    ∙ ap (λ (l : List Line). linkFrame a b ∷ l) (links-lines t s)
+links-lines [] ls s = refl
+links-lines (a ∷ []) ls s = refl
+links-lines (a ∷ b ∷ t) [] s = refl
+links-lines (a ∷ b ∷ t) (z ∷ ls) s =
+    let f = linkBody a b (levelByte z) in
+    ap linesOf (append-assoc (lineOf f) (linkLines t ls) s)
+    ∙ line-first f (link-bytes a b z) (linkLines t ls ++ s)
+    ∙ ap (λ (l : List Line). linkFrame a b z ∷ l) (links-lines t ls s)
 
 no-line : linesOf [] ≡ []
 unfolding linesOf
 no-line = refl
 
-file-lines : (n : ℕ) (t : List ℕ)
-    → linesOf (fileOf n t) ≡ numberLine UNITS n ∷ (linkFramesOf t ++ numberLine END (linkCount t) ∷ [])
+file-lines : (n : ℕ) (t : List ℕ) (ls : List ℤ)
+    → linesOf (fileOf n t ls) ≡ numberLine UNITS n ∷ (linkFramesOf t ls ++ numberLine END (linkCount t) ∷ [])
 unfolding fileOf
-file-lines n t =
+file-lines n t ls =
     let u = lineOf (unitsBody n) in
     let e = lineOf (endBody (linkCount t)) in
-    ap linesOf (append-assoc u (linkLines t) e)
-    ∙ line-first (unitsBody n) (number-bytes UNITS n (omega arith)) (linkLines t ++ e)
+    ap linesOf (append-assoc u (linkLines t ls) e)
+    ∙ line-first (unitsBody n) (number-bytes UNITS n (omega arith)) (linkLines t ls ++ e)
     ∙ ap (λ (l : List Line). numberLine UNITS n ∷ l)
-    (links-lines t e
-    ∙ ap (λ (l : List Line). linkFramesOf t ++ l)
+    (links-lines t ls e
+    ∙ ap (λ (l : List Line). linkFramesOf t ls ++ l)
     (ap linesOf (sym (append-nil e))
     ∙ line-first (endBody (linkCount t)) (number-bytes END (linkCount t) (omega arith)) []
     ∙ ap (λ (l : List Line). numberLine END (linkCount t) ∷ l) no-line))
@@ -164,38 +184,59 @@ module _ (e : Line) (isEnd : kindOf e ≡ END) (isWhole : whole e ≡ true) wher
   unfolding endsIn
   end-ends = rw isEnd
 
-  tail-faults : (t : List ℕ) → faultyLine (linkFramesOf t ++ e ∷ []) ≡ false
+  end-levels : levelsIn (e ∷ []) ≡ []
+  unfolding levelsIn
+  end-levels = rw isEnd
+
+  tail-faults : (t : List ℕ) (ls : List ℤ) → faultyLine (linkFramesOf t ls ++ e ∷ []) ≡ false
   unfolding faultyLine linkFramesOf
-  tail-faults [] = rw isWhole
-  tail-faults (a ∷ []) = rw isWhole
-  tail-faults (a ∷ b ∷ t) = rw (link-whole a b) (tail-faults t)
+  tail-faults [] ls = rw isWhole
+  tail-faults (a ∷ []) ls = rw isWhole
+  tail-faults (a ∷ b ∷ t) [] = rw isWhole
+  tail-faults (a ∷ b ∷ t) (z ∷ ls) = rw (link-whole a b z) (tail-faults t ls)
 
-  tail-order : (t : List ℕ) → inOrderAfter (linkFramesOf t ++ e ∷ []) ≡ true
+  tail-order : (t : List ℕ) (ls : List ℤ) → inOrderAfter (linkFramesOf t ls ++ e ∷ []) ≡ true
   unfolding linkFramesOf
-  tail-order [] = end-order
-  tail-order (a ∷ []) = end-order
-  tail-order (a ∷ b ∷ t) = after-link (linkFrame a b) (linkFramesOf t ++ e ∷ []) (link-kind a b) ∙ tail-order t
+  tail-order [] ls = end-order
+  tail-order (a ∷ []) ls = end-order
+  tail-order (a ∷ b ∷ t) [] = end-order
+  tail-order (a ∷ b ∷ t) (z ∷ ls) = after-link (linkFrame a b z) (linkFramesOf t ls ++ e ∷ []) (link-kinds a b z) ∙ tail-order t ls
 
-  tail-count : (t : List ℕ) → linkFrames (linkFramesOf t ++ e ∷ []) ≡ linkCount t
+  tail-stated : (t : List ℕ) (ls : List ℤ) → statedCount (linkFramesOf t ls ++ e ∷ []) ≡ numberAt e 1
   unfolding linkFramesOf
-  tail-count [] = end-count
-  tail-count (a ∷ []) = end-count
-  tail-count (a ∷ b ∷ t) =
-      frames-link (linkFrame a b) (linkFramesOf t ++ e ∷ []) (link-kind a b) ∙ omega (arith, tail-count t)
+  tail-stated [] ls = end-stated
+  tail-stated (a ∷ []) ls = end-stated
+  tail-stated (a ∷ b ∷ t) [] = end-stated
+  tail-stated (a ∷ b ∷ t) (z ∷ ls) = stated-past (linkFrame a b z) e (linkFramesOf t ls) ∙ tail-stated t ls
 
-  tail-stated : (t : List ℕ) → statedCount (linkFramesOf t ++ e ∷ []) ≡ numberAt e 1
+  tail-count : (t : List ℕ) (ls : List ℤ) → length ls ≡ linkCount t → linkFrames (linkFramesOf t ls ++ e ∷ []) ≡ linkCount t
   unfolding linkFramesOf
-  tail-stated [] = end-stated
-  tail-stated (a ∷ []) = end-stated
-  tail-stated (a ∷ b ∷ t) = stated-past (linkFrame a b) e (linkFramesOf t) ∙ tail-stated t
+  tail-count [] ls q = end-count
+  tail-count (a ∷ []) ls q = end-count
+  tail-count (a ∷ b ∷ t) [] q = absurd (omega (arith, q))
+  tail-count (a ∷ b ∷ t) (z ∷ ls) q =
+      frames-link (linkFrame a b z) (linkFramesOf t ls ++ e ∷ []) (link-kinds a b z) ∙ omega (arith, tail-count t ls (omega (arith, q)))
 
-  tail-ends : (t : List ℕ) → ((i : ℕ) → getD t i 0 < 65536) → length t ≡ 2 * linkCount t → endsIn (linkFramesOf t ++ e ∷ []) ≡ t
+  tail-ends : (t : List ℕ) (ls : List ℤ) → length ls ≡ linkCount t → ((i : ℕ) → getD t i 0 < 65536) → length t ≡ 2 * linkCount t
+      → endsIn (linkFramesOf t ls ++ e ∷ []) ≡ t
   unfolding linkFramesOf
-  tail-ends [] h l = end-ends
-  tail-ends (a ∷ []) h l = absurd (omega arith)
-  tail-ends (a ∷ b ∷ t) h l =
-      ends-link (linkFrame a b) (linkFramesOf t ++ e ∷ []) (link-kind a b)
-      ∙ rw (link-first a b (h 0), link-second a b (h 1), tail-ends t (λ (i : ℕ). h (suc (suc i))) (omega arith))
+  tail-ends [] ls q h l = end-ends
+  tail-ends (a ∷ []) ls q h l = absurd (omega arith)
+  tail-ends (a ∷ b ∷ t) [] q h l = absurd (omega (arith, q))
+  tail-ends (a ∷ b ∷ t) (z ∷ ls) q h l =
+      ends-link (linkFrame a b z) (linkFramesOf t ls ++ e ∷ []) (link-kinds a b z)
+      ∙ rw (link-first a b z (h 0), link-second a b z (h 1), tail-ends t ls (omega (arith, q)) (λ (i : ℕ). h (suc (suc i))) (omega arith))
+
+  tail-levels : (t : List ℕ) (ls : List ℤ) → length ls ≡ linkCount t → every inRange ls ≡ true → levelsIn (linkFramesOf t ls ++ e ∷ []) ≡ ls
+  unfolding linkFramesOf
+  tail-levels [] [] q r = end-levels
+  tail-levels [] (z ∷ ls) q r = absurd (omega (arith, q))
+  tail-levels (a ∷ []) [] q r = end-levels
+  tail-levels (a ∷ []) (z ∷ ls) q r = absurd (omega (arith, q))
+  tail-levels (a ∷ b ∷ t) [] q r = absurd (omega (arith, q))
+  tail-levels (a ∷ b ∷ t) (z ∷ ls) q r =
+      levels-link (linkFrame a b z) (linkFramesOf t ls ++ e ∷ []) (link-kinds a b z)
+      ∙ rw (link-level a b z (and-left (inRange z) (every inRange ls) r), tail-levels t ls (omega (arith, q)) (and-right (inRange z) (every inRange ls) r))
 
 -- ---- the whole file
 
@@ -216,39 +257,45 @@ unfolding inOrder
 file-order u ls k h = rw k h
 
 -- what reading a written file finds
-pub record ReadBack (n : ℕ) (t : List ℕ) : Type 0 where
-  pub unrefused : (places : ℕ) → length t ≤ places → readRefusal (linesOf (fileOf n t)) places ≡ 0
-  pub short : (places : ℕ) → places < length t → readRefusal (linesOf (fileOf n t)) places ≡ 14
-  pub units : unitsIn (linesOf (fileOf n t)) ≡ n
-  pub links : linkFrames (linesOf (fileOf n t)) ≡ linkCount t
-  pub ends : endsIn (linesOf (fileOf n t)) ≡ t
+pub record ReadBack (n : ℕ) (t : List ℕ) (ls : List ℤ) : Type 0 where
+  pub refusal : (places spaces : ℕ) → readRefusal (linesOf (fileOf n t ls)) places spaces ≡ cond (ltb places (length t) || ltb spaces (length ls)) 14 0
+  pub units : unitsIn (linesOf (fileOf n t ls)) ≡ n
+  pub links : linkFrames (linesOf (fileOf n t ls)) ≡ linkCount t
+  pub ends : endsIn (linesOf (fileOf n t ls)) ≡ t
+  pub levels : levelsIn (linesOf (fileOf n t ls)) ≡ ls
 
 -- every table that passes the checks is read back from its file
-pub written-read : (n : ℕ) (t : List ℕ) → tableRefusal n t ≡ 0 → ReadBack n t
-written-read n t h =
-    let p = passes n t h in
+pub written-read : (n : ℕ) (t : List ℕ) (ls : List ℤ) → tableRefusal n t ls ≡ 0 → ReadBack n t ls
+unfolding laterRefusal
+written-read n t ls h =
+    let p = passes n t (table-alone n t ls h) in
     let m = linkCount t in
     let few : m ≤ 1024 = p .fewLinks in
     let some : n ≤ 256 = p .fewUnits in
+    let one : length ls ≡ m = table-levelled n t ls h in
+    let ranged = table-range n t ls h in
     let u = numberLine UNITS n in
     let e = numberLine END m in
-    let ls = linkFramesOf t ++ e ∷ [] in
+    let rest = linkFramesOf t ls ++ e ∷ [] in
     let k = number-kind UNITS n (omega arith) in
     let end = number-kind END m (omega arith) in
     let endWhole = number-whole END m (omega arith) refl in
-    let count : linkFrames (u ∷ ls) ≡ m = frames-units u ls k ∙ tail-count e end endWhole t in
-    let stated : statedCount (u ∷ ls) ≡ m =
-    stated-past u e (linkFramesOf t) ∙ tail-stated e end endWhole t ∙ number-number END m (omega arith) (omega arith) in
-    let faults = file-faults u ls (number-whole UNITS n (omega arith) refl) (tail-faults e end endWhole t) in
-    let order = file-order u ls k (tail-order e end endWhole t) in
+    let count : linkFrames (u ∷ rest) ≡ m = frames-units u rest k ∙ tail-count e end endWhole t ls one in
+    let stated : statedCount (u ∷ rest) ≡ m =
+    stated-past u e (linkFramesOf t ls) ∙ tail-stated e end endWhole t ls ∙ number-number END m (omega arith) (omega arith) in
+    let levels : levelsIn (u ∷ rest) ≡ ls = levels-units u rest k ∙ tail-levels e end endWhole t ls one ranged in
+    let faults = file-faults u rest (number-whole UNITS n (omega arith) refl) (tail-faults e end endWhole t ls) in
+    let order = file-order u rest k (tail-order e end endWhole t ls) in
+    let pairs : 2 * m ≡ length t = sym (p .pairs) in
     record {
-      unrefused = λ (places : ℕ) (fits : length t ≤ places).
-          rw (file-lines n t) (sym (accepted (u ∷ ls) places faults order (stated ∙ sym count) (omega arith) (omega (arith, p .pairs))));
-      short = λ (places : ℕ) (h : places < length t).
-          rw (file-lines n t) (sym (refused-14 (u ∷ ls) places faults order (stated ∙ sym count) (omega arith) (omega (arith, p .pairs))));
-      units = rw (file-lines n t) (units-first u ls ∙ number-number UNITS n (omega arith) (omega arith));
-      links = rw (file-lines n t) count;
+      refusal = λ (places spaces : ℕ).
+          rw (file-lines n t ls)
+          (sym (counted (u ∷ rest) places spaces faults order (stated ∙ sym count))
+          ∙ rw (count, levels, ranged, le-ltb maxLinks m few, pairs, one));
+      units = rw (file-lines n t ls) (units-first u rest ∙ number-number UNITS n (omega arith) (omega arith));
+      links = rw (file-lines n t ls) count;
       ends =
-          rw (file-lines n t)
-          (ends-units u ls k ∙ tail-ends e end endWhole t (words-small n t p) (p .pairs));
+          rw (file-lines n t ls)
+          (ends-units u rest k ∙ tail-ends e end endWhole t ls one (words-small n t p) (p .pairs));
+      levels = rw (file-lines n t ls) levels;
     }

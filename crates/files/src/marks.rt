@@ -4,7 +4,7 @@ ghost use mathlib.Core.Bool.{_&&_};
 ghost use Prim.Native.Nat.{_+_, _*_, _<_, _%_};
 ghost use lib.Dec.{eqb};
 ghost use lib.ListN.{length};
-ghost use Rattle.frames.specs.Frame.{digitValue, byteOf, wordAt, allDigits, bytesOf, sumOf};
+ghost use Rattle.frames.specs.Frame.{digitValue, byteOf, byteAt, wordAt, allDigits, bytesOf, sumOf};
 ghost use Rattle.files.specs.Marks.{Marks};
 use frames::digits;
 
@@ -67,6 +67,14 @@ pub(crate) fn sums_to_0(t: &[u8], s: &[u8]) -> bool
         return false;
     }
     sum == 0
+}
+
+// The byte in the characters `i` and `i + 1`.
+pub(crate) fn byte_at(t: &[u8], s: &[u8], i: usize) -> u8
+    requires { ⌜ Marks (now t) × (i + 1 < length (now s)) ⌝ }
+    ensures { λ r. ⌜ r ≡ byteAt (now (s .entry)) i ⌝ }
+{
+    byte(t, s[i], s[i + 1])
 }
 
 // The number in the four characters from `i` on.

@@ -5,46 +5,49 @@ ghost use Prim.Native.Nat.{_*_, _≤_};
 ghost use lib.ListN.{length, drop};
 ghost use Rattle.table.specs.Table.{linkCount};
 ghost use Rattle.files.specs.File.{linkLines, fileOf, fileLength, writeRefusal};
+ghost use Rattle.files.specs.WriteLaws.{Levelled};
 use frames::kinds;
 use frames::line;
 
-// The number of the first cause among 4 to 9, 14; 0 where there is none.
-pub(crate) fn refusal(units: u16, words: &[u16], places: usize) -> u8
-    ensures { λ r. ⌜ r ≡ writeRefusal units (now (words .entry)) places ⌝ }
+// The number of the first cause, of the table's and 14; 0 where there is none.
+pub(crate) fn refusal(units: u16, words: &[u16], levels: &[i16], places: usize) -> u8
+    ensures { λ r. ⌜ r ≡ writeRefusal units (now (words .entry)) (now (levels .entry)) places ⌝ }
 {
-    let refused = table::refusal(units, words);
+    let refused = table::refusal(units, words, levels);
     if refused != 0 {
         return refused;
     }
-    if places < 18 + 13 * (words.len() / 2) {
+    if places < 18 + 15 * (words.len() / 2) {
         return 14;
     }
     0
 }
 
 // The lines of all links, in order.
-fn link_lines(words: &[u16], out: &mut [u8])
-    requires { ⌜ (linkCount (now words) ≤ 1024) × (13 * linkCount (now words) ≤ length (now out)) ⌝ }
-    ensures { λ _. ⌜ now (out .exit) ≡ linkLines (now (words .entry)) ++ drop (13 * linkCount (now (words .entry))) (now (out .entry)) ⌝ }
+fn link_lines(words: &[u16], levels: &[i16], out: &mut [u8])
+    requires { ⌜ Levelled (now words) (now levels) × (15 * linkCount (now words) ≤ length (now out)) ⌝ }
+    ensures { λ _. ⌜ now (out .exit) ≡ linkLines (now (words .entry)) (now (levels .entry)) ++ drop (15 * linkCount (now (words .entry))) (now (out .entry)) ⌝ }
 {
     let mut j = 0;
-    while j < words.len() / 2 {
-        let at = 13 * j;
+    while j < levels.len() {
+        let at = 15 * j;
         let a = slices::word(words, 2 * j);
         let b = slices::word(words, 2 * j + 1);
-        line::two_numbers(kinds::LINK, a, b, &mut out[at..]);
+        let level = levels[j];
+        let byte = levels::byte_of(level);
+        line::two_numbers_and_byte(kinds::LINK, a, b, byte, &mut out[at..]);
         j += 1;
     }
 }
 
 // The lines of the whole file.
-pub(crate) fn lines(units: u16, words: &[u16], out: &mut [u8])
-    requires { ⌜ (linkCount (now words) ≤ 1024) × (fileLength (linkCount (now words)) ≤ length (now out)) ⌝ }
-    ensures { λ _. ⌜ now (out .exit) ≡ fileOf units (now (words .entry)) ++ drop (fileLength (linkCount (now (words .entry)))) (now (out .entry)) ⌝ }
+pub(crate) fn lines(units: u16, words: &[u16], levels: &[i16], out: &mut [u8])
+    requires { ⌜ Levelled (now words) (now levels) × (fileLength (linkCount (now words)) ≤ length (now out)) ⌝ }
+    ensures { λ _. ⌜ now (out .exit) ≡ fileOf units (now (words .entry)) (now (levels .entry)) ++ drop (fileLength (linkCount (now (words .entry)))) (now (out .entry)) ⌝ }
 {
     let links = words.len() / 2;
-    let end = 9 + 13 * links;
+    let end = 9 + 15 * links;
     line::one_number(kinds::UNITS, units, out);
-    link_lines(words, &mut out[9..]);
+    link_lines(words, levels, &mut out[9..]);
     line::one_number(kinds::END, links as u16, &mut out[end..]);
 }

@@ -10,9 +10,9 @@ use Rattle.frames.specs.Kinds.{UNITS, LINK, END, HEAD, UNIT, LABEL, TAIL
 abbrev pub unitsBody : ℕ → List ℕ
 unitsBody n = UNITS ∷ wordBytes n
 
--- 02: the two ends of a link
-abbrev pub linkBody : ℕ → ℕ → List ℕ
-linkBody a b = LINK ∷ wordBytes a ++ wordBytes b
+-- 03: the two ends of a link, one byte for its level (02, the two ends alone, is read and not written)
+abbrev pub linkBody : ℕ → ℕ → ℕ → List ℕ
+linkBody a b level = LINK ∷ wordBytes a ++ wordBytes b ++ level ∷ []
 
 -- 0F: the number of links
 abbrev pub endBody : ℕ → List ℕ

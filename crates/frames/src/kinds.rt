@@ -1,11 +1,13 @@
 // The kinds of frames, and the lengths of those of a file.
 ghost use mathlib.Core.Path.{_≡_};
-ghost use Rattle.frames.specs.Kinds.{frameBytes};
+ghost use Rattle.frames.specs.Kinds.{frameBytes, linkKind};
 
-// File: the unit count, the two ends of a link, the number of links.
+// File: the unit count, the two ends of a link, the two ends and the level of one, the number of links.
 pub const UNITS: u8 = 0x01;
 
-pub const LINK: u8 = 0x02;
+pub const BARE_LINK: u8 = 0x02;
+
+pub const LINK: u8 = 0x03;
 
 pub const END: u8 = 0x0F;
 
@@ -27,8 +29,20 @@ pub fn frame_bytes(kind: u8) -> u8
 {
     match kind {
         UNITS => 4,
-        LINK => 6,
+        BARE_LINK => 6,
+        LINK => 7,
         END => 4,
         _ => 0,
+    }
+}
+
+// A line of a link, with or without a level.
+pub fn is_link(kind: u8) -> bool
+    ensures { λ r. ⌜ r ≡ linkKind kind ⌝ }
+{
+    if kind == BARE_LINK {
+        true
+    } else {
+        kind == LINK
     }
 }

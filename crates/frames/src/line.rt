@@ -1,6 +1,6 @@
 // A frame's line, written over the front of a lent slice.
 ghost use mathlib.Core.Path.{_≡_};
-ghost use mathlib.Core.List.{_∷_, _++_};
+ghost use mathlib.Core.List.{[], _∷_, _++_};
 ghost use Prim.Native.Nat.{_+_, _*_, _≤_, _/_, _%_};
 ghost use lib.ListN.{length, drop, set};
 ghost use Rattle.frames.specs.Frame.{digitOf, wordBytes, hexesOf, lineOver};
@@ -65,6 +65,21 @@ pub fn two_numbers(kind: u8, x: u16, y: u16, out: &mut [u8])
         digits::low_byte(x),
         digits::high_byte(y),
         digits::low_byte(y),
+    ];
+    write(&body, out);
+}
+
+// The line of a kind, two numbers and a byte.
+pub fn two_numbers_and_byte(kind: u8, x: u16, y: u16, b: u8, out: &mut [u8])
+    ensures { λ _. ⌜ now (out .exit) ≡ lineOver (kind ∷ wordBytes x ++ wordBytes y ++ b ∷ []) (now (out .entry)) ⌝ }
+{
+    let body = [
+        kind,
+        digits::high_byte(x),
+        digits::low_byte(x),
+        digits::high_byte(y),
+        digits::low_byte(y),
+        b,
     ];
     write(&body, out);
 }

@@ -11,6 +11,7 @@ use Rattle.files.specs.File.{linesOf, unitsIn, linkFrames, readRefusal, readRep
 use Rattle.files.specs.declared.Reading.{Reading}
 use Rattle.files.specs.declared.Reading.the-variants.{Read}
 use Rattle.machine.specs.State.{State}
+use Rattle.machine.specs.Load.{Input}
 use Rattle.machine.specs.Calls.{numberOf, readAnswer, writeAnswer}
 use Rattle.state.specs.declared.reply.Reply.the-variants.{Refused}
 use Rattle.lent.specs.Face.{said}
@@ -28,57 +29,60 @@ linksSaid (Reading.Refused k) old = old
 said-refused : (k : ℕ) (out : List ℕ) → eqb k 0 ≡ false → said (Refused k) out ≡ out
 said-refused k out e = rw e refl
 
-module _ (file : List ℕ) (places : ℕ) where
+module _ (file : List ℕ) (places spaces : ℕ) where
   abbrev refusal : ℕ
-  refusal = readRefusal (linesOf file) places
+  refusal = readRefusal (linesOf file) places spaces
 
-  pub units-said : (old : ℕ) → unitsSaid (readReply file places) old ≡ wordSaid refusal (unitsIn (linesOf file)) old
+  pub units-said : (old : ℕ) → unitsSaid (readReply file places spaces) old ≡ wordSaid refusal (unitsIn (linesOf file)) old
   unfolding readReply
   units-said old = go (either (eqb refusal 0))
     where
       go : (eqb refusal 0 ≡ true) ⊎ (eqb refusal 0 ≡ false)
-          → unitsSaid (readReply file places) old ≡ wordSaid refusal (unitsIn (linesOf file)) old
+          → unitsSaid (readReply file places spaces) old ≡ wordSaid refusal (unitsIn (linesOf file)) old
       go (inl e) = rw e refl
       go (inr e) = rw e refl
 
-  pub links-said : (old : ℕ) → linksSaid (readReply file places) old ≡ wordSaid refusal (linkFrames (linesOf file)) old
+  pub links-said : (old : ℕ) → linksSaid (readReply file places spaces) old ≡ wordSaid refusal (linkFrames (linesOf file)) old
   unfolding readReply
   links-said old = go (either (eqb refusal 0))
     where
       go : (eqb refusal 0 ≡ true) ⊎ (eqb refusal 0 ≡ false)
-          → linksSaid (readReply file places) old ≡ wordSaid refusal (linkFrames (linesOf file)) old
+          → linksSaid (readReply file places spaces) old ≡ wordSaid refusal (linkFrames (linesOf file)) old
       go (inl e) = rw e refl
       go (inr e) = rw e refl
 
   -- ---- reading is every state's answer
 
-  pub read-number : (s : State) → numberOf (readAnswer file places s .reply) ≡ refusal
+  pub read-number : (s : State) → numberOf (readAnswer file places spaces s .reply) ≡ refusal
   unfolding readAnswer
   read-number s = go (either (eqb refusal 0))
     where
-      go : (eqb refusal 0 ≡ true) ⊎ (eqb refusal 0 ≡ false) → numberOf (readAnswer file places s .reply) ≡ refusal
+      go : (eqb refusal 0 ≡ true) ⊎ (eqb refusal 0 ≡ false) → numberOf (readAnswer file places spaces s .reply) ≡ refusal
       go (inl e) = rw e (sym (eqb-true refusal 0 e))
       go (inr e) = rw e refl
 
   pub read-said : (s : State) (n m : ℕ)
-      → said (readAnswer file places s .reply) (n ∷ m ∷ [])
+      → said (readAnswer file places spaces s .reply) (n ∷ m ∷ [])
       ≡ wordSaid refusal (unitsIn (linesOf file)) n ∷ wordSaid refusal (linkFrames (linesOf file)) m ∷ []
   unfolding readAnswer
   read-said s n m = go (either (eqb refusal 0))
     where
       go : (eqb refusal 0 ≡ true) ⊎ (eqb refusal 0 ≡ false)
-          → said (readAnswer file places s .reply) (n ∷ m ∷ [])
+          → said (readAnswer file places spaces s .reply) (n ∷ m ∷ [])
           ≡ wordSaid refusal (unitsIn (linesOf file)) n ∷ wordSaid refusal (linkFrames (linesOf file)) m ∷ []
       go (inl e) = rw e refl
       go (inr e) = rw e (said-refused refusal (n ∷ m ∷ []) e)
 
 -- ---- and so is writing
 
-pub write-number : (n : ℕ) (t : List ℕ) (places : ℕ) (s : State) → numberOf (writeAnswer n t places s .reply) ≡ writeRefusal n t places
+pub write-number : (input : Input) (places : ℕ) (s : State)
+    → numberOf (writeAnswer input places s .reply) ≡ writeRefusal (input .units) (input .words) (input .levels) places
 unfolding writeAnswer
-write-number n t places s = go (either (eqb (writeRefusal n t places) 0))
+write-number input places s = go (either (eqb refused 0))
   where
-    go : (eqb (writeRefusal n t places) 0 ≡ true) ⊎ (eqb (writeRefusal n t places) 0 ≡ false)
-        → numberOf (writeAnswer n t places s .reply) ≡ writeRefusal n t places
-    go (inl e) = rw e (sym (eqb-true (writeRefusal n t places) 0 e))
+    refused : ℕ
+    refused = writeRefusal (input .units) (input .words) (input .levels) places
+
+    go : (eqb refused 0 ≡ true) ⊎ (eqb refused 0 ≡ false) → numberOf (writeAnswer input places s .reply) ≡ refused
+    go (inl e) = rw e (sym (eqb-true refused 0 e))
     go (inr e) = rw e refl

@@ -2,21 +2,29 @@
 // was not refused; on a refusal nothing lent is altered.
 ghost use mathlib.Core.Path.{_≡_};
 ghost use lib.ListN.{length};
-ghost use Rattle.files.specs.File.{linesOf, unitsIn, linkFrames, readRefusal, readWords, writeRefusal, writtenFile};
+ghost use Rattle.files.specs.File.{linesOf, unitsIn, linkFrames, readRefusal, readWords, readLevels, writeRefusal, writtenFile};
 ghost use Rattle.lent.specs.FileFace.{wordSaid};
 use files::Reading;
 use files::Writing;
 
-// A file's ends to the front of `words`, its unit count and its number of links: 1, 2, 3, 6, 14. Words past the last end stay.
-pub fn read(file: &[u8], words: &mut [u16], units: &mut u16, links: &mut u16) -> u32
-    ensures number { λ r. ⌜ r ≡ readRefusal (linesOf (now (file .entry))) (length (now (words .entry))) ⌝ }
-    ensures words { λ _. ⌜ now (words .exit) ≡ readWords (now (file .entry)) (now (words .entry)) ⌝ }
+// A file's ends to the front of `words` and its levels to the front of `levels`, its unit count and its number of links: 1, 2, 3, 6, 16, 14. What stands
+// past the last link stays.
+pub fn read(
+    file: &[u8],
+    words: &mut [u16],
+    levels: &mut [i16],
+    units: &mut u16,
+    links: &mut u16,
+) -> u32
+    ensures number { λ r. ⌜ r ≡ readRefusal (linesOf (now (file .entry))) (length (now (words .entry))) (length (now (levels .entry))) ⌝ }
+    ensures words { λ _. ⌜ now (words .exit) ≡ readWords (now (file .entry)) (now (words .entry)) (length (now (levels .entry))) ⌝ }
+    ensures levels { λ _. ⌜ now (levels .exit) ≡ readLevels (now (file .entry)) (length (now (words .entry))) (now (levels .entry)) ⌝ }
     ensures units { λ _. ⌜ now (units .exit)
-        ≡ wordSaid (readRefusal (linesOf (now (file .entry))) (length (now (words .entry)))) (unitsIn (linesOf (now (file .entry)))) (now (units .entry)) ⌝ }
+        ≡ wordSaid (readRefusal (linesOf (now (file .entry))) (length (now (words .entry))) (length (now (levels .entry)))) (unitsIn (linesOf (now (file .entry)))) (now (units .entry)) ⌝ }
     ensures links { λ _. ⌜ now (links .exit)
-        ≡ wordSaid (readRefusal (linesOf (now (file .entry))) (length (now (words .entry)))) (linkFrames (linesOf (now (file .entry)))) (now (links .entry)) ⌝ }
+        ≡ wordSaid (readRefusal (linesOf (now (file .entry))) (length (now (words .entry))) (length (now (levels .entry)))) (linkFrames (linesOf (now (file .entry)))) (now (links .entry)) ⌝ }
 {
-    let found = files::read(file, words);
+    let found = files::read(file, words, levels);
     match found {
         Reading::Refused(number) => number as u32,
         Reading::Read { units: n, links: m } => {
@@ -27,12 +35,12 @@ pub fn read(file: &[u8], words: &mut [u16], units: &mut u16, links: &mut u16) ->
     }
 }
 
-// The file of a unit count and a table at the front of `out`: 4 to 9, 14. Bytes past it stay.
-pub fn write(units: u16, words: &[u16], out: &mut [u8]) -> u32
-    ensures number { λ r. ⌜ r ≡ writeRefusal units (now (words .entry)) (length (now (out .entry))) ⌝ }
-    ensures bytes { λ _. ⌜ now (out .exit) ≡ writtenFile units (now (words .entry)) (now (out .entry)) ⌝ }
+// The file of a unit count, a table and its levels at the front of `out`: 4 to 6, 15, 16, 7 to 9, 14. Bytes past it stay.
+pub fn write(units: u16, words: &[u16], levels: &[i16], out: &mut [u8]) -> u32
+    ensures number { λ r. ⌜ r ≡ writeRefusal units (now (words .entry)) (now (levels .entry)) (length (now (out .entry))) ⌝ }
+    ensures bytes { λ _. ⌜ now (out .exit) ≡ writtenFile units (now (words .entry)) (now (levels .entry)) (now (out .entry)) ⌝ }
 {
-    let done = files::write(units, words, out);
+    let done = files::write(units, words, levels, out);
     match done {
         Writing::Refused(number) => number as u32,
         Writing::Written(_) => 0,

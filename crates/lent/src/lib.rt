@@ -14,12 +14,12 @@ pub use file_calls::write;
 pub use stepper::round;
 pub use stepper::run;
 
-// Load: 4 to 9.
-pub fn load(state: &mut [u16; STATE_WORDS], units: u16, table: &[u16]) -> u32
-    ensures number { λ r. ⌜ r ≡ numberOf (loadAnswer (record { units = units; words = now (table .entry) }) (stateOf (now (state .entry))) .reply) ⌝ }
-    ensures words { λ _. ⌜ stateOf (now (state .exit)) ≡ loadAnswer (record { units = units; words = now (table .entry) }) (stateOf (now (state .entry))) .state ⌝ }
+// Load: 4 to 6, 15, 16, 7 to 9.
+pub fn load(state: &mut [u16; STATE_WORDS], units: u16, table: &[u16], levels: &[i16]) -> u32
+    ensures number { λ r. ⌜ r ≡ numberOf (loadAnswer (record { units = units; words = now (table .entry); levels = now (levels .entry) }) (stateOf (now (state .entry))) .reply) ⌝ }
+    ensures words { λ _. ⌜ stateOf (now (state .exit)) ≡ loadAnswer (record { units = units; words = now (table .entry); levels = now (levels .entry) }) (stateOf (now (state .entry))) .state ⌝ }
 {
-    words::load(units, table, state) as u32
+    words::load(units, table, levels, state) as u32
 }
 
 // Status: 10. The reply is stage, countdown, all rounds, requests.

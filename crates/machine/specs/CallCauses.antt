@@ -91,9 +91,9 @@ bound reasons p k e s after reply z =
 
 -- ---- the calls
 
-pub load-bound : (input : Input) (s : State) → Bound (tableReasons (input .units) (input .words)) s (Calls.loadAnswer input s)
+pub load-bound : (input : Input) (s : State) → Bound (tableReasons (input .units) (input .words) (input .levels)) s (Calls.loadAnswer input s)
 unfolding Calls.loadAnswer tableRefusal tableReasons
-load-bound input s = bound (tableReasons (input .units) (input .words)) (omega arith) (loadRefusal input) refl s _ _ refl
+load-bound input s = bound (tableReasons (input .units) (input .words) (input .levels)) (omega arith) (loadRefusal input) refl s _ _ refl
 
 abbrev pub roundReasons : State → List Reason
 roundReasons s = notKept s ∷ atEnd s ∷ []
@@ -129,11 +129,17 @@ pub report-bound : (places : ℕ) (s : State) → Bound (reportReasons places s)
 unfolding Calls.reportAnswer Calls.reportRefusal
 report-bound places s = bound (reportReasons places s) (omega arith) (Calls.reportRefusal s places) refl s _ _ refl
 
-pub read-bound : (input : List ℕ) (places : ℕ) (s : State) → Bound (readReasons (linesOf input) places) s (Calls.readAnswer input places s)
+pub read-bound : (input : List ℕ) (places spaces : ℕ) (s : State)
+    → Bound (readReasons (linesOf input) places spaces) s (Calls.readAnswer input places spaces s)
 unfolding Calls.readAnswer readReasons
-read-bound input places s =
-    bound (readReasons (linesOf input) places) (omega arith) (readRefusal (linesOf input) places) (readRefusal-tests (linesOf input) places) s _ _ refl
+read-bound input places spaces s =
+    bound (readReasons (linesOf input) places spaces) (omega arith) (readRefusal (linesOf input) places spaces) (readRefusal-tests (linesOf input) places spaces) s _ _ refl
 
-pub write-bound : (n : ℕ) (t : List ℕ) (places : ℕ) (s : State) → Bound (writeReasons n t places) s (Calls.writeAnswer n t places s)
+pub write-bound : (input : Input) (places : ℕ) (s : State)
+    → Bound (writeReasons (input .units) (input .words) (input .levels) places) s (Calls.writeAnswer input places s)
 unfolding Calls.writeAnswer writeReasons tableReasons
-write-bound n t places s = bound (writeReasons n t places) (omega arith) (writeRefusal n t places) (writeRefusal-tests n t places) s _ _ refl
+write-bound input places s =
+    let n = input .units in
+    let t = input .words in
+    let ls = input .levels in
+    bound (writeReasons n t ls places) (omega arith) (writeRefusal n t ls places) (writeRefusal-tests n t ls places) s _ _ refl

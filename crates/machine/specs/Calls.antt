@@ -5,13 +5,12 @@ use Prim.Native.Nat.{ℕ}
 use lib.Dec.{eqb, ltb}
 use lib.ListN.{length}
 use Rattle.table.specs.Refusals.{firstOf, written}
-use Rattle.table.specs.Table.{linkCount}
 use Rattle.files.specs.File.{fileLength, linesOf, readRefusal, writeRefusal, unitsIn, linkFrames}
 use Rattle.machine.specs.State.{State}
 use Rattle.state.specs.declared.reply.Reply.{Reply}
 use Rattle.state.specs.declared.reply.Reply.the-variants.{Refused, Done, Made, Status, Unit, Link, Read, Written}
 use Rattle.machine.specs.State.{units, links, finished}
-use Rattle.machine.specs.Load.{Input, loadRefusal, loaded}
+use Rattle.machine.specs.Load.{Input, linksIn, loadRefusal, loaded}
 use Rattle.machine.specs.WellFormed.{wellFormed}
 use Rattle.machine.specs.Step.{step, countdown}
 use Rattle.machine.specs.Run.{ran}
@@ -48,7 +47,7 @@ valuesOf (Link position label lone) = position ∷ label ∷ flag lone ∷ []
 valuesOf (Read units links) = units ∷ links ∷ []
 valuesOf (Written k) = k ∷ []
 
--- ---- load: 4 to 9
+-- ---- load: 4 to 6, 15, 16, 7 to 9
 
 unfoldable pub loadAnswer : Input → State → Answer
 loadAnswer input s = answered (loadRefusal input) s (loaded input) Done
@@ -105,11 +104,12 @@ reported s out = written (reportRefusal s (length out)) (report s) out
 
 -- ---- files: the state is handed back as it came
 
--- reading a file into words: 1, 2, 3, 6, 14
-unfoldable pub readAnswer : List ℕ → ℕ → State → Answer
-readAnswer input places s =
-    answered (readRefusal (linesOf input) places) s s (Read (unitsIn (linesOf input)) (linkFrames (linesOf input)))
+-- reading a file into words and levels: 1, 2, 3, 6, 16, 14
+unfoldable pub readAnswer : List ℕ → ℕ → ℕ → State → Answer
+readAnswer input places spaces s =
+    answered (readRefusal (linesOf input) places spaces) s s (Read (unitsIn (linesOf input)) (linkFrames (linesOf input)))
 
--- writing a file from words: 4 to 9, 14
-unfoldable pub writeAnswer : ℕ → List ℕ → ℕ → State → Answer
-writeAnswer n t places s = answered (writeRefusal n t places) s s (Written (fileLength (linkCount t)))
+-- writing a file from words and levels: 4 to 6, 15, 16, 7 to 9, 14
+unfoldable pub writeAnswer : Input → ℕ → State → Answer
+writeAnswer input places s =
+    answered (writeRefusal (input .units) (input .words) (input .levels) places) s s (Written (fileLength (linksIn input)))

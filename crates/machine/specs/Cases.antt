@@ -9,6 +9,7 @@ use lib.ListN.{take, drop, replicate}
 use borrow.Author.Tests.{eqb-true}
 use Rattle.lists.specs.Tests.{and-left, and-right}
 use Rattle.lists.specs.Text.{characters}
+use Rattle.levels.specs.Level.{inRange}
 use Rattle.table.specs.Table.{tableRefusal, endMissing, equalEnds, joinedIn, repeatedLink}
 use Rattle.numbers.specs.Lg.{lg, lgFrom}
 use Rattle.frames.specs.Frame.{lineOf, hexesOf, sumOf, checkByte}
@@ -26,7 +27,7 @@ use Rattle.rules.specs.Aux.{linkJoinsRound, joinsParent, parentJoinsRound, leas
 use Rattle.rules.specs.Labels.{namingUnit, classRound, labelOf, labelRound, lone, single}
 use Rattle.machine.specs.State.{State}
 use Rattle.machine.specs.State.{units, links, finished}
-use Rattle.machine.specs.Load.{Input, loaded, begun, absents, zeros}
+use Rattle.machine.specs.Load.{Input, bare, loadRefusal, loaded, begun, absents, zeros, silences}
 use Rattle.machine.specs.Step
 use Rattle.machine.specs.Run.{ran}
 use Rattle.machine.specs.Report.{unitSingle, linkLone, report, headLine, unitLine, linkLine, tailLine}
@@ -45,7 +46,7 @@ pub data Figure : Type 0 where
   Report : List ℕ → Figure
 
 pub data Case : Type 0 where
-  -- a site of n units with a table of links, and its figures
+  -- a site of n units with a table of links without levels, and its figures
   site : ℕ → List ℕ → List Figure → Case
   -- a table, and the number that its checks give (0: it passes)
   checks : ℕ → List ℕ → ℕ → Case
@@ -99,10 +100,10 @@ chain (suc (suc k)) = chain (suc k) ++ k ∷ []
 
 abbrev holds : Case → Bool
 holds (site n t figures) =
-    let s = loaded (record { units = n; words = t }) in
+    let s = loaded (bare n t) in
     let r = surveyed s in
-    eqb (tableRefusal n t) 0 && finished (r .0) && showsAll s (r .0) (r .1) figures
-holds (checks n t k) = eqb (tableRefusal n t) k
+    eqb (loadRefusal (bare n t)) 0 && finished (r .0) && showsAll s (r .0) (r .1) figures
+holds (checks n t k) = eqb (loadRefusal (bare n t)) k
 holds (ranks k rounds requests) =
     let r = ranked k k (chain k) (replicate k 1) in
     eqb (r .0) rounds && eqb (r .1) requests
@@ -128,7 +129,7 @@ reportB =
     ++ characters "1F00010001DF\n"
 
 abbrev pub siteB : Input
-siteB = record { units = 4; words = caseB }
+siteB = bare 4 caseB
 
 abbrev pub rowB : Case
 rowB = site 4 caseB (Rounds 27 ∷ Countdown 30 ∷ Report reportB ∷ [])
@@ -163,7 +164,7 @@ cases =
     ∷ []
 
 pub cases-hold : holdAll cases ≡ true
-unfolding caseB tableRefusal endMissing equalEnds joinedIn repeatedLink lg lgFrom lineOf hexesOf sumOf checkByte Ceilings.countdown leastHeard colorRound colorEnds chosenParent visits parentRound distRound treeEnds leastNeighbor greaterNeighbor neighborAfter follower isStart predecessor nextRound predRound firstSums firstJumps sumRound jumpRound requestsOf rankingEnds forwardRound descendants ndRound secondSums secondJumps placeOf preRound localOf unitAt localAt globalFirst rangeFirst littleFirst bigFirst withLittle withBig rangeLater littleLater bigLater globalLater rangeEnds linkJoinsRound joinsParent parentJoinsRound leastJoined auxRound auxEnds namingUnit classRound labelOf labelRound lone single loaded begun absents zeros Step.components Step.tree Step.tourNext Step.tourPred Step.tour Step.ranking Step.marksForward Step.marksDescendants Step.marks Step.places Step.rangeBegun Step.rangeDoubled Step.range Step.auxEdges Step.auxComponents Step.labelClasses Step.labelPositions Step.labels Step.ruleEnds Step.lastRound Step.roundTables Step.roundRequests Step.nextClock Step.step ran report headLine unitLine linkLine tailLine
+unfolding caseB inRange tableRefusal endMissing equalEnds joinedIn repeatedLink lg lgFrom lineOf hexesOf sumOf checkByte Ceilings.countdown leastHeard colorRound colorEnds chosenParent visits parentRound distRound treeEnds leastNeighbor greaterNeighbor neighborAfter follower isStart predecessor nextRound predRound firstSums firstJumps sumRound jumpRound requestsOf rankingEnds forwardRound descendants ndRound secondSums secondJumps placeOf preRound localOf unitAt localAt globalFirst rangeFirst littleFirst bigFirst withLittle withBig rangeLater littleLater bigLater globalLater rangeEnds linkJoinsRound joinsParent parentJoinsRound leastJoined auxRound auxEnds namingUnit classRound labelOf labelRound lone single loaded begun absents zeros silences Step.components Step.tree Step.tourNext Step.tourPred Step.tour Step.ranking Step.marksForward Step.marksDescendants Step.marks Step.places Step.rangeBegun Step.rangeDoubled Step.range Step.auxEdges Step.auxComponents Step.labelClasses Step.labelPositions Step.labels Step.ruleEnds Step.lastRound Step.roundTables Step.roundRequests Step.nextClock Step.step ran report headLine unitLine linkLine tailLine
 cases-hold = refl
 
 -- ---- a row out of the table
@@ -184,20 +185,20 @@ figure-shown s e k [] f back h = and-left (shows s e k f) (showsAll s e k back) 
 figure-shown s e k (g ∷ front) f back h = figure-shown s e k front f back (and-right (shows s e k g) (showsAll s e k (front ++ f ∷ back)) h)
 
 -- case B: its table passes, and what the definitions report of it, run with the first countdown as its budget
-parts-B : (tableRefusal 4 caseB ≡ 0) × (report (ran (Step.countdown (loaded siteB)) 0 (loaded siteB) .0) ≡ reportB)
+parts-B : (loadRefusal siteB ≡ 0) × (report (ran (Step.countdown (loaded siteB)) 0 (loaded siteB) .0) ≡ reportB)
 parts-B =
     let s = loaded siteB in
     let e = surveyed s .0 in
     let k = surveyed s .1 in
     let figures = Rounds 27 ∷ Countdown 30 ∷ Report reportB ∷ [] in
-    let passes = eqb (tableRefusal 4 caseB) 0 in
+    let passes = eqb (loadRefusal siteB) 0 in
     let row : holds rowB ≡ true = row-holds (take 1 cases) rowB (drop 2 cases) cases-hold in
     let all : showsAll s e k figures ≡ true = and-right (passes && finished e) (showsAll s e k figures) row in (
-      eqb-true (tableRefusal 4 caseB) 0 (and-left passes (finished e) (and-left (passes && finished e) (showsAll s e k figures) row)),
+      eqb-true (loadRefusal siteB) 0 (and-left passes (finished e) (and-left (passes && finished e) (showsAll s e k figures) row)),
       equal-exact (report e) reportB (figure-shown s e k (Rounds 27 ∷ Countdown 30 ∷ []) (Report reportB) [] all),
     )
 
-pub accepted-B : tableRefusal 4 caseB ≡ 0
+pub accepted-B : loadRefusal siteB ≡ 0
 accepted-B = parts-B .0
 
 pub report-B : report (ran (Step.countdown (loaded siteB)) 0 (loaded siteB) .0) ≡ reportB

@@ -9,7 +9,9 @@ use borrow.Author.Tests.{ltb-true, lt-ltb}
 use Rattle.lists.specs.All.{All, every-exact}
 use Rattle.lists.specs.Folds.{every}
 use Rattle.lists.specs.Tests.{and-exact, cond-exact}
-use Rattle.table.specs.Table.{maxLinks, tableRefusal}
+use Rattle.levels.specs.Level.{inRange}
+use Rattle.levels.specs.LevelLaws.{InRange, range-exact}
+use Rattle.table.specs.Table.{maxLinks, bareRefusal}
 use Rattle.rules.specs.Bounds.{nameOk, numberOk, distOk}
 use Rattle.rules.specs.BoundLaws.{Names, Number, Distance, le-exact, eq-exact, name-exact, number-exact, distance-exact}
 use Rattle.rules.specs.Ceilings.{ceiling}
@@ -25,7 +27,7 @@ MadeOk s =
 
 pub record Kept (s : State) : Type 0 where
   pub few : links s ≤ maxLinks
-  pub passes : tableRefusal (units s) (words s) ≡ 0
+  pub passes : bareRefusal (units s) (words s) ≡ 0
   pub from : 1 ≤ s .clock .stage
   pub to : s .clock .stage ≤ FINISHED
   pub made : MadeOk s
@@ -36,6 +38,7 @@ pub record Kept (s : State) : Type 0 where
   pub linkNames : All (All (Names (links s))) (linkTables s)
   pub distances : All (All Distance) (distTables s)
   pub numbers : All (All Number) (numberTables s)
+  pub levels : All InRange (s .table .levels)
 
 -- ---- the tests decide the words
 
@@ -46,9 +49,9 @@ made-exact s =
     (eq-exact (s .clock .stage) FINISHED) (eq-exact (s .clock .made) 0)
     (ltb-true (s .clock .made) (ceiling (units s) (s .clock .stage)), lt-ltb (s .clock .made) (ceiling (units s) (s .clock .stage)))
 
-table-exact : (s : State) → (tableOk (s .table) ≡ true) ↔ ((links s ≤ maxLinks) × (tableRefusal (units s) (words s) ≡ 0))
+table-exact : (s : State) → (tableOk (units s) (links s) (s .table .ends) ≡ true) ↔ ((links s ≤ maxLinks) × (bareRefusal (units s) (words s) ≡ 0))
 unfolding tableOk
-table-exact s = and-exact _ _ (le-exact (links s) maxLinks) (eq-exact (tableRefusal (units s) (words s)) 0)
+table-exact s = and-exact _ _ (le-exact (links s) maxLinks) (eq-exact (bareRefusal (units s) (words s)) 0)
 
 clock-exact : (s : State)
     → (clockOk (units s) (s .clock) ≡ true)
@@ -66,13 +69,15 @@ tables-exact p P h ts = every-exact (every p) (All P) (every-exact p P h) ts
 
 entries-exact : (s : State)
     → (entriesOk s ≡ true)
-    ↔ ((((All (All (Names (units s))) (unitTables s) × All (All (Names (2 * units s))) (arcTables s))
+    ↔ (((((All (All (Names (units s))) (unitTables s) × All (All (Names (2 * units s))) (arcTables s))
     × All (All (Names (links s))) (linkTables s))
     × All (All Distance) (distTables s))
     × All (All Number) (numberTables s))
+    × All InRange (s .table .levels))
 unfolding entriesOk
 entries-exact s =
     and-exact _ _
+    (and-exact _ _
     (and-exact _ _
     (and-exact _ _
     (and-exact _ _
@@ -80,7 +85,8 @@ entries-exact s =
     (tables-exact (nameOk (2 * units s)) (Names (2 * units s)) (name-exact (2 * units s)) (arcTables s)))
     (tables-exact (nameOk (links s)) (Names (links s)) (name-exact (links s)) (linkTables s)))
     (tables-exact distOk Distance distance-exact (distTables s)))
-    (tables-exact numberOk Number number-exact (numberTables s))
+    (tables-exact numberOk Number number-exact (numberTables s)))
+    (every-exact inRange InRange range-exact (s .table .levels))
 
 -- the test is exact
 pub kept-exact : (s : State) → (wellFormed s ≡ true) ↔ Kept s
@@ -89,12 +95,13 @@ kept-exact s = (λ (e : wellFormed s ≡ true). words-of (whole .0 e), λ (k : K
   where
     Parts : Type 0
     Parts =
-        (((links s ≤ maxLinks) × (tableRefusal (units s) (words s) ≡ 0))
+        (((links s ≤ maxLinks) × (bareRefusal (units s) (words s) ≡ 0))
         × (((((1 ≤ s .clock .stage) × (s .clock .stage ≤ FINISHED)) × MadeOk s) × (s .clock .rounds ≤ MAX-ROUNDS)) × (s .clock .requests ≤ MAX-REQUESTS)))
-        × ((((All (All (Names (units s))) (unitTables s) × All (All (Names (2 * units s))) (arcTables s))
+        × (((((All (All (Names (units s))) (unitTables s) × All (All (Names (2 * units s))) (arcTables s))
         × All (All (Names (links s))) (linkTables s))
         × All (All Distance) (distTables s))
         × All (All Number) (numberTables s))
+        × All InRange (s .table .levels))
 
     whole : (wellFormed s ≡ true) ↔ Parts
     whole = and-exact _ _ (and-exact _ _ (table-exact s) (clock-exact s)) (entries-exact s)
@@ -109,15 +116,16 @@ kept-exact s = (λ (e : wellFormed s ≡ true). words-of (whole .0 e), λ (k : K
           made = p .0 .1 .0 .0 .1;
           rounds = p .0 .1 .0 .1;
           requests = p .0 .1 .1;
-          unitNames = p .1 .0 .0 .0 .0;
-          arcNames = p .1 .0 .0 .0 .1;
-          linkNames = p .1 .0 .0 .1;
-          distances = p .1 .0 .1;
-          numbers = p .1 .1;
+          unitNames = p .1 .0 .0 .0 .0 .0;
+          arcNames = p .1 .0 .0 .0 .0 .1;
+          linkNames = p .1 .0 .0 .0 .1;
+          distances = p .1 .0 .0 .1;
+          numbers = p .1 .0 .1;
+          levels = p .1 .1;
         }
 
     parts-of : Kept s → Parts
     parts-of k = (
       ((k .few, k .passes), ((((k .from, k .to), k .made), k .rounds), k .requests)),
-      ((((k .unitNames, k .arcNames), k .linkNames), k .distances), k .numbers),
+      (((((k .unitNames, k .arcNames), k .linkNames), k .distances), k .numbers), k .levels),
     )

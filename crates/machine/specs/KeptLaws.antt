@@ -6,6 +6,7 @@ use Prim.Native.Nat.{ℕ, _*_, _≤_, min}
 use native.Mathlib.Omega.{arith}
 use Rattle.lists.specs.All.{every-exact, every-append}
 use Rattle.lists.specs.Folds.{every}
+use Rattle.levels.specs.Level.{inRange}
 use Rattle.table.specs.Passes.{passes}
 use Rattle.rules.specs.Fits.{linksFit, within-fit}
 use Rattle.rules.specs.Bounds.{nameOk, numberOk, distOk}
@@ -50,7 +51,8 @@ entries-parts : (s : State)
     && every (every (nameOk (2 * units s))) (arcTables s)
     && every (nameOk (links s)) (s .labels .label)
     && every distOk (s .tree .dist)
-    && (every (every numberOk) (sumTables s) && (every (every numberOk) (rangeTables s) && every (every numberOk) (joinTables s))))
+    && (every (every numberOk) (sumTables s) && (every (every numberOk) (rangeTables s) && every (every numberOk) (joinTables s)))
+    && every inRange (s .table .levels))
     ≡ entriesOk s
 unfolding entriesOk
 entries-parts s =
@@ -69,12 +71,12 @@ parents-fit s w =
     every-exact (nameOk (units s)) (Names (units s)) (name-exact (units s)) (s .tree .parent) .1 (k .unitNames .1 .1 .0)
 
 -- the whole test, part by part: a front that fails,
-pub kept-front : (s : State) → (tableOk (s .table) && clockOk (units s) (s .clock)) ≡ false → wellFormed s ≡ false
+pub kept-front : (s : State) → (tableOk (units s) (links s) (s .table .ends) && clockOk (units s) (s .clock)) ≡ false → wellFormed s ≡ false
 unfolding wellFormed
 kept-front s e = rw e refl
 
 -- and one that passes, with the entries by what they are
-pub kept-parts : (s : State) (e f a l d n1 n2 n3 x1 x2 x3 x4 x5 x6 r : Bool) → (tableOk (s .table) && clockOk (units s) (s .clock)) ≡ true
+pub kept-parts : (s : State) (e f a l d n1 n2 n3 v x1 x2 x3 x4 x5 x6 x7 r : Bool) → (tableOk (units s) (links s) (s .table .ends) && clockOk (units s) (s .clock)) ≡ true
     → e ≡ every (nameOk (units s)) (s .table .ends)
     → f ≡ every (every (nameOk (units s))) (otherUnitTables s)
     → a ≡ every (every (nameOk (2 * units s))) (arcTables s)
@@ -83,8 +85,9 @@ pub kept-parts : (s : State) (e f a l d n1 n2 n3 x1 x2 x3 x4 x5 x6 r : Bool) →
     → n1 ≡ every (every numberOk) (sumTables s)
     → n2 ≡ every (every numberOk) (rangeTables s)
     → n3 ≡ every (every numberOk) (joinTables s)
-    → x1 ≡ (e && f) → x2 ≡ (x1 && a) → x3 ≡ (x2 && l) → x4 ≡ (x3 && d) → x5 ≡ (n2 && n3) → x6 ≡ (n1 && x5) → r ≡ (x4 && x6)
+    → v ≡ every inRange (s .table .levels)
+    → x1 ≡ (e && f) → x2 ≡ (x1 && a) → x3 ≡ (x2 && l) → x4 ≡ (x3 && d) → x5 ≡ (n2 && n3) → x6 ≡ (n1 && x5) → x7 ≡ (x4 && x6) → r ≡ (x7 && v)
     → r ≡ wellFormed s
 unfolding wellFormed
-kept-parts s e f a l d n1 n2 n3 x1 x2 x3 x4 x5 x6 r front he hf ha hl hd h1 h2 h3 y1 y2 y3 y4 y5 y6 y7 =
-    rw (y7, y6, y5, y4, y3, y2, y1) (rw (he, hf, ha, hl, hd, h1, h2, h3) (rw front (entries-parts s)))
+kept-parts s e f a l d n1 n2 n3 v x1 x2 x3 x4 x5 x6 x7 r front he hf ha hl hd h1 h2 h3 hv y1 y2 y3 y4 y5 y6 y7 y8 =
+    rw (y8, y7, y6, y5, y4, y3, y2, y1) (rw (he, hf, ha, hl, hd, h1, h2, h3, hv) (rw front (entries-parts s)))

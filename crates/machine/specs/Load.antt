@@ -2,6 +2,8 @@
 use mathlib.Core.List.{List, _++_}
 use Prim.Native.Nat.{ℕ}
 use lib.ListN.{length, drop, replicate}
+use lib.IntN.{ℤ, pos}
+use Rattle.levels.specs.Level.{LOWEST}
 use Rattle.table.specs.Table.{linkCount, tableRefusal}
 use Rattle.rules.specs.Basics.{ABSENT}
 use Rattle.machine.specs.State.{State}
@@ -17,16 +19,22 @@ use Rattle.state.specs.declared.groups.Global.{Global}
 use Rattle.state.specs.declared.groups.Aux.{Aux}
 use Rattle.state.specs.declared.groups.Labels.{Labels}
 
--- k entries absent; k entries 0. Shut, so that goals do not spell them out
+-- k entries absent; k entries 0; k levels 0. Shut, so that goals do not spell them out
 unfoldable pub absents : ℕ → List ℕ
 absents k = replicate k ABSENT
 
 unfoldable pub zeros : ℕ → List ℕ
 zeros k = replicate k 0
 
--- a table's words in an array of 2,048, absent past the last
+unfoldable pub silences : ℕ → List ℤ
+silences k = replicate k (pos 0)
+
+-- a table's words in an array of 2,048, absent past the last; its levels in one of 1,024, 0 past the last
 abbrev pub endsOf : List ℕ → List ℕ
 endsOf t = t ++ drop (length t) (absents 2048)
+
+abbrev pub levelsOf : List ℤ → List ℤ
+levelsOf ls = ls ++ drop (length ls) (silences 1024)
 
 -- ---- each group before any round
 
@@ -77,22 +85,27 @@ begun table =
       labels = blankLabels;
     }
 
--- what a load takes: the unit count and the table's words
+-- what a load takes: the unit count, the table's words and its levels
 pub record Input : Type 0 where
   pub units : ℕ
   pub words : List ℕ
+  pub levels : List ℤ
+
+-- a table that came without levels, as link lines of kind 02 give it: each the lowest
+abbrev pub bare : ℕ → List ℕ → Input
+bare n t = record { units = n; words = t; levels = replicate (linkCount t) LOWEST }
 
 -- its number of links
 abbrev pub linksIn : Input → ℕ
 linksIn input = linkCount (input .words)
 
--- load's checks, 4 to 9: the number of the first that fails, else 0
+-- load's checks, 4 to 6, 15, 16, 7 to 9: the number of the first that fails, else 0
 abbrev pub loadRefusal : Input → ℕ
-loadRefusal input = tableRefusal (input .units) (input .words)
+loadRefusal input = tableRefusal (input .units) (input .words) (input .levels)
 
 -- the table of links that a load makes
 abbrev pub tableOf : Input → Table
-tableOf input = record { units = input .units; links = linksIn input; ends = endsOf (input .words) }
+tableOf input = record { units = input .units; links = linksIn input; ends = endsOf (input .words); levels = levelsOf (input .levels) }
 
 -- the state that a load makes
 unfoldable pub loaded : Input → State
@@ -100,4 +113,4 @@ loaded input = begun (tableOf input)
 
 -- the state that was never loaded: no unit and no link
 unfoldable pub unloaded : State
-unloaded = begun (record { units = 0; links = 0; ends = absents 2048 })
+unloaded = begun (record { units = 0; links = 0; ends = absents 2048; levels = silences 1024 })

@@ -280,6 +280,7 @@ module _ (s : State) (k : Kept s) (open′ : s .clock .stage ≡ FINISHED → �
       record {
         few = rw (m .table) (k .few);
         passes = rw (m .table) (k .passes);
+        levels = rw (m .table) (k .levels);
         from = f .0;
         to = f .1;
         made = rw (m .table) (f .2);

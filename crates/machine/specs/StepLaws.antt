@@ -9,10 +9,12 @@ use lib.Dec.{eqb}
 use lib.ListN.{length, getD, drop, take}
 use lib.Seq.{take-at}
 use borrow.Author.Tests.{eqb-true, eqb-false, eq-eqb, ne-eqb}
-use Rattle.lists.specs.All.{All, all-of, all-append, all-drop, all-replicate}
+use Rattle.lists.specs.All.{All, all-of, all-append, all-drop, all-replicate, every-exact}
 use Rattle.lists.specs.Tests.{either}
-use Rattle.table.specs.Table.{linkCount, tableRefusal}
-use Rattle.table.specs.Passes.{Passes, passes}
+use Rattle.levels.specs.Level.{HIGHEST, inRange}
+use Rattle.levels.specs.LevelLaws.{InRange, range-exact, zero-range}
+use Rattle.table.specs.Table.{linkCount, bareRefusal}
+use Rattle.table.specs.Passes.{Passes, passes, table-alone, table-range}
 use Rattle.rules.specs.Basics.{ABSENT}
 use Rattle.rules.specs.BoundLaws.{Names, Number, Distance}
 use Rattle.rules.specs.Ceilings
@@ -20,7 +22,7 @@ use Rattle.rules.specs.Ceilings.{ceilings, ceiling, total}
 use Rattle.rules.specs.CeilingLaws.{ceiling-positive, countdown-round, countdown-stage, countdown-positive, countdown-finished, total-small}
 use Rattle.machine.specs.State.{State}
 use Rattle.machine.specs.State.{units, links, words, finished, FINISHED}
-use Rattle.machine.specs.Load.{Input, loadRefusal, absents, zeros, endsOf, begun, loaded}
+use Rattle.machine.specs.Load.{Input, loadRefusal, absents, zeros, silences, endsOf, begun, loaded}
 use Rattle.machine.specs.WellFormed.{wellFormed}
 use Rattle.machine.specs.Kept.{Kept, MadeOk, kept-exact}
 use Rattle.machine.specs.Step
@@ -40,17 +42,22 @@ zero-numbers : (n : ℕ) → All Number (zeros n)
 unfolding zeros
 zero-numbers n = all-replicate Number n 0 (omega arith)
 
+silent-levels : All InRange (silences 1024)
+unfolding silences
+silent-levels = all-replicate InRange 1024 HIGHEST (range-exact HIGHEST .0 zero-range)
+
 -- the words of a loaded state are the table
 pub loaded-words : (input : Input) → loadRefusal input ≡ 0 → words (loaded input) ≡ (input .words)
 unfolding loaded begun
-loaded-words input e = take-at (input .words) (drop (length (input .words)) (absents 2048)) (2 * linkCount (input .words)) (passes (input .units) (input .words) e .pairs)
+loaded-words input e = take-at (input .words) (drop (length (input .words)) (absents 2048)) (2 * linkCount (input .words)) (passes (input .units) (input .words) (table-alone (input .units) (input .words) (input .levels) e) .pairs)
 
 pub loaded-kept : (input : Input) → loadRefusal input ≡ 0 → Kept (loaded input)
 unfolding loaded begun
 loaded-kept input e =
     record {
       few = site .fewLinks;
-      passes = rw (loaded-words input e) e;
+      passes = rw (loaded-words input e) alone;
+      levels = all-append InRange (input .levels) _ (every-exact inRange InRange range-exact (input .levels) .0 (table-range (input .units) (input .words) (input .levels) e)) (all-drop InRange (length (input .levels)) (silences 1024) silent-levels);
       from = omega arith;
       to = omega arith;
       made = inr (omega arith, ceiling-positive (input .units) 1 (omega arith) (omega arith));
@@ -63,8 +70,11 @@ loaded-kept input e =
       numbers = (zero-numbers 512, (zero-numbers 512, (zero-numbers 256, (zero-numbers 256, (zero-numbers 256, (zero-numbers 256, (zero-numbers 256, (zero-numbers 256, (zero-numbers 256, (zero-numbers 256, (zero-numbers 256, (zero-numbers 1024, tt))))))))))));
     }
   where
+    alone : bareRefusal (input .units) (input .words) ≡ 0
+    alone = table-alone (input .units) (input .words) (input .levels) e
+
     site : Passes (input .units) (input .words)
-    site = passes (input .units) (input .words) e
+    site = passes (input .units) (input .words) alone
 
 pub loaded-wellFormed : (input : Input) → loadRefusal input ≡ 0 → wellFormed (loaded input) ≡ true
 loaded-wellFormed input e = kept-exact (loaded input) .1 (loaded-kept input e)
@@ -104,4 +114,4 @@ countdown-zero s w = (λ (z : Step.countdown s ≡ 0). ended z (either (finished
 -- the first countdown of an accepted table is at most 804
 pub first-countdown : (input : Input) → loadRefusal input ≡ 0 → Step.countdown (loaded input) ≤ 804
 unfolding loaded begun Ceilings.countdown
-first-countdown input e = omega (arith, total-small (input .units) (passes (input .units) (input .words) e .fewUnits))
+first-countdown input e = omega (arith, total-small (input .units) (passes (input .units) (input .words) (table-alone (input .units) (input .words) (input .levels) e) .fewUnits))

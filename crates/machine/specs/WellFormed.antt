@@ -5,11 +5,11 @@ use Prim.Native.Nat.{ℕ, _*_}
 use lib.Dec.{eqb, leb, ltb}
 use lib.ListN.{take}
 use Rattle.lists.specs.Folds.{every}
-use Rattle.table.specs.Table.{maxLinks, tableRefusal}
+use Rattle.levels.specs.Level.{inRange}
+use Rattle.table.specs.Table.{maxLinks, bareRefusal}
 use Rattle.rules.specs.Bounds.{nameOk, numberOk, distOk}
 use Rattle.rules.specs.Ceilings.{ceiling}
 use Rattle.machine.specs.State.{State}
-use Rattle.state.specs.declared.groups.Table.{Table}
 use Rattle.state.specs.declared.groups.Clock.{Clock}
 use Rattle.machine.specs.State.{units, links, FINISHED, MAX-ROUNDS, MAX-REQUESTS}
 
@@ -49,8 +49,8 @@ numberTables s =
 -- ---- the clauses
 
 -- n and links pass 4 to 9
-unfoldable pub tableOk : Table → Bool
-tableOk t = leb (t .links) maxLinks && eqb (tableRefusal (t .units) (take (2 * t .links) (t .ends))) 0
+unfoldable pub tableOk : ℕ → ℕ → List ℕ → Bool
+tableOk n m ends = leb m maxLinks && eqb (bareRefusal n (take (2 * m) ends)) 0
 
 -- the rounds of the stage are below its ceiling for n units, zero at stage 11
 unfoldable pub madeOk : ℕ → Clock → Bool
@@ -65,7 +65,8 @@ clockOk n c =
     && leb (c .rounds) MAX-ROUNDS
     && leb (c .requests) MAX-REQUESTS
 
--- every stored unit, list place or link is absent or names one that exists; no other stored number exceeds 2,048, save that a distance may be absent
+-- every stored unit, list place or link is absent or names one that exists; no other stored number exceeds 2,048, save that a distance may be absent; every
+-- level is in range (document 02, T-01)
 unfoldable pub entriesOk : State → Bool
 entriesOk s =
     every (every (nameOk (units s))) (unitTables s)
@@ -73,6 +74,7 @@ entriesOk s =
     && every (every (nameOk (links s))) (linkTables s)
     && every (every distOk) (distTables s)
     && every (every numberOk) (numberTables s)
+    && every inRange (s .table .levels)
 
 unfoldable pub wellFormed : State → Bool
-wellFormed s = tableOk (s .table) && clockOk (units s) (s .clock) && entriesOk s
+wellFormed s = tableOk (units s) (links s) (s .table .ends) && clockOk (units s) (s .clock) && entriesOk s

@@ -6,7 +6,7 @@ use Prim.Native.Nat.{ℕ, _+_, _*_, _≤_, _<_}
 use native.Mathlib.Omega.{arith}
 use lib.ListN.{length, drop, getD-replicate, List·getD-append}
 use Rattle.table.specs.Table.{linkCount, endA, endB, tableRefusal}
-use Rattle.table.specs.Passes.{Passes, passes}
+use Rattle.table.specs.Passes.{Passes, passes, table-alone}
 use Rattle.rules.specs.Basics.{ABSENT, at}
 use Rattle.graph.specs.Rings.{SameLink}
 use Rattle.machine.specs.State.{State}
@@ -18,7 +18,7 @@ use Rattle.reach.specs.Invariant.{Base, Fresh, In1, Reached, in1}
 
 module _ (input : Input) (e : loadRefusal input ≡ 0) where
   p : Passes (input .units) (input .words)
-  p = passes (input .units) (input .words) e
+  p = passes (input .units) (input .words) (table-alone (input .units) (input .words) (input .levels) e)
 
   -- the ends in the state's array are the table's
   pub end-a : (j : ℕ) → j < linkCount (input .words) → endA (endsOf (input .words)) j ≡ endA (input .words) j

@@ -166,7 +166,12 @@ fn said(word: u16) {
 
 // The library's survey of a table, begun, and made to its end.
 fn begun(units: u16, words: &[u16]) -> Survey {
-    let loaded = Survey::new().load(units, words);
+    let levels = [0i16; 1024];
+    let links = words.len() / 2;
+    if levels.len() < links {
+        return Survey::new();
+    }
+    let loaded = Survey::new().load(units, words, &levels[..links]);
     loaded.survey
 }
 

@@ -4,9 +4,7 @@ use Prim.Native.Nat.{_≤_}
 use native.Mathlib.Omega.{arith}
 use lib.ListN.{length}
 use borrow.Author.Tests.{eq-eqb}
-use Rattle.files.specs.Example.{caseB, fileB, written-B}
-use Rattle.files.specs.File.{fileOf}
-use Rattle.files.specs.WrittenLaws.{ReadBack, written-read}
+use Rattle.files.specs.Example.{caseB, levelsB, fileB, read-B}
 use Rattle.machine.specs.Load.{loadRefusal, loaded}
 use Rattle.machine.specs.Step.{countdown}
 use Rattle.machine.specs.Run.{ran}
@@ -27,12 +25,9 @@ unfolding printedTable
 table-B = rw (eq-eqb (loadRefusal siteB) 0 accepted-B) (ap report survey-B ∙ report-B)
 
 -- the paper's file is read as that site
-read-B : ReadBack 4 caseB
-read-B = written-read 4 caseB accepted-B
-
-file-B : printedFile (fileOf 4 caseB) ≡ printedTable siteB
-unfolding printedFile printedRead caseB
-file-B = rw (read-B .unrefused WORDS (omega arith), read-B .units, read-B .ends) refl
+file-B : printedFile fileB ≡ printedTable siteB
+unfolding printedFile printedRead levelsB caseB
+file-B = rw (read-B .0, read-B .1, read-B .2, read-B .3) refl
 
 short-B : length fileB ≤ MAX-INPUT
 unfolding fileB
@@ -40,4 +35,4 @@ short-B = omega arith
 
 -- what the program prints for the paper's file is the paper's report
 pub prints-B : printed fileB ≡ reportB
-prints-B = input-short fileB short-B ∙ (ap printedFile (sym written-B) ∙ (file-B ∙ table-B))
+prints-B = input-short fileB short-B ∙ (file-B ∙ table-B)

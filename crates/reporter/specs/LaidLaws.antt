@@ -8,16 +8,17 @@ use native.Mathlib.Decide.{decLt}
 use native.Mathlib.Omega.{arith}
 use lib.Dec.{eqb, ltb}
 use lib.ListN.{length, take, drop}
+use lib.IntN.{ℤ}
 use borrow.Author.Tests.{eq-eqb, ne-eqb, lt-ltb, le-ltb, le-leb, lt-leb, eqb-true}
 use Rattle.lists.specs.All.{cond-keeps}
 use Rattle.lists.specs.Tests.{either}
 use Rattle.table.specs.Refusals.{written}
-use Rattle.table.specs.Table.{badUnitCount, oddWords, tooManyLinks, endMissing, equalEnds, repeatedLink, tableRefusal}
+use Rattle.table.specs.Table.{badUnitCount, oddWords, tooManyLinks, levelsDiffer, levelOutside, endMissing, equalEnds, repeatedLink, tableRefusal}
 use Rattle.frames.specs.Frame.{lineOver}
 use Rattle.frames.specs.Bodies.{refusalBody}
 use Rattle.frames.specs.FrameLaws.{length-line}
-use Rattle.files.specs.File.{linesOf, readRefusal, readReply, readWords, endsIn}
-use Rattle.files.specs.TripLaws.{unread-told, read-told, read-front, read-long}
+use Rattle.files.specs.File.{linesOf, readRefusal, readReply, readWords, endsIn, levelsIn, readLevels}
+use Rattle.files.specs.TripLaws.{unread-told, read-told, read-front, read-front-levels, read-long-levels}
 use Rattle.files.specs.declared.Reading.{Reading}
 use Rattle.files.specs.declared.Reading.the-variants.{Read}
 use Rattle.state.specs.declared.groups.Table.{Table}
@@ -29,7 +30,7 @@ use Rattle.machine.specs.StepLaws.{loaded-wellFormed}
 use Rattle.machine.specs.Report.{report, reportLength}
 use Rattle.machine.specs.ReportLaws.{length-report}
 use Rattle.machine.specs.Calls.{numberOf, answered, loadAnswer, roundRefusal, runAnswer, reportRefusal, reportAnswer, reported}
-use Rattle.reporter.specs.Printed.{MAX-INPUT, WORDS, countOf, refusalLine, surveyed, printedTable, printedRead, printedFile, printed, laidOver, laidCount}
+use Rattle.reporter.specs.Printed.{MAX-INPUT, WORDS, LEVELS, countOf, refusalLine, surveyed, printedTable, printedRead, printedFile, printed, laidOver, laidCount}
 use Rattle.reporter.specs.PrintedLaws.{surveyed-table, surveyed-finished, surveyed-wellFormed}
 
 -- ---- laying down
@@ -68,23 +69,26 @@ refusal-long k places l = rw (length-refusal k, le-ltb places 7 l) refl
 -- ---- load, run and report
 
 module _ (input : Input) where
-  -- a number of 4 to 9, or 0, is a byte
+  -- a number of a refusal, or 0, is a byte
   pub number-byte : loadRefusal input < 256
   unfolding tableRefusal
   number-byte =
       let n = input .units in
       let t = input .words in
+      let ls = input .levels in
       first (badUnitCount n) 4 _ (omega arith)
       (first (oddWords t) 5 _ (omega arith)
       (first (tooManyLinks t) 6 _ (omega arith)
+      (first (levelsDiffer t ls) 15 _ (omega arith)
+      (first (levelOutside ls) 16 _ (omega arith)
       (first (endMissing n t) 7 _ (omega arith)
       (first (equalEnds t) 8 _ (omega arith)
-      (first (repeatedLink t) 9 0 (omega arith) (omega arith))))))
+      (first (repeatedLink t) 9 0 (omega arith) (omega arith))))))))
     where
       first : (b : Bool) (k later : ℕ) → k < 256 → later < 256 → cond b k later < 256
       first b k later = cond-keeps (λ (x : ℕ). x < 256) b k later
 
-  -- refused by 4 to 9
+  -- refused
   pub table-refused : (loadRefusal input ≡ 0 → ⊥) → printedTable input ≡ refusalLine (loadRefusal input)
   unfolding printedTable
   table-refused h = rw (ne-eqb (loadRefusal input) 0 h) refl
@@ -181,21 +185,26 @@ module _ (input : List ℕ) where
   unfolding printed
   input-short short = rw (le-ltb MAX-INPUT (length input) short) refl
 
-  module _ (words : List ℕ) (room : length words ≡ WORDS) (short : length input ≤ MAX-INPUT) where
-    pub file-refused : (k : ℕ) → readReply input (length words) ≡ Reading.Refused k → (table : Input) → printed input ≡ printedRead k table
+  module _ (words : List ℕ) (levels : List ℤ) (room : (length words ≡ WORDS) × (length levels ≡ LEVELS)) (short : length input ≤ MAX-INPUT) where
+    pub file-refused : (k : ℕ) → readReply input (length words) (length levels) ≡ Reading.Refused k → (table : Input) → printed input ≡ printedRead k table
     unfolding printedFile
     file-refused k e table =
-        let (q, h) = unread-told input WORDS k (rw room at e) in
-        input-short short ∙ rw (q) (read-refused (readRefusal (linesOf input) WORDS) _ h ∙ sym (read-refused (readRefusal (linesOf input) WORDS) table h))
+        let r = readRefusal (linesOf input) WORDS LEVELS in
+        let (q, h) = unread-told input WORDS LEVELS k (rw (room .0, room .1) at e) in
+        input-short short ∙ rw (q) (read-refused r _ h ∙ sym (read-refused r table h))
 
-    -- the words read are the table
-    pub file-read : (u m : ℕ) → readReply input (length words) ≡ Read u m → (after : List ℕ) → after ≡ readWords input words
-        → (2 * m ≤ WORDS) × (printed input ≡ printedRead 0 (record { units = u; words = take (2 * m) after }))
+    -- what was read is the table
+    pub file-read : (u m : ℕ) → readReply input (length words) (length levels) ≡ Read u m
+        → (after : List ℕ) → after ≡ readWords input words (length levels) → (heard : List ℤ) → heard ≡ readLevels input (length words) levels
+        → (m ≤ LEVELS) × (printed input ≡ printedRead 0 (record { units = u; words = take (2 * m) after; levels = take m heard }))
     unfolding printedFile
-    file-read u m e after is =
-        let r = read-told input (length words) u m e in
-        let front : take (2 * m) after ≡ endsIn (linesOf input) = ap (take (2 * m)) is ∙ read-front input (length words) u m e words refl in
-        let none : readRefusal (linesOf input) WORDS ≡ 0 = rw room at (r .0) in (
-          omega (arith, read-long input (length words) u m e words refl, room),
-          input-short short ∙ rw (none, front, r .1) refl,
+    file-read u m e after is heard are =
+        let places = length words in
+        let spaces = length levels in
+        let r = read-told input places spaces u m e in
+        let front : take (2 * m) after ≡ endsIn (linesOf input) = ap (take (2 * m)) is ∙ read-front input places spaces u m e words refl in
+        let first : take m heard ≡ levelsIn (linesOf input) = ap (take m) are ∙ read-front-levels input places spaces u m e levels refl in
+        let none : readRefusal (linesOf input) WORDS LEVELS ≡ 0 = rw (room .0, room .1) at (r .0) in (
+          omega (arith, read-long-levels input places spaces u m e levels refl, room .1),
+          input-short short ∙ rw (none, front, first, r .1) refl,
         )

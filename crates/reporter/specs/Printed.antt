@@ -6,7 +6,7 @@ use lib.Dec.{eqb, ltb}
 use lib.ListN.{length, drop}
 use Rattle.frames.specs.Frame.{lineOf}
 use Rattle.frames.specs.Bodies.{refusalBody}
-use Rattle.files.specs.File.{linesOf, readRefusal, unitsIn, endsIn}
+use Rattle.files.specs.File.{linesOf, readRefusal, unitsIn, endsIn, levelsIn}
 use Rattle.state.specs.declared.reply.Reply.{Reply}
 use Rattle.state.specs.declared.reply.Reply.the-variants.{Refused, Done, Made, Status, Unit, Link, Read, Written}
 use Rattle.machine.specs.State.{State}
@@ -18,9 +18,12 @@ use Rattle.machine.specs.Report.{report}
 abbrev pub MAX-INPUT : ℕ
 MAX-INPUT = 65535
 
--- the words that reading has room for: two a link, at most 1,024 links
+-- the words and levels that reading has room for: two words and a level a link, at most 1,024 links
 abbrev pub WORDS : ℕ
 WORDS = 2048
+
+abbrev pub LEVELS : ℕ
+LEVELS = 1024
 
 -- a refusal's line: 1E and the number as one byte
 abbrev pub refusalLine : ℕ → List ℕ
@@ -30,24 +33,23 @@ refusalLine k = lineOf (refusalBody k)
 abbrev pub surveyed : Input → State
 surveyed input = ran 65535 0 (loaded input) .0
 
--- loaded and surveyed, or refused by 4 to 9
+-- loaded and surveyed, or refused
 unfoldable pub printedTable : Input → List ℕ
 printedTable input =
     let whole = report (surveyed input) in
     cond (eqb (loadRefusal input) 0) whole (refusalLine (loadRefusal input))
 
--- what a file's lines say: the unit count in its first, the ends in its 02 frames
+-- what a file's lines say: the unit count in its first, the ends and levels in its 02 and 03 frames
 abbrev pub tableIn : List ℕ → Input
-tableIn file = record { units = unitsIn (linesOf file); words = endsIn (linesOf file) }
+tableIn file = record { units = unitsIn (linesOf file); words = endsIn (linesOf file); levels = levelsIn (linesOf file) }
 
 -- what is printed of a table, or of the number by which reading it was refused
 unfoldable pub printedRead : ℕ → Input → List ℕ
 printedRead unread input = let whole = printedTable input in cond (eqb unread 0) whole (refusalLine unread)
 
--- read, or refused by 1, 2, 3 or 6
+-- read, or refused by 1, 2, 3, 6 or 16
 unfoldable pub printedFile : List ℕ → List ℕ
-printedFile file =
-    printedRead (readRefusal (linesOf file) WORDS) (tableIn file)
+printedFile file = printedRead (readRefusal (linesOf file) WORDS LEVELS) (tableIn file)
 
 unfoldable pub printed : List ℕ → List ℕ
 printed input = let whole = printedFile input in cond (ltb MAX-INPUT (length input)) (refusalLine 1) whole

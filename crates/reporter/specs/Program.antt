@@ -1,5 +1,6 @@
 -- What the program prints for the bytes of any input, in one statement: `ProgramRight`, at the end. ProgramProof.antt proves it.
 use mathlib.Core.Path.{_≡_}
+use mathlib.Core.Bool.{false}
 use mathlib.Core.Logic.{_⊎_, _↔_}
 use mathlib.Core.List.{List, [], _∷_, _++_}
 use Prim.Native.Nat.{ℕ, _+_, _*_, _≤_, _<_}
@@ -12,6 +13,8 @@ use Rattle.table.specs.TableCauses.{tableReasons}
 use Rattle.frames.specs.Frame.{lineOf}
 use Rattle.frames.specs.Bodies.{headBody, unitBody, labelBody, tailBody}
 use Rattle.files.specs.File.{linesOf, fileOf}
+use Rattle.files.specs.RoundTrip.{fileBack}
+use Rattle.files.specs.RewrittenLaws.{bareIn}
 use Rattle.files.specs.FileCauses.{readReasons, below-exact}
 use Rattle.machine.specs.State.{State}
 use Rattle.machine.specs.Load.{Input, linksIn, loadRefusal, loaded}
@@ -19,7 +22,7 @@ use Rattle.machine.specs.Step.{steps, countdown}
 use Rattle.machine.specs.RunLaws.{Total}
 use Rattle.machine.specs.Report.{unitColor, unitParent, unitPlace, unitSingle, linkLabel, linkLone, flag, reportLength}
 use Rattle.reach.specs.Reach.{SurveyRight}
-use Rattle.reporter.specs.Printed.{MAX-INPUT, WORDS, refusalLine, tableIn, printed}
+use Rattle.reporter.specs.Printed.{MAX-INPUT, WORDS, LEVELS, refusalLine, tableIn, printed}
 
 -- ---- a refusal
 
@@ -28,21 +31,22 @@ abbrev pub inputTooLong : List ℕ → Reason
 inputTooLong input =
     record { number = 1; test = ltb MAX-INPUT (length input); cause = MAX-INPUT < length input; exact = below-exact MAX-INPUT (length input) }
 
--- the causes in the program's order: its input, then those of reading its lines into 2,048 words, then those of loading what they say
+-- the causes in the program's order: its input, then those of reading its lines into 2,048 words and 1,024 levels, then those of loading what they say
 abbrev pub programReasons : List ℕ → List Reason
 programReasons input =
-    inputTooLong input ∷ (readReasons (linesOf input) WORDS ++ tableReasons (tableIn input .units) (tableIn input .words))
+    inputTooLong input ∷ (readReasons (linesOf input) WORDS LEVELS ++ tableReasons (tableIn input .units) (tableIn input .words) (tableIn input .levels))
 
--- the numbers that occur. Not 14: 2,048 words are room enough; not 5: a file's ends come in pairs; and 6 only from reading
+-- the numbers that occur. Not 14: there is room enough; not 5 and 15: a file's ends come in pairs, each with a level; and 6 and 16 only from reading
 abbrev pub programNumbers : List ℕ
-programNumbers = 1 ∷ 2 ∷ 3 ∷ 6 ∷ 4 ∷ 7 ∷ 8 ∷ 9 ∷ []
+programNumbers = 1 ∷ 2 ∷ 3 ∷ 6 ∷ 16 ∷ 4 ∷ 7 ∷ 8 ∷ 9 ∷ []
 
 -- ---- a report
 
 -- what is printed is the report of e, the survey of the table at its end
 pub record SurveyPrinted (input : List ℕ) (table : Input) (e : State) (rounds : ℕ) : Type 0 where
-  -- the input is the file of that table, byte for byte, and load accepts it
-  pub file : input ≡ fileOf (table .units) (table .words)
+  -- the input, with its level in each link line of kind 02, is the file of that table, byte for byte, and load accepts it
+  pub file : fileBack (linesOf input) ≡ fileOf (table .units) (table .words) (table .levels)
+  pub same : bareIn (linesOf input) ≡ false → fileBack (linesOf input) ≡ input
   pub accepted : loadRefusal table ≡ 0
   -- e comes after the fewest rounds that end the survey, within the countdown first shown
   pub least : Total (loaded table) rounds

@@ -8,22 +8,24 @@ use native.Mathlib.Decide.{decLt, ℕ-discrete}
 use native.Mathlib.Omega.{arith}
 use lib.ListN.{length, take, drop, length-append}
 use lib.Seq.{drop-at}
-use borrow.Author.Tests.{ne-eqb, lt-ltb, le-ltb}
-use Rattle.lists.specs.Folds.{count}
+use borrow.Author.Tests.{ne-eqb, lt-ltb, le-ltb, not-true}
+use Rattle.lists.specs.Folds.{count, every}
+use Rattle.lists.specs.Tests.{not-both}
+use Rattle.levels.specs.Level.{inRange}
 use Rattle.lists.specs.Gathered.{gathered}
 use Rattle.lists.specs.Members.{Mem}
 use Rattle.table.specs.Refusals.{firstOf}
 use Rattle.table.specs.RefusalLaws.{Reason, FirstCause, Numbered, tests, first-cause, first-some, first-none}
-use Rattle.table.specs.TableCauses.{tableReasons, table-first-cause}
+use Rattle.table.specs.TableCauses.{tableReasons, levelOutside-exact, table-first-cause}
 use Rattle.table.specs.Table.{maxLinks, tableRefusal}
 use Rattle.frames.specs.Frame.{hexesOf, byteAt, lineOf}
 use Rattle.frames.specs.Bodies.{refusalBody, labelBody, tailBody}
 use Rattle.frames.specs.FrameLaws.{digit-back, length-line}
-use Rattle.files.specs.File.{linesOf, linkFrames, endsIn, readRefusal}
+use Rattle.files.specs.File.{linesOf, linkFrames, endsIn, levelsIn, readRefusal}
 use Rattle.files.specs.FileCauses.{readReasons, readRefusal-tests}
-use Rattle.files.specs.LineSteps.{length-ends}
-use Rattle.files.specs.ReadLaws.{accepted-sound}
-use Rattle.files.specs.RewrittenLaws.{read-written}
+use Rattle.files.specs.LineSteps.{length-ends, length-levels}
+use Rattle.files.specs.ReadLaws.{Sound, accepted-sound}
+use Rattle.files.specs.RewrittenLaws.{read-written, same-file}
 use Rattle.state.specs.declared.groups.Table.{Table}
 use Rattle.machine.specs.State.{State, units, links}
 use Rattle.machine.specs.Load.{Input, linksIn, loadRefusal, begun, loaded}
@@ -32,7 +34,7 @@ use Rattle.machine.specs.RunLaws.{total, total-least, total-countdown}
 use Rattle.machine.specs.Report.{unitSingle, linkLabel, linkLone, flag, report, reportLength, headLine, unitLine, linkLine, tailLine}
 use Rattle.machine.specs.ReportLaws.{length-head, units-long, links-long, length-report, head-at, unit-at, link-at}
 use Rattle.reach.specs.Reach.{rounds-steps}
-use Rattle.reporter.specs.Printed.{MAX-INPUT, WORDS, refusalLine, surveyed, tableIn, printedTable, printedRead, printedFile, printed}
+use Rattle.reporter.specs.Printed.{MAX-INPUT, WORDS, LEVELS, refusalLine, surveyed, tableIn, printedTable, printedRead, printedFile, printed}
 use Rattle.reporter.specs.PrintedLaws.{surveyed-end, surveyed-table, surveyed-right}
 use Rattle.reporter.specs.Program.{programReasons, programNumbers, SurveyPrinted, ProgramRight}
 
@@ -88,7 +90,7 @@ module _ (input : List ℕ) where
   refusal = firstOf (tests (programReasons input))
 
   unread : ℕ
-  unread = readRefusal (linesOf input) WORDS
+  unread = readRefusal (linesOf input) WORDS LEVELS
 
   unloaded : ℕ
   unloaded = loadRefusal (tableIn input)
@@ -98,56 +100,67 @@ module _ (input : List ℕ) where
   refusal-long l = rw (lt-ltb MAX-INPUT (length input) l) refl
 
   module _ (short : length input ≤ MAX-INPUT) where
-    after-length : refusal ≡ firstOf (tests (readReasons (linesOf input) WORDS) ++ tests (tableReasons (tableIn input .units) (tableIn input .words)))
+    after-length : refusal ≡ firstOf (tests (readReasons (linesOf input) WORDS LEVELS) ++ tests (tableReasons (tableIn input .units) (tableIn input .words) (tableIn input .levels)))
     unfolding refusal
     after-length =
         rw (le-ltb MAX-INPUT (length input) short)
-        (ap firstOf (tests-append (readReasons (linesOf input) WORDS) (tableReasons (tableIn input .units) (tableIn input .words))))
+        (ap firstOf (tests-append (readReasons (linesOf input) WORDS LEVELS) (tableReasons (tableIn input .units) (tableIn input .words) (tableIn input .levels))))
 
     refusal-unread : (unread ≡ 0 → ⊥) → refusal ≡ unread
     unfolding unread
     refusal-unread h =
-        let e : readRefusal (linesOf input) WORDS ≡ firstOf (tests (readReasons (linesOf input) WORDS)) = readRefusal-tests (linesOf input) WORDS in
-        after-length ∙ (first-some (tests (readReasons (linesOf input) WORDS)) _ (λ z. h (e ∙ z)) ∙ sym e)
+        let e : readRefusal (linesOf input) WORDS LEVELS ≡ firstOf (tests (readReasons (linesOf input) WORDS LEVELS)) = readRefusal-tests (linesOf input) WORDS LEVELS in
+        after-length ∙ (first-some (tests (readReasons (linesOf input) WORDS LEVELS)) _ (λ z. h (e ∙ z)) ∙ sym e)
 
     refusal-unloaded : unread ≡ 0 → refusal ≡ unloaded
     unfolding unread unloaded readReasons tableReasons tableRefusal
     refusal-unloaded z =
         after-length
-        ∙ first-none (tests (readReasons (linesOf input) WORDS)) (tests (tableReasons (tableIn input .units) (tableIn input .words))) (omega arith) (sym (readRefusal-tests (linesOf input) WORDS) ∙ z)
+        ∙ first-none (tests (readReasons (linesOf input) WORDS LEVELS)) (tests (tableReasons (tableIn input .units) (tableIn input .words) (tableIn input .levels))) (omega arith) (sym (readRefusal-tests (linesOf input) WORDS LEVELS) ∙ z)
 
   -- ---- the numbers that occur
 
   read-number : (k : ℕ) → (k ≡ 0 → ⊥) → unread ≡ k → Mem k programNumbers
   unfolding unread readReasons
-  read-number k h e = go (first-cause (readReasons (linesOf input) WORDS) k h .0 (sym (readRefusal-tests (linesOf input) WORDS) ∙ e))
+  read-number k h e = go (first-cause (readReasons (linesOf input) WORDS LEVELS) k h .0 (sym (readRefusal-tests (linesOf input) WORDS LEVELS) ∙ e))
     where
-      go : FirstCause (readReasons (linesOf input) WORDS) k → Mem k programNumbers
+      go : FirstCause (readReasons (linesOf input) WORDS LEVELS) k → Mem k programNumbers
       go (inl p) = inl (sym (p .0))
       go (inr (_, inl p)) = inr (inl (sym (p .0)))
       go (inr (_, inr (_, inl p))) = inr (inr (inl (sym (p .0))))
       go (inr (_, inr (_, inr (_, inl p)))) = inr (inr (inr (inl (sym (p .0)))))
-      go (inr (_, inr (_, inr (_, inr (few, inl p))))) = absurd (few (omega (arith, p .1)))
-      go (inr (_, inr (_, inr (_, inr (few, inr p))))) = absurd (p .1)
+      go (inr (_, inr (_, inr (_, inr (_, inl p))))) = inr (inr (inr (inr (inl (sym (p .0))))))
+      go (inr (_, inr (_, inr (_, inr (few, inr (_, inl (_, inl p))))))) = absurd (few (omega (arith, p)))
+      go (inr (_, inr (_, inr (_, inr (few, inr (_, inl (_, inr p))))))) = absurd (few (omega (arith, p)))
+      go (inr (_, inr (_, inr (_, inr (few, inr (_, inr p)))))) = absurd (p .1)
 
   load-number : (k : ℕ) → (k ≡ 0 → ⊥) → unread ≡ 0 → unloaded ≡ k → Mem k programNumbers
   unfolding unread unloaded tableReasons
-  load-number k h z e = go (table-first-cause (tableIn input .units) (tableIn input .words) k h .0 e)
+  load-number k h z e = go (table-first-cause (tableIn input .units) (tableIn input .words) (tableIn input .levels) k h .0 e)
     where
       pairs : length (endsIn (linesOf input)) ≡ 2 * linkFrames (linesOf input)
       pairs = length-ends (linesOf input)
 
-      few : linkFrames (linesOf input) ≤ maxLinks
-      few = accepted-sound (linesOf input) WORDS z .few
+      sound : Sound (linesOf input) WORDS LEVELS
+      sound = accepted-sound (linesOf input) WORDS LEVELS z
 
-      go : FirstCause (tableReasons (tableIn input .units) (tableIn input .words)) k → Mem k programNumbers
-      go (inl p) = inr (inr (inr (inr (inl (sym (p .0))))))
+      few : linkFrames (linesOf input) ≤ maxLinks
+      few = sound .few
+
+      levels : length (levelsIn (linesOf input)) ≡ linkFrames (linesOf input)
+      levels = length-levels (linesOf input)
+
+      go : FirstCause (tableReasons (tableIn input .units) (tableIn input .words) (tableIn input .levels)) k → Mem k programNumbers
+      go (inl p) = inr (inr (inr (inr (inr (inl (sym (p .0)))))))
       go (inr (_, inl p)) = absurd (omega (arith, pairs, p .1 .1))
       go (inr (_, inr (_, inl p))) = absurd (omega (arith, pairs, few, p .1))
-      go (inr (_, inr (_, inr (_, inl p)))) = inr (inr (inr (inr (inr (inl (sym (p .0)))))))
-      go (inr (_, inr (_, inr (_, inr (_, inl p))))) = inr (inr (inr (inr (inr (inr (inl (sym (p .0))))))))
-      go (inr (_, inr (_, inr (_, inr (_, inr (_, inl p)))))) = inr (inr (inr (inr (inr (inr (inr (inl (sym (p .0)))))))))
-      go (inr (_, inr (_, inr (_, inr (_, inr (_, inr p)))))) = absurd (p .1)
+      go (inr (_, inr (_, inr (_, inl p)))) = absurd (p .1 (omega (arith, pairs, levels)))
+      go (inr (_, inr (_, inr (_, inr (_, inl p))))) =
+          absurd (not-both (every inRange (levelsIn (linesOf input))) (sound .levelled) (not-true _ (levelOutside-exact (levelsIn (linesOf input)) .1 (p .1))))
+      go (inr (_, inr (_, inr (_, inr (_, inr (_, inl p)))))) = inr (inr (inr (inr (inr (inr (inl (sym (p .0))))))))
+      go (inr (_, inr (_, inr (_, inr (_, inr (_, inr (_, inl p))))))) = inr (inr (inr (inr (inr (inr (inr (inl (sym (p .0)))))))))
+      go (inr (_, inr (_, inr (_, inr (_, inr (_, inr (_, inr (_, inl p)))))))) = inr (inr (inr (inr (inr (inr (inr (inr (inl (sym (p .0))))))))))
+      go (inr (_, inr (_, inr (_, inr (_, inr (_, inr (_, inr (_, inr p)))))))) = absurd (p .1)
 
   -- ---- what is printed
 
@@ -244,7 +257,8 @@ module _ (input : List ℕ) where
     unfolding table e unread unloaded headLine unitLine
     survey-printed =
         record {
-          file = sym (read-written input WORDS read);
+          file = sym (read-written input WORDS LEVELS read);
+          same = same-file input (accepted-sound (linesOf input) WORDS LEVELS read .lines);
           accepted = accepted;
           least = total-least (loaded (tableIn input)) (loaded-wellFormed (tableIn input) accepted);
           within = total-countdown (loaded (tableIn input));

@@ -7,9 +7,9 @@ use files::Reading;
 use frames::kinds;
 use frames::line;
 ghost use mathlib.Core.Path.{_≡_};
-ghost use Prim.Native.Nat.{_≤_};
+ghost use Prim.Native.Nat.{_*_, _≤_};
 ghost use lib.ListN.{length, take};
-ghost use Rattle.reporter.specs.Printed.{WORDS, refusalLine, printedRead, printed, laidOver, laidCount};
+ghost use Rattle.reporter.specs.Printed.{WORDS, LEVELS, refusalLine, printedRead, printed, laidOver, laidCount};
 
 // The longest input, and the longest output: the report of 256 units and 1,024 links.
 pub const MAX_INPUT: usize = 65535;
@@ -23,9 +23,17 @@ pub fn report(input: &[u8], out: &mut [u8]) -> u32
     ensures fits { λ r. ⌜ r ≤ length (now (out .entry)) ⌝ }
 {
     let mut words: [u16; 2048] = [0; 2048];
-    let found = taken(input, &mut words);
-    let end = found.end;
-    value::surveyed(found.unread, found.units, &words[..end], out)
+    let mut levels: [i16; 1024] = [0; 1024];
+    let found = taken(input, &mut words, &mut levels);
+    let links = found.links;
+    let end = 2 * links;
+    value::surveyed(
+        found.unread,
+        found.units,
+        &words[..end],
+        &levels[..links],
+        out,
+    )
 }
 
 // The same on the words of a state.
@@ -34,42 +42,50 @@ pub fn report_on_words(input: &[u8], out: &mut [u8]) -> u32
     ensures bytes { λ _. ⌜ now (out .exit) ≡ laidOver (printed (now (input .entry))) (now (out .entry)) ⌝ }
 {
     let mut words: [u16; 2048] = [0; 2048];
-    let found = taken(input, &mut words);
-    let end = found.end;
-    on_words::surveyed(found.unread, found.units, &words[..end], out)
+    let mut levels: [i16; 1024] = [0; 1024];
+    let found = taken(input, &mut words, &mut levels);
+    let links = found.links;
+    let end = 2 * links;
+    on_words::surveyed(
+        found.unread,
+        found.units,
+        &words[..end],
+        &levels[..links],
+        out,
+    )
 }
 
-// What was read: the number of a refusal, else 0; the unit count, and how many words the table has.
+// What was read: the number of a refusal, else 0; the unit count and the number of links.
 struct Found {
     unread: u8,
     units: u16,
-    end: usize,
+    links: usize,
 }
 
-// The input read into `words`: 1, 2, 3, 6.
-fn taken(input: &[u8], words: &mut [u16]) -> Found
-    requires { ⌜ length (now words) ≡ WORDS ⌝ }
-    ensures fits { λ r. ⌜ r .end ≤ WORDS ⌝ }
-    ensures whole { λ r. ⌜ printed (now (input .entry)) ≡ printedRead (r .unread) (record { units = r .units; words = take (r .end) (now (words .exit)) }) ⌝ }
+// The input read into `words` and `levels`: 1, 2, 3, 6, 16.
+fn taken(input: &[u8], words: &mut [u16], levels: &mut [i16]) -> Found
+    requires { ⌜ (length (now words) ≡ WORDS) × (length (now levels) ≡ LEVELS) ⌝ }
+    ensures fits { λ r. ⌜ r .links ≤ LEVELS ⌝ }
+    ensures whole { λ r. ⌜ printed (now (input .entry)) ≡ printedRead (r .unread) (record { units = r .units; words = take (2 * (r .links)) (now (words .exit)); levels = take (r .links) (now (levels .exit)) }) ⌝ }
 {
     if MAX_INPUT < input.len() {
         return Found {
             unread: 1,
             units: 0,
-            end: 0,
+            links: 0,
         };
     }
-    let found = files::read(input, words);
+    let found = files::read(input, words, levels);
     match found {
         Reading::Refused(number) => Found {
             unread: number,
             units: 0,
-            end: 0,
+            links: 0,
         },
         Reading::Read { units, links } => Found {
             unread: 0,
             units,
-            end: 2 * (links as usize),
+            links: links as usize,
         },
     }
 }

@@ -2,11 +2,12 @@
 // Arrays have their full length whatever the unit count is. Units index by their number, arcs by 2v (into v) and 2v + 1 (out of v), links by
 // position, segments by place.
 
-// The table of links: the two ends of link j stand at 2j and 2j + 1.
+// The table of links: the two ends of link j stand at 2j and 2j + 1, its level at j.
 pub struct Table {
     pub units: u16,
     pub links: u16,
     pub ends: [u16; 2048],
+    pub levels: [i16; 1024],
 }
 
 // Stage 1 to 10, or 11 when finished; rounds made in this stage; all rounds made; all ranking requests.

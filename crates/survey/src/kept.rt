@@ -39,6 +39,7 @@ impl Survey {
             &self.aux.color,
             &self.labels.class,
             &self.labels.label,
+            &self.table.levels,
         )
     }
 }
@@ -70,9 +71,10 @@ pub(crate) fn kept<'a>(
     classes: &'a [u16; 256],
     class: &'a [u16; 1024],
     label: &'a [u16; 1024],
+    levels: &'a [i16; 1024],
 ) -> bool
     ensures { λ r. ⌜ r
-        ≡ wellFormed (record { table = record { units = units; links = links; ends = now (ends .entry) }; clock = clock; components = record { color = now (color .entry) }; tree = record { parent = now (parent .entry); dist = now (dist .entry) }; tour = record { next = now (next .entry); pred = now (pred .entry) }; ranking = record { jump = now (jump .entry); sum = now (sum .entry) }; order = record { forward = now (forward .entry); nd = now (nd .entry); pre = now (pre .entry) }; range = record { low = now (low .entry); high = now (high .entry); little = now (little .entry); big = now (big .entry) }; global = record { low = now (least .entry); high = now (greatest .entry) }; aux = record { parents = now (parents .entry); links = now (linked .entry); color = now (classes .entry) }; labels = record { class = now (class .entry); label = now (label .entry) } }) ⌝ }
+        ≡ wellFormed (record { table = record { units = units; links = links; ends = now (ends .entry); levels = now (levels .entry) }; clock = clock; components = record { color = now (color .entry) }; tree = record { parent = now (parent .entry); dist = now (dist .entry) }; tour = record { next = now (next .entry); pred = now (pred .entry) }; ranking = record { jump = now (jump .entry); sum = now (sum .entry) }; order = record { forward = now (forward .entry); nd = now (nd .entry); pre = now (pre .entry) }; range = record { low = now (low .entry); high = now (high .entry); little = now (little .entry); big = now (big .entry) }; global = record { low = now (least .entry); high = now (greatest .entry) }; aux = record { parents = now (parents .entry); links = now (linked .entry); color = now (classes .entry) }; labels = record { class = now (class .entry); label = now (label .entry) } }) ⌝ }
 {
     if !clock::front_ok(units, links, ends, clock) {
         return false;
@@ -86,11 +88,13 @@ pub(crate) fn kept<'a>(
     let sums = numbers_ok(sum, forward, nd, pre);
     let ranges = numbers_ok(low, high, little, big);
     let joins = numbers_ok(least, greatest, parents, linked);
+    let heard = levels::all_in_range(levels);
     let names = values::both(values::both(values::both(ended, named), arcs), labels);
-    values::both(
+    let entries = values::both(
         values::both(names, dists),
         values::both(sums, values::both(ranges, joins)),
-    )
+    );
+    values::both(entries, heard)
 }
 
 // Every entry of three tables names one of `count` things or is absent.

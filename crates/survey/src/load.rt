@@ -1,4 +1,4 @@
-// A state that was never loaded, and loading: 4 to 9.
+// A state that was never loaded, and loading: 4 to 6, 15, 16, 7 to 9.
 use super::answer::Answer;
 use super::whole::Survey;
 use state::Reply;
@@ -13,14 +13,14 @@ impl Survey {
     pub fn new() -> Survey
         ensures { λ r. ⌜ of r ≡ unloaded ⌝ }
     {
-        Survey::begun(begin::table(0, &[]))
+        Survey::begun(begin::table(0, &[], &[]))
     }
 
     // On a refusal the state comes back as given.
-    pub fn load(self, units: u16, table: &[u16]) -> Answer
-        ensures { λ r. ⌜ answerOf r ≡ loadAnswer (record { units = units; words = now (table .entry) }) (of self) ⌝ }
+    pub fn load(self, units: u16, table: &[u16], levels: &[i16]) -> Answer
+        ensures { λ r. ⌜ answerOf r ≡ loadAnswer (record { units = units; words = now (table .entry); levels = now (levels .entry) }) (of self) ⌝ }
     {
-        let refused = table::refusal(units, table);
+        let refused = table::refusal(units, table, levels);
         if refused != 0 {
             return Answer {
                 survey: self,
@@ -28,16 +28,16 @@ impl Survey {
             };
         }
         Answer {
-            survey: loaded(units, table),
+            survey: loaded(units, table, levels),
             reply: Reply::Done,
         }
     }
 }
 
 // The state of a table that passes.
-fn loaded(units: u16, table: &[u16]) -> Survey
-    requires { ⌜ tableRefusal units (now table) ≡ 0 ⌝ }
-    ensures { λ r. ⌜ of r ≡ loaded (record { units = units; words = now (table .entry) }) ⌝ }
+fn loaded(units: u16, table: &[u16], levels: &[i16]) -> Survey
+    requires { ⌜ tableRefusal units (now table) (now levels) ≡ 0 ⌝ }
+    ensures { λ r. ⌜ of r ≡ loaded (record { units = units; words = now (table .entry); levels = now (levels .entry) }) ⌝ }
 {
-    Survey::begun(begin::table(units, table))
+    Survey::begun(begin::table(units, table, levels))
 }

@@ -75,6 +75,7 @@ impl Survey {
             &self.aux.color,
             &self.labels.class,
             &self.labels.label,
+            &self.table.levels,
         );
         let refused = refusal(well, self.clock.stage);
         if refused != 0 {

@@ -5,7 +5,7 @@ ghost use mathlib.Core.Path.{_≡_};
 ghost use lib.ListN.{length};
 ghost use Rattle.machine.specs.Calls.{numberOf, loadAnswer};
 ghost use Rattle.words.specs.Layout.{stateOf};
-ghost use Rattle.files.specs.File.{linesOf, unitsIn, linkFrames, readRefusal, readWords, writeRefusal, writtenFile};
+ghost use Rattle.files.specs.File.{linesOf, unitsIn, linkFrames, readRefusal, readWords, readLevels, writeRefusal, writtenFile};
 ghost use Rattle.lent.specs.FileFace.{wordSaid};
 ghost use Rattle.claim.specs.Play;
 ghost use Rattle.claim_on_words.specs.Exchange.{numberTo, stateAfter, lentAfter, madeAfter};
@@ -20,13 +20,18 @@ pub extern "C" fn link_survey_report(input: &[u8], out: &mut [u8]) -> u32
     reporter::report_on_words(input, out)
 }
 
-// Load: 4 to 9.
+// Load: 4 to 6, 15, 16, 7 to 9.
 #[no_mangle]
-pub extern "C" fn link_survey_load(state: &mut [u16; STATE_WORDS], units: u16, table: &[u16]) -> u32
-    ensures number { λ r. ⌜ r ≡ numberOf (loadAnswer (record { units = units; words = now (table .entry) }) (stateOf (now (state .entry))) .reply) ⌝ }
-    ensures words { λ _. ⌜ stateOf (now (state .exit)) ≡ loadAnswer (record { units = units; words = now (table .entry) }) (stateOf (now (state .entry))) .state ⌝ }
+pub extern "C" fn link_survey_load(
+    state: &mut [u16; STATE_WORDS],
+    units: u16,
+    table: &[u16],
+    levels: &[i16],
+) -> u32
+    ensures number { λ r. ⌜ r ≡ numberOf (loadAnswer (record { units = units; words = now (table .entry); levels = now (levels .entry) }) (stateOf (now (state .entry))) .reply) ⌝ }
+    ensures words { λ _. ⌜ stateOf (now (state .exit)) ≡ loadAnswer (record { units = units; words = now (table .entry); levels = now (levels .entry) }) (stateOf (now (state .entry))) .state ⌝ }
 {
-    lent::load(state, units, table)
+    lent::load(state, units, table, levels)
 }
 
 // One round: 10, 11.
@@ -96,29 +101,36 @@ pub extern "C" fn link_survey_state_report(state: &[u16; STATE_WORDS], out: &mut
     lent::report(state, out)
 }
 
-// No state: the ends of a file to the front of `table`, its unit count and its number of links: 1, 2, 3, 6, 14.
+// No state: the ends of a file to the front of `table` and its levels to the front of `levels`, its unit count and its number of links: 1, 2, 3, 6, 16, 14.
 #[no_mangle]
 pub extern "C" fn link_survey_read(
     input: &[u8],
     table: &mut [u16],
+    levels: &mut [i16],
     units: &mut u16,
     links: &mut u16,
 ) -> u32
-    ensures number { λ r. ⌜ r ≡ readRefusal (linesOf (now (input .entry))) (length (now (table .entry))) ⌝ }
-    ensures words { λ _. ⌜ now (table .exit) ≡ readWords (now (input .entry)) (now (table .entry)) ⌝ }
+    ensures number { λ r. ⌜ r ≡ readRefusal (linesOf (now (input .entry))) (length (now (table .entry))) (length (now (levels .entry))) ⌝ }
+    ensures words { λ _. ⌜ now (table .exit) ≡ readWords (now (input .entry)) (now (table .entry)) (length (now (levels .entry))) ⌝ }
+    ensures levels { λ _. ⌜ now (levels .exit) ≡ readLevels (now (input .entry)) (length (now (table .entry))) (now (levels .entry)) ⌝ }
     ensures units { λ _. ⌜ now (units .exit)
-        ≡ wordSaid (readRefusal (linesOf (now (input .entry))) (length (now (table .entry)))) (unitsIn (linesOf (now (input .entry)))) (now (units .entry)) ⌝ }
+        ≡ wordSaid (readRefusal (linesOf (now (input .entry))) (length (now (table .entry))) (length (now (levels .entry)))) (unitsIn (linesOf (now (input .entry)))) (now (units .entry)) ⌝ }
     ensures links { λ _. ⌜ now (links .exit)
-        ≡ wordSaid (readRefusal (linesOf (now (input .entry))) (length (now (table .entry)))) (linkFrames (linesOf (now (input .entry)))) (now (links .entry)) ⌝ }
+        ≡ wordSaid (readRefusal (linesOf (now (input .entry))) (length (now (table .entry))) (length (now (levels .entry)))) (linkFrames (linesOf (now (input .entry)))) (now (links .entry)) ⌝ }
 {
-    lent::read(input, table, units, links)
+    lent::read(input, table, levels, units, links)
 }
 
-// No state: the file of a unit count and a table at the front of `out`: 4 to 9, 14.
+// No state: the file of a unit count, a table and its levels at the front of `out`: 4 to 6, 15, 16, 7 to 9, 14.
 #[no_mangle]
-pub extern "C" fn link_survey_write(units: u16, table: &[u16], out: &mut [u8]) -> u32
-    ensures number { λ r. ⌜ r ≡ writeRefusal units (now (table .entry)) (length (now (out .entry))) ⌝ }
-    ensures bytes { λ _. ⌜ now (out .exit) ≡ writtenFile units (now (table .entry)) (now (out .entry)) ⌝ }
+pub extern "C" fn link_survey_write(
+    units: u16,
+    table: &[u16],
+    levels: &[i16],
+    out: &mut [u8],
+) -> u32
+    ensures number { λ r. ⌜ r ≡ writeRefusal units (now (table .entry)) (now (levels .entry)) (length (now (out .entry))) ⌝ }
+    ensures bytes { λ _. ⌜ now (out .exit) ≡ writtenFile units (now (table .entry)) (now (levels .entry)) (now (out .entry)) ⌝ }
 {
-    lent::write(units, table, out)
+    lent::write(units, table, levels, out)
 }

@@ -1,14 +1,21 @@
--- What a table that passes the checks is like: no cause of a refusal holds.
-use mathlib.Core.Path.{_≡_}
-use mathlib.Core.Logic.{inl, inr}
+-- What a table that passes the checks 4 to 9 is like: no cause of a refusal holds. With levels: it passes alone, and each link has a level in range.
+use mathlib.Core.Path.{_≡_, refl, sym, _∙_}
+use mathlib.Core.Bool.{Bool, true, false, not}
+use mathlib.Core.Logic.{_⊎_, inl, inr}
 use mathlib.Core.List.{List}
 use Prim.Native.Nat.{ℕ, _+_, _*_, _≤_, _<_}
 use native.Mathlib.Decide.{decLe, decLt, ℕ-discrete}
 use native.Mathlib.Omega.{arith}
+use lib.Dec.{eqb}
 use lib.ListN.{length, getD}
-use Rattle.table.specs.Table.{maxUnits, maxLinks, linkCount, endA, endB, tableRefusal}
-use Rattle.table.specs.RefusalLaws.{SomeCause}
-use Rattle.table.specs.TableCauses.{SameEnds, tableReasons, table-some-cause}
+use lib.IntN.{ℤ}
+use borrow.Author.Tests.{eqb-true, not-false}
+use Rattle.lists.specs.Folds.{every}
+use Rattle.levels.specs.Level.{inRange}
+use Rattle.table.specs.Table.{maxUnits, maxLinks, linkCount, endA, endB, levelsDiffer, levelOutside, countTests, levelTests, endTests, countRefusal, levelRefusal, endRefusal, bareRefusal, tableRefusal}
+use Rattle.table.specs.RefusalLaws.{SomeCause, passed-test, first-none}
+use Rattle.table.specs.TableLaws.{table-counts, table-levels, table-ends}
+use Rattle.table.specs.TableCauses.{SameEnds, bareReasons, bare-some-cause}
 
 pub record Passes (n : ℕ) (t : List ℕ) : Type 0 where
   pub someUnit : 0 < n
@@ -19,8 +26,8 @@ pub record Passes (n : ℕ) (t : List ℕ) : Type 0 where
   pub endsDiffer : (j : ℕ) → j < linkCount t → endA t j ≡ endB t j → ⊥
   pub once : (j k : ℕ) → (j ≡ k → ⊥) → j < linkCount t → k < linkCount t → SameEnds (endA t j) (endB t j) (endA t k) (endB t k) → ⊥
 
-pub passes : (n : ℕ) (t : List ℕ) → tableRefusal n t ≡ 0 → Passes n t
-unfolding tableReasons
+pub passes : (n : ℕ) (t : List ℕ) → bareRefusal n t ≡ 0 → Passes n t
+unfolding bareReasons
 passes n t e =
     record {
       someUnit = some (decLt 0 n);
@@ -32,8 +39,8 @@ passes n t e =
       once = λ j k d l m q. none (inr (inr (inr (inr (inr (inl (j, k, d, l, m, q)))))));
     }
   where
-    none : SomeCause (tableReasons n t) → ⊥
-    none c = table-some-cause n t .1 c e
+    none : SomeCause (bareReasons n t) → ⊥
+    none c = bare-some-cause n t .1 c e
 
     some : Dec (0 < n) → 0 < n
     some (yes h) = h
@@ -54,3 +61,37 @@ passes n t e =
     exists : (i : ℕ) → i < length t → Dec (getD t i 0 < n) → getD t i 0 < n
     exists i l (yes h) = h
     exists i l (no h) = absurd (none (inr (inr (inr (inl (i, l, omega arith))))))
+
+-- ---- with levels
+
+module _ (n : ℕ) (t : List ℕ) (ls : List ℤ) (e : tableRefusal n t ls ≡ 0) where
+  counts : countRefusal n t ≡ 0
+  counts = go (ℕ-discrete (countRefusal n t) 0)
+    where
+      go : Dec (countRefusal n t ≡ 0) → countRefusal n t ≡ 0
+      go (yes z) = z
+      go (no z) = table-counts n t ls z ∙ e
+
+  levels : levelRefusal t ls ≡ 0
+  levels = go (ℕ-discrete (levelRefusal t ls) 0)
+    where
+      go : Dec (levelRefusal t ls ≡ 0) → levelRefusal t ls ≡ 0
+      go (yes z) = z
+      go (no z) = table-levels n t ls counts z ∙ e
+
+  -- the table passes alone
+  pub table-alone : bareRefusal n t ≡ 0
+  unfolding bareRefusal countRefusal endRefusal
+  table-alone = first-none (countTests n t) (endTests n t) (omega arith) counts ∙ table-ends n t ls counts levels ∙ e
+
+  -- a level for each link
+  pub table-levelled : length ls ≡ linkCount t
+  unfolding levelRefusal
+  table-levelled =
+      eqb-true (length ls) (linkCount t) (not-false (eqb (length ls) (linkCount t)) (passed-test (levelsDiffer t ls) 15 _ (omega arith) levels .0))
+
+  -- each in range
+  pub table-range : every inRange ls ≡ true
+  unfolding levelRefusal
+  table-range =
+      not-false (every inRange ls) (passed-test (levelOutside ls) 16 _ (omega arith) (passed-test (levelsDiffer t ls) 15 _ (omega arith) levels .1) .0)

@@ -10,5 +10,6 @@ firstOf [] = 0
 firstOf (t ∷ ts) = let later = firstOf ts in cond (t .1) (t .0) later
 
 -- what a lent slice holds after a call: the new contents and the rest as it was, or all as it was where refusal k came up
-abbrev pub written : ℕ → List ℕ → List ℕ → List ℕ
-written k new old = cond (eqb k 0) (new ++ drop (length new) old) old
+module _ {A : Type 0} where
+  abbrev pub written : ℕ → List A → List A → List A
+  written k new old = cond (eqb k 0) (new ++ drop (length new) old) old

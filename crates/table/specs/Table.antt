@@ -1,10 +1,13 @@
 -- The table of links (document 01): 16-bit words, two a link, its two ends in either order. A link's position is its number from 0.
--- Each check is its own definition; their order is the list at the end.
-use mathlib.Core.Bool.{Bool, false, _&&_, _||_}
-use mathlib.Core.List.{List, [], _∷_}
+-- Beside it (document 02, T-01) the levels, one a link. Each check is its own definition; their order is the list at the end.
+use mathlib.Core.Bool.{Bool, false, not, cond, _&&_, _||_}
+use mathlib.Core.List.{List, [], _∷_, _++_}
 use Prim.Native.Nat.{ℕ, _+_, _*_, _/_, _%_}
 use lib.Dec.{leb, ltb, eqb}
 use lib.ListN.{length, getD}
+use lib.IntN.{ℤ}
+use Rattle.lists.specs.Folds.{every}
+use Rattle.levels.specs.Level.{inRange}
 use Rattle.table.specs.Refusals.{firstOf}
 
 -- the limits of a site
@@ -37,6 +40,14 @@ oddWords t = eqb (length t % 2) 1
 abbrev pub tooManyLinks : List ℕ → Bool
 tooManyLinks t = ltb maxLinks (linkCount t)
 
+-- 15: the levels differ in number from the links
+abbrev pub levelsDiffer : List ℕ → List ℤ → Bool
+levelsDiffer t ls = not (eqb (length ls) (linkCount t))
+
+-- 16: a level is outside −127 to 0
+abbrev pub levelOutside : List ℤ → Bool
+levelOutside ls = not (every inRange ls)
+
 -- 7: an end is n or more
 unfoldable pub endMissing : ℕ → List ℕ → Bool
 endMissing n [] = false
@@ -52,29 +63,80 @@ equalEnds (a ∷ b ∷ t) = eqb a b || equalEnds t
 abbrev pub sameEnds : ℕ → ℕ → ℕ → ℕ → Bool
 sameEnds a b c d = (eqb a c && eqb b d) || (eqb a d && eqb b c)
 
--- some link of the table joins a and b
-unfoldable pub joinedIn : ℕ → ℕ → List ℕ → Bool
-joinedIn a b [] = false
-joinedIn a b (c ∷ []) = false
-joinedIn a b (c ∷ d ∷ t) = sameEnds a b c d || joinedIn a b t
+-- they are the same ordered pair, from and to (document 02, T-11)
+abbrev pub samePair : ℕ → ℕ → ℕ → ℕ → Bool
+samePair a b c d = eqb a c && eqb b d
+
+-- 9, over how two links are the same
+module _ (same : ℕ → ℕ → ℕ → ℕ → Bool) where
+  -- some link of the table is the same as (a, b)
+  unfoldable pub joinedIn : ℕ → ℕ → List ℕ → Bool
+  joinedIn a b [] = false
+  joinedIn a b (c ∷ []) = false
+  joinedIn a b (c ∷ d ∷ t) = same a b c d || joinedIn a b t
+
+  -- two links are the same
+  abbrev pub repeatedBy : List ℕ → Bool
+  repeatedBy [] = false
+  repeatedBy (a ∷ []) = false
+  repeatedBy (a ∷ b ∷ t) = joinedIn a b t || repeatedBy t
 
 -- 9: two links join the same two units
 unfoldable pub repeatedLink : List ℕ → Bool
-repeatedLink [] = false
-repeatedLink (a ∷ []) = false
-repeatedLink (a ∷ b ∷ t) = joinedIn a b t || repeatedLink t
+repeatedLink t = repeatedBy sameEnds t
 
--- the checks 4 to 9 in their order
-abbrev pub tableTests : ℕ → List ℕ → List (ℕ × Bool)
-tableTests n t =
-    (4, badUnitCount n)
-    ∷ (5, oddWords t)
-    ∷ (6, tooManyLinks t)
-    ∷ (7, endMissing n t)
-    ∷ (8, equalEnds t)
-    ∷ (9, repeatedLink t)
-    ∷ []
+-- 9 where the table is read as ordered pairs: one stands in it twice
+unfoldable pub repeatedPair : List ℕ → Bool
+repeatedPair t = repeatedBy samePair t
 
--- the number of the first that fails, 0 where the table passes
-unfoldable pub tableRefusal : ℕ → List ℕ → ℕ
-tableRefusal n t = firstOf (tableTests n t)
+-- either, as the table is read
+abbrev pub repeatedAs : Bool → List ℕ → Bool
+repeatedAs ordered t = cond ordered (repeatedPair t) (repeatedLink t)
+
+-- ---- the checks in their order
+
+-- of the counts
+abbrev pub countTests : ℕ → List ℕ → List (ℕ × Bool)
+countTests n t = (4, badUnitCount n) ∷ (5, oddWords t) ∷ (6, tooManyLinks t) ∷ []
+
+-- of the levels
+abbrev pub levelTests : List ℕ → List ℤ → List (ℕ × Bool)
+levelTests t ls = (15, levelsDiffer t ls) ∷ (16, levelOutside ls) ∷ []
+
+-- of the ends, by what the search for repeats says
+abbrev pub endTestsBy : ℕ → List ℕ → Bool → List (ℕ × Bool)
+endTestsBy n t repeated = (7, endMissing n t) ∷ (8, equalEnds t) ∷ (9, repeated) ∷ []
+
+abbrev pub endTests : ℕ → List ℕ → List (ℕ × Bool)
+endTests n t = endTestsBy n t (repeatedLink t)
+
+-- of a table with its levels
+abbrev pub tableTests : ℕ → List ℕ → List ℤ → List (ℕ × Bool)
+tableTests n t ls = countTests n t ++ (levelTests t ls ++ endTests n t)
+
+-- of a table without levels, 4 to 9
+abbrev pub bareTests : ℕ → List ℕ → List (ℕ × Bool)
+bareTests n t = countTests n t ++ endTests n t
+
+-- of a table of ordered pairs
+abbrev pub pairTests : ℕ → List ℕ → List (ℕ × Bool)
+pairTests n t = countTests n t ++ endTestsBy n t (repeatedPair t)
+
+-- the number of the first that fails, 0 where all pass
+unfoldable pub countRefusal : ℕ → List ℕ → ℕ
+countRefusal n t = firstOf (countTests n t)
+
+unfoldable pub levelRefusal : List ℕ → List ℤ → ℕ
+levelRefusal t ls = firstOf (levelTests t ls)
+
+unfoldable pub endRefusal : ℕ → List ℕ → Bool → ℕ
+endRefusal n t repeated = firstOf (endTestsBy n t repeated)
+
+unfoldable pub bareRefusal : ℕ → List ℕ → ℕ
+bareRefusal n t = firstOf (bareTests n t)
+
+unfoldable pub tableRefusal : ℕ → List ℕ → List ℤ → ℕ
+tableRefusal n t ls = firstOf (tableTests n t ls)
+
+unfoldable pub pairRefusal : ℕ → List ℕ → ℕ
+pairRefusal n t = firstOf (pairTests n t)

@@ -1,16 +1,22 @@
 -- The tests of a table from a place on, as a loop along the table meets them.
-use mathlib.Core.Path.{_≡_, refl, sym}
+use mathlib.Core.Path.{_≡_, refl, sym, _∙_}
 use mathlib.Core.Bool.{Bool, true, false, _||_, or-true, or-assoc}
 use mathlib.Core.Logic.{_⊎_, inl, inr}
-use mathlib.Core.List.{List, [], _∷_}
+use mathlib.Core.List.{List, [], _∷_, _++_}
 use Prim.Native.Nat.{ℕ, suc, _+_, _*_, _≤_, _<_}
+use native.Mathlib.Decide.{decLe}
 use native.Mathlib.Omega.{arith}
 use lib.Dec.{leb, eqb}
+use lib.IntN.{ℤ}
 use lib.ListN.{length, getD, drop, drop-of-length-le, length-drop}
 use borrow.Author.Tests.{lt-leb, leb-false, lt-ltb, le-ltb, eq-eqb, ne-eqb}
 use Rattle.lists.specs.Rests.{rest-one, rest-two}
 use Rattle.lists.specs.Tests.{or-false-left, or-false-right}
-use Rattle.table.specs.Table.{maxUnits, endA, endB, badUnitCount, oddWords, tooManyLinks, endMissing, equalEnds, repeatedLink, tableRefusal}
+use Rattle.lists.specs.Folds.{every}
+use Rattle.levels.specs.Level.{inRange}
+use Rattle.table.specs.Table.{maxUnits, endA, endB, badUnitCount, oddWords, tooManyLinks, levelsDiffer, endMissing, equalEnds, repeatedLink, repeatedPair, repeatedAs}
+use Rattle.table.specs.Table.{countTests, levelTests, endTests, countRefusal, levelRefusal, endRefusal, bareRefusal, tableRefusal, endTestsBy, pairRefusal}
+use Rattle.table.specs.RefusalLaws.{first-some, first-none}
 
 -- ---- a link more at the front
 
@@ -59,35 +65,101 @@ unitCount-bad n (inr l) = rw (lt-ltb maxUnits n l) (or-true (eqb n 0))
 pub unitCount-good : (n : ℕ) → (n ≡ 0 → ⊥) → n ≤ maxUnits → badUnitCount n ≡ false
 unitCount-good n z l = rw (ne-eqb n 0 z, le-ltb maxUnits n l)
 
+-- of the counts
 module _ (n : ℕ) (t : List ℕ) where
-  pub refused-4 : badUnitCount n ≡ true → 4 ≡ tableRefusal n t
-  unfolding tableRefusal
+  pub refused-4 : badUnitCount n ≡ true → 4 ≡ countRefusal n t
+  unfolding countRefusal
   refused-4 e = rw e
 
-  pub refused-5 : badUnitCount n ≡ false → oddWords t ≡ true → 5 ≡ tableRefusal n t
-  unfolding tableRefusal
+  pub refused-5 : badUnitCount n ≡ false → oddWords t ≡ true → 5 ≡ countRefusal n t
+  unfolding countRefusal
   refused-5 p4 e = rw (p4, e)
 
-  pub refused-6 : badUnitCount n ≡ false → oddWords t ≡ false → tooManyLinks t ≡ true → 6 ≡ tableRefusal n t
-  unfolding tableRefusal
+  pub refused-6 : badUnitCount n ≡ false → oddWords t ≡ false → tooManyLinks t ≡ true → 6 ≡ countRefusal n t
+  unfolding countRefusal
   refused-6 p4 p5 e = rw (p4, p5, e)
 
-  module _ (p4 : badUnitCount n ≡ false) (p5 : oddWords t ≡ false) (p6 : tooManyLinks t ≡ false) where
-    pub refused-7 : endMissing n t ≡ true → 7 ≡ tableRefusal n t
-    unfolding tableRefusal
-    refused-7 e = rw (p4, p5, p6, e)
+  pub counts-passed : badUnitCount n ≡ false → oddWords t ≡ false → tooManyLinks t ≡ false → 0 ≡ countRefusal n t
+  unfolding countRefusal
+  counts-passed p4 p5 p6 = rw (p4, p5, p6)
 
-    pub refused-8 : endMissing n t ≡ false → equalEnds t ≡ true → 8 ≡ tableRefusal n t
-    unfolding tableRefusal
-    refused-8 p7 e = rw (p4, p5, p6, p7, e)
+  pub counted-units : countRefusal n t ≡ 0 → n ≤ maxUnits
+  unfolding countRefusal
+  counted-units e = go (decLe n maxUnits)
+    where
+      go : Dec (n ≤ maxUnits) → n ≤ maxUnits
+      go (yes l) = l
+      go (no l) = absurd (omega (arith, e, refused-4 (unitCount-bad n (inr (omega arith)))))
 
-    pub refused-9 : endMissing n t ≡ false → equalEnds t ≡ false → repeatedLink t ≡ true → 9 ≡ tableRefusal n t
-    unfolding tableRefusal
-    refused-9 p7 p8 e = rw (p4, p5, p6, p7, p8, e)
+-- of the levels
+module _ (t : List ℕ) (ls : List ℤ) where
+  pub refused-15 : levelsDiffer t ls ≡ true → 15 ≡ levelRefusal t ls
+  unfolding levelRefusal
+  refused-15 e = rw e
 
-    pub passed : endMissing n t ≡ false → equalEnds t ≡ false → repeatedLink t ≡ false → 0 ≡ tableRefusal n t
-    unfolding tableRefusal
-    passed p7 p8 p9 = rw (p4, p5, p6, p7, p8, p9)
+  pub refused-16 : levelsDiffer t ls ≡ false → every inRange ls ≡ false → 16 ≡ levelRefusal t ls
+  unfolding levelRefusal
+  refused-16 p15 e = rw (p15, e)
+
+  pub levels-passed : levelsDiffer t ls ≡ false → every inRange ls ≡ true → 0 ≡ levelRefusal t ls
+  unfolding levelRefusal
+  levels-passed p15 e = rw (p15, e)
+
+-- of the ends
+module _ (n : ℕ) (t : List ℕ) (repeated : Bool) where
+  pub refused-7 : endMissing n t ≡ true → 7 ≡ endRefusal n t repeated
+  unfolding endRefusal
+  refused-7 e = rw e
+
+  pub refused-8 : endMissing n t ≡ false → equalEnds t ≡ true → 8 ≡ endRefusal n t repeated
+  unfolding endRefusal
+  refused-8 p7 e = rw (p7, e)
+
+  pub refused-9 : endMissing n t ≡ false → equalEnds t ≡ false → repeated ≡ true → 9 ≡ endRefusal n t repeated
+  unfolding endRefusal
+  refused-9 p7 p8 e = rw (p7, p8, e)
+
+  pub ends-passed : endMissing n t ≡ false → equalEnds t ≡ false → repeated ≡ false → 0 ≡ endRefusal n t repeated
+  unfolding endRefusal
+  ends-passed p7 p8 p9 = rw (p7, p8, p9)
+
+-- of a table without levels: the first part that refuses
+module _ (n : ℕ) (t : List ℕ) where
+  pub bare-counts : (countRefusal n t ≡ 0 → ⊥) → countRefusal n t ≡ bareRefusal n t
+  unfolding countRefusal bareRefusal
+  bare-counts h = sym (first-some (countTests n t) (endTests n t) h)
+
+  pub bare-ends : countRefusal n t ≡ 0 → endRefusal n t (repeatedAs false t) ≡ bareRefusal n t
+  unfolding countRefusal endRefusal bareRefusal
+  bare-ends p = sym (first-none (countTests n t) (endTests n t) (omega arith) p)
+
+-- with levels
+module _ (n : ℕ) (t : List ℕ) (ls : List ℤ) where
+  pub table-counts : (countRefusal n t ≡ 0 → ⊥) → countRefusal n t ≡ tableRefusal n t ls
+  unfolding countRefusal tableRefusal
+  table-counts h = sym (first-some (countTests n t) (levelTests t ls ++ endTests n t) h)
+
+  pub table-levels : countRefusal n t ≡ 0 → (levelRefusal t ls ≡ 0 → ⊥) → levelRefusal t ls ≡ tableRefusal n t ls
+  unfolding countRefusal levelRefusal tableRefusal
+  table-levels p h =
+      sym (first-none (countTests n t) (levelTests t ls ++ endTests n t) (omega arith) p ∙ first-some (levelTests t ls) (endTests n t) h)
+
+  pub table-ends : countRefusal n t ≡ 0 → levelRefusal t ls ≡ 0 → endRefusal n t (repeatedAs false t) ≡ tableRefusal n t ls
+  unfolding countRefusal levelRefusal endRefusal tableRefusal
+  table-ends p q =
+      sym
+      (first-none (countTests n t) (levelTests t ls ++ endTests n t) (omega arith) p
+      ∙ first-none (levelTests t ls) (endTests n t) (omega arith) q)
+
+-- of a table of ordered pairs
+module _ (n : ℕ) (t : List ℕ) where
+  pub pair-counts : (countRefusal n t ≡ 0 → ⊥) → countRefusal n t ≡ pairRefusal n t
+  unfolding countRefusal pairRefusal
+  pair-counts h = sym (first-some (countTests n t) (endTestsBy n t (repeatedPair t)) h)
+
+  pub pair-ends : countRefusal n t ≡ 0 → endRefusal n t (repeatedAs true t) ≡ pairRefusal n t
+  unfolding countRefusal endRefusal pairRefusal
+  pair-ends p = sym (first-none (countTests n t) (endTestsBy n t (repeatedPair t)) (omega arith) p)
 
 -- ends below n are below any greater number
 pub endMissing-more : (n k : ℕ) (t : List ℕ) → n ≤ k → endMissing n t ≡ false → endMissing k t ≡ false

@@ -1,7 +1,8 @@
-// The checks 4 to 9 on a lent table of links.
+// The checks 4 to 9, 15 and 16 on a lent table of links and its levels.
 ghost use mathlib.Core.Path.{_≡_};
 ghost use mathlib.Core.Bool.{false, _||_};
-ghost use Rattle.table.specs.Table.{endMissing, equalEnds, repeatedLink, tableRefusal};
+ghost use Prim.Native.Nat.{_≤_};
+ghost use Rattle.table.specs.Table.{maxUnits, endMissing, equalEnds, repeatedLink, countRefusal, levelRefusal, endRefusal, bareRefusal, tableRefusal, repeatedAs, pairRefusal};
 
 mod marks;
 
@@ -13,9 +14,46 @@ pub const MAX_LINKS: usize = 1024;
 // The mark "absent".
 pub const ABSENT: u16 = 65535;
 
-// The number of the first check that fails, 0 where the table passes.
-pub fn refusal(units: u16, table: &[u16]) -> u8
-    ensures { λ r. ⌜ r ≡ tableRefusal units (now (table .entry)) ⌝ }
+// The number of the first check that fails, 0 where the table passes with its levels.
+pub fn refusal(units: u16, table: &[u16], levels: &[i16]) -> u8
+    ensures { λ r. ⌜ r ≡ tableRefusal units (now (table .entry)) (now (levels .entry)) ⌝ }
+{
+    let number = counts(units, table);
+    if number != 0 {
+        return number;
+    }
+    let later = levelled(table, levels);
+    if later != 0 {
+        return later;
+    }
+    ends(false, units, table)
+}
+
+// The same of a table of ordered pairs, from and to: 9 is one pair twice.
+pub fn pair_refusal(units: u16, table: &[u16]) -> u8
+    ensures { λ r. ⌜ r ≡ pairRefusal units (now (table .entry)) ⌝ }
+{
+    let number = counts(units, table);
+    if number != 0 {
+        return number;
+    }
+    ends(true, units, table)
+}
+
+// The same of a table without levels: 4 to 9.
+pub fn bare_refusal(units: u16, table: &[u16]) -> u8
+    ensures { λ r. ⌜ r ≡ bareRefusal units (now (table .entry)) ⌝ }
+{
+    let number = counts(units, table);
+    if number != 0 {
+        return number;
+    }
+    ends(false, units, table)
+}
+
+// 4, 5, 6.
+fn counts(units: u16, table: &[u16]) -> u8
+    ensures { λ r. ⌜ r ≡ countRefusal units (now (table .entry)) ⌝ }
 {
     if units == 0 {
         return 4;
@@ -29,13 +67,31 @@ pub fn refusal(units: u16, table: &[u16]) -> u8
     if MAX_LINKS < table.len() / 2 {
         return 6;
     }
+    0
+}
+
+// 15, 16.
+fn levelled(table: &[u16], levels: &[i16]) -> u8
+    ensures { λ r. ⌜ r ≡ levelRefusal (now (table .entry)) (now (levels .entry)) ⌝ }
+{
+    if levels.len() != table.len() / 2 {
+        return 15;
+    }
+    if levels::all_in_range(levels) { 0 } else { 16 }
+}
+
+// 7, 8, 9, of at most 256 units.
+fn ends(ordered: bool, units: u16, table: &[u16]) -> u8
+    requires { ⌜ units ≤ maxUnits ⌝ }
+    ensures { λ r. ⌜ r ≡ endRefusal units (now (table .entry)) (repeatedAs ordered (now (table .entry))) ⌝ }
+{
     if end_missing(units, table) {
         return 7;
     }
     if equal_ends(table) {
         return 8;
     }
-    if repeated(table) {
+    if repeated(ordered, table) {
         return 9;
     }
     0
@@ -74,10 +130,10 @@ fn equal_ends(table: &[u16]) -> bool
     equal
 }
 
-// Whether two links join the same two units, for ends below 256.
-fn repeated(table: &[u16]) -> bool
-    ensures { λ r. ⌜ (endMissing 256 (now (table .entry)) ≡ false → r ≡ repeatedLink (now (table .entry))) ⌝ }
+// Whether two links join the same two units, or are the same ordered pair, for ends below 256.
+fn repeated(ordered: bool, table: &[u16]) -> bool
+    ensures { λ r. ⌜ (endMissing 256 (now (table .entry)) ≡ false → r ≡ repeatedAs ordered (now (table .entry))) ⌝ }
 {
     let mut blank = [0u8; 8192];
-    marks::found(table, &mut blank)
+    marks::found(ordered, table, &mut blank)
 }

@@ -1,6 +1,6 @@
 // Repeated links by marks, a bit a pair, in time linear in the links: the definitions are in specs/Marks.antt.
 ghost use mathlib.Core.Path.{_≡_};
-ghost use Rattle.table.specs.Marks.{pairAt, marked, mark, foundFrom};
+ghost use Rattle.table.specs.Marks.{pairAt, placeAs, marked, mark, foundFrom};
 
 // The place of a pair of units, the lesser first.
 fn pair_at(a: u16, b: u16) -> usize
@@ -10,6 +10,17 @@ fn pair_at(a: u16, b: u16) -> usize
         256 * (a as usize) + b as usize
     } else {
         256 * (b as usize) + a as usize
+    }
+}
+
+// The place of a link, as an ordered pair or whichever way round.
+fn place(ordered: bool, a: u16, b: u16) -> usize
+    ensures { λ r. ⌜ r ≡ placeAs ordered a b ⌝ }
+{
+    if ordered {
+        256 * (a as usize) + b as usize
+    } else {
+        pair_at(a, b)
     }
 }
 
@@ -29,12 +40,12 @@ fn set_mark(marks: &mut [u8], p: usize)
 }
 
 // Whether some link is marked when its turn comes; leaves at the first.
-pub(crate) fn found(table: &[u16], marks: &mut [u8]) -> bool
-    ensures { λ r. ⌜ r ≡ foundFrom (now (marks .entry)) (now (table .entry)) ⌝ }
+pub(crate) fn found(ordered: bool, table: &[u16], marks: &mut [u8]) -> bool
+    ensures { λ r. ⌜ r ≡ foundFrom (placeAs ordered) (now (marks .entry)) (now (table .entry)) ⌝ }
 {
     let mut i = 0;
     while i + 1 < table.len() {
-        let p = pair_at(table[i], table[i + 1]);
+        let p = place(ordered, table[i], table[i + 1]);
         if is_marked(marks, p) {
             return true;
         }

@@ -11,6 +11,8 @@ use borrow.Author.Tests.{le-leb, lt-leb, lt-ltb, le-ltb, eq-eqb, ne-eqb}
 use Rattle.lists.specs.Folds.{every}
 use Rattle.lists.specs.Rests.{rest-one}
 use Rattle.rules.specs.Basics.{ABSENT, MAX-NUMBER}
+use Rattle.levels.specs.Level.{inRange, wordLevel}
+use Rattle.levels.specs.LevelLaws.{signed-few, signed-many}
 use Rattle.rules.specs.Bounds.{nameOk, numberOk, distOk}
 use Rattle.values.specs.Tops.{raised, topOf}
 
@@ -68,6 +70,18 @@ dist-within x w = go (decLe x MAX-NUMBER) (decLt x ABSENT)
     go (no h) (no l) =
         rw (lt-leb x MAX-NUMBER (omega arith), eq-eqb x ABSENT (omega arith)) (le-leb (raised 1 x) 2049 (omega arith))
 
+level-within : (x : ℕ) → x < 65536 → leb (raised 127 x) 127 ≡ inRange (wordLevel x)
+unfolding inRange
+level-within x w = go (decLt x 32768) (decLe x 0) (decLt x 65409)
+  where
+    go : Dec (x < 32768) → Dec (x ≤ 0) → Dec (x < 65409) → leb (raised 127 x) 127 ≡ inRange (wordLevel x)
+    go (yes l) (yes z) m = rw (signed-few 65536 x l, le-leb x 0 z) (le-leb (raised 127 x) 127 (omega arith))
+    go (yes l) (no z) m = rw (signed-few 65536 x l, lt-leb x 0 (omega arith)) (lt-leb (raised 127 x) 127 (omega arith))
+    go (no l) z (yes m) =
+        rw (signed-many 65536 x (omega arith), lt-leb (65535 - x) 126 (omega arith)) (lt-leb (raised 127 x) 127 (omega arith))
+    go (no l) z (no m) =
+        rw (signed-many 65536 x (omega arith), le-leb (65535 - x) 126 (omega arith)) (le-leb (raised 127 x) 127 (omega arith))
+
 below-one : (count : ℕ) → (count ≡ 0 → ⊥) → (x : ℕ) → x < 65536 → leb (raised 0 x) (count - 1) ≡ ltb x count
 below-one count some x w = go (decLt x count)
   where
@@ -76,6 +90,9 @@ below-one count some x w = go (decLt x count)
     go (no h) = rw (le-ltb x count (omega arith)) (lt-leb (raised 0 x) (count - 1) (omega arith))
 
 module _ (t : List ℕ) (words : (i : ℕ) → getD t i 0 < 65536) where
+  pub levels-within : leb (topOf 127 t) 127 ≡ every (λ (w : ℕ). inRange (wordLevel w)) t
+  levels-within = top-every 127 127 (λ (w : ℕ). inRange (wordLevel w)) level-within t words
+
   pub names-within : (count : ℕ) → leb (topOf 1 t) count ≡ every (nameOk count) t
   names-within count = top-every 1 count (nameOk count) (name-within count) t words
 

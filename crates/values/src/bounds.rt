@@ -3,6 +3,7 @@ ghost use mathlib.Core.Path.{_≡_};
 ghost use Prim.Native.Nat.{ℕ};
 ghost use lib.Dec.{ltb};
 ghost use Rattle.lists.specs.Folds.{every};
+ghost use Rattle.levels.specs.Level.{inRange, wordLevel};
 ghost use Rattle.rules.specs.Bounds.{nameOk, numberOk, distOk};
 ghost use Rattle.rules.specs.Fits.{linksFit};
 ghost use Rattle.values.specs.Tops.{topOf};
@@ -40,6 +41,13 @@ pub fn dists_ok(t: &[u16]) -> bool
     ensures { λ r. ⌜ r ≡ every distOk (now (t .entry)) ⌝ }
 {
     top(1, t) <= 2049
+}
+
+// Every entry is the word of a level in range.
+pub fn levels_ok(t: &[u16]) -> bool
+    ensures { λ r. ⌜ r ≡ every (λ (w : ℕ). inRange (wordLevel w)) (now (t .entry)) ⌝ }
+{
+    top(127, t) <= 127
 }
 
 // Every entry is below `count`.

@@ -2,12 +2,13 @@
 use mathlib.Core.List.{List, [], _∷_, _++_}
 use Prim.Native.Nat.{ℕ, _+_}
 use lib.ListN.{length, getD, take, drop}
+use Rattle.levels.specs.Level.{fromWords}
 use Rattle.machine.specs.State.{State}
 
 -- the words of each field: counts, ends, clock; color, parent, dist; next, pred, jump, sum, forward; nd, pre; low, high, little, big; global low and
--- high; aux parents, links, color; class, label
+-- high; aux parents, links, color; class, label; levels, each the two's complement of a level
 abbrev pub sizes : List ℕ
-sizes = 2 ∷ 2048 ∷ 4 ∷ 256 ∷ 256 ∷ 256 ∷ 512 ∷ 512 ∷ 512 ∷ 512 ∷ 512 ∷ 256 ∷ 256 ∷ 256 ∷ 256 ∷ 256 ∷ 256 ∷ 256 ∷ 256 ∷ 256 ∷ 1024 ∷ 256 ∷ 1024 ∷ 1024 ∷ []
+sizes = 2 ∷ 2048 ∷ 4 ∷ 256 ∷ 256 ∷ 256 ∷ 512 ∷ 512 ∷ 512 ∷ 512 ∷ 512 ∷ 256 ∷ 256 ∷ 256 ∷ 256 ∷ 256 ∷ 256 ∷ 256 ∷ 256 ∷ 256 ∷ 1024 ∷ 256 ∷ 1024 ∷ 1024 ∷ 1024 ∷ []
 
 abbrev pub extent : List ℕ → ℕ
 extent [] = 0
@@ -34,7 +35,7 @@ field i ws = part (place i) (size i) ws
 abbrev pub stateBy : (ℕ → List ℕ) → State
 stateBy f =
     record {
-      table = record { units = getD (f 0) 0 0; links = getD (f 0) 1 0; ends = f 1 };
+      table = record { units = getD (f 0) 0 0; links = getD (f 0) 1 0; ends = f 1; levels = fromWords (f 24) };
       clock = record { stage = getD (f 2) 0 0; made = getD (f 2) 1 0; rounds = getD (f 2) 2 0; requests = getD (f 2) 3 0 };
       components = record { color = f 3 };
       tree = record { parent = f 4; dist = f 5 };

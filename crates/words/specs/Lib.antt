@@ -4,3 +4,4 @@ pub mod FieldLaws
 pub mod CopyLaws
 pub mod Rows
 pub mod SameWords
+pub mod Bare

@@ -7,6 +7,8 @@ use lib.ListN.{getD, take, drop}
 use lib.Seq.{take-add, drop-drop}
 use Rattle.lists.specs.All.{every-append}
 use Rattle.lists.specs.Folds.{every}
+use Rattle.levels.specs.Level.{inRange, wordLevel}
+use Rattle.levels.specs.WordLaws.{words-range}
 use Rattle.rules.specs.Bounds.{nameOk, numberOk, distOk}
 use Rattle.machine.specs.WellFormed.{entriesOk}
 use Rattle.words.specs.Layout.{extent, place, part, field, stateOf}
@@ -34,7 +36,8 @@ pub entries-judged : (ws : List ℕ) (units links : ℕ) → units ≡ stateOf w
     && every (nameOk (2 * units)) (part (place 6) 1536 ws)
     && every (nameOk links) (field 23 ws)
     && every distOk (field 5 ws)
-    && every numberOk (part (place 9) 4352 ws))
+    && every numberOk (part (place 9) 4352 ws)
+    && every (λ (w : ℕ). inRange (wordLevel w)) (field 24 ws))
     ≡ entriesOk (stateOf ws)
 unfolding entriesOk stateOf
 entries-judged ws units links e f =
@@ -45,4 +48,4 @@ entries-judged ws units links e f =
     rw (row-ok named (place 3) (256 ∷ 256 ∷ []) ws, row-ok named (place 21) (256 ∷ 1024 ∷ []) ws)
     (ap (λ (b : Bool). every named (field 1 ws) && b) (sym (every-append (every named) trees classes))) in
     rw (names, row-ok (nameOk (2 * units)) (place 6) (512 ∷ 512 ∷ 512 ∷ []) ws, row-ok numberOk (place 9) (512 ∷ 512 ∷ 256 ∷ 256 ∷ 256 ∷ 256 ∷ 256 ∷ 256 ∷ 256 ∷ 256 ∷ 256 ∷ 1024 ∷ []) ws)
-    (rw (e, f, and-true (every (nameOk (getD (field 0 ws) 1 0)) (field 23 ws)), and-true (every distOk (field 5 ws))) refl)
+    (rw (e, f, and-true (every (nameOk (getD (field 0 ws) 1 0)) (field 23 ws)), and-true (every distOk (field 5 ws)), words-range (field 24 ws)) refl)

@@ -2,17 +2,20 @@
 -- every word that was lent.
 use mathlib.Core.Path.{_≡_, refl, sym, ap, _∙_}
 use mathlib.Core.List.{List, [], _∷_, _++_}
-use Prim.Native.Nat.{ℕ, zero, suc, _+_, _≤_}
+use Prim.Native.Nat.{ℕ, zero, suc, _+_, _≤_, _<_}
+use native.Mathlib.Decide.{decLt}
 use native.Mathlib.Omega.{arith}
-use lib.ListN.{length, getD, take, drop, length-drop}
-use lib.Seq.{length-take-le, take-all}
+use lib.ListN.{length, getD, take, drop, length-drop, length-take, List·getD-eq-default}
+use lib.Seq.{length-take-le, take-all, getD-take, getD-drop}
+use Rattle.levels.specs.Level.{toWords, fromWords}
+use Rattle.levels.specs.WordLaws.{words-kept}
 use Rattle.machine.specs.State.{State}
 use Rattle.words.specs.Layout.{sizes, extent, place, part, field, STATE-WORDS, stateOf}
 use Rattle.words.specs.Rows.{row, two-parts}
 
--- the fields of a state, in the order of the sizes
-abbrev fieldsOf : State → List (List ℕ)
-fieldsOf s =
+-- the fields of a state, in the order of the sizes, the words of its levels last
+abbrev fieldsOf : State → List ℕ → List (List ℕ)
+fieldsOf s levels =
     (s .table .units ∷ s .table .links ∷ [])
     ∷ s .table .ends
     ∷ (s .clock .stage ∷ s .clock .made ∷ s .clock .rounds ∷ s .clock .requests ∷ [])
@@ -37,6 +40,7 @@ fieldsOf s =
     ∷ s .aux .color
     ∷ s .labels .class
     ∷ s .labels .label
+    ∷ levels
     ∷ []
 
 abbrev joined : List (List ℕ) → List ℕ
@@ -45,7 +49,7 @@ joined (t ∷ ts) = t ++ joined ts
 
 -- the words of a state
 unfoldable pub wordsOf : State → List ℕ
-wordsOf s = joined (fieldsOf s)
+wordsOf s = joined (fieldsOf s (toWords (s .table .levels)))
 
 row-joined : (at : ℕ) (ns ws : List ℕ) → joined (row at ns ws) ≡ part at (extent ns) ws
 unfolding part
@@ -70,21 +74,35 @@ part-long : (at n : ℕ) (ws : List ℕ) → at + n ≤ length ws → length (pa
 unfolding part
 part-long at n ws h = length-take-le n (drop at ws) (omega (arith, length-drop at ws, h))
 
-pub words-back : (ws : List ℕ) → length ws ≡ STATE-WORDS → wordsOf (stateOf ws) ≡ ws
-unfolding wordsOf stateOf part
-words-back ws e =
-    of-two (field 0 ws) (field 1 ws ++ (clock ++ rest)) (part-long (place 0) 2 ws (omega (arith, e)))
-    ∙ (ap (λ (l : List ℕ). field 0 ws ++ (field 1 ws ++ l)) (of-four (field 2 ws) rest (part-long (place 2) 4 ws (omega (arith, e))))
-    ∙ (row-joined 0 sizes ws ∙ whole))
+-- every word of a part is one of the whole
+part-words : (at n : ℕ) (ws : List ℕ) → ((i : ℕ) → getD ws i 0 < 65536) → (i : ℕ) → getD (part at n ws) i 0 < 65536
+unfolding part
+part-words at n ws h i = go (decLt i n)
   where
-    clock : List ℕ
-    clock = getD (field 2 ws) 0 0 ∷ getD (field 2 ws) 1 0 ∷ getD (field 2 ws) 2 0 ∷ getD (field 2 ws) 3 0 ∷ []
+    go : Dec (i < n) → getD (take n (drop at ws)) i 0 < 65536
+    go (yes l) = rw (getD-take n (drop at ws) i 0 l, getD-drop at ws i 0) (h (at + i))
+    go (no l) =
+        let past : getD (take n (drop at ws)) i 0 ≡ 0 = List·getD-eq-default (take n (drop at ws)) 0 (omega (arith, length-take n (drop at ws))) in
+        rw past (omega arith)
 
-    rest : List ℕ
-    rest = joined (row (place 3) (drop 3 sizes) ws)
+module _ (ws : List ℕ) (e : length ws ≡ STATE-WORDS) (h : (i : ℕ) → getD ws i 0 < 65536) where
+  clock : List ℕ
+  clock = getD (field 2 ws) 0 0 ∷ getD (field 2 ws) 1 0 ∷ getD (field 2 ws) 2 0 ∷ getD (field 2 ws) 3 0 ∷ []
 
-    whole : part 0 STATE-WORDS ws ≡ ws
-    whole = take-all STATE-WORDS ws (omega (arith, e))
+  rest : List ℕ
+  rest = joined (row (place 3) (drop 3 sizes) ws)
 
-pub same-words : (a b : List ℕ) → length a ≡ STATE-WORDS → length b ≡ STATE-WORDS → stateOf a ≡ stateOf b → a ≡ b
-same-words a b la lb e = sym (words-back a la) ∙ (ap wordsOf e ∙ words-back b lb)
+  levels : toWords (fromWords (field 24 ws)) ≡ field 24 ws
+  levels = words-kept (field 24 ws) (part-words (place 24) 1024 ws h)
+
+  pub words-back : wordsOf (stateOf ws) ≡ ws
+  unfolding wordsOf stateOf part clock rest
+  words-back =
+      ap (λ (l : List ℕ). joined (fieldsOf (stateOf ws) l)) levels
+      ∙ (of-two (field 0 ws) (field 1 ws ++ (clock ++ rest)) (part-long (place 0) 2 ws (omega (arith, e)))
+      ∙ (ap (λ (l : List ℕ). field 0 ws ++ (field 1 ws ++ l)) (of-four (field 2 ws) rest (part-long (place 2) 4 ws (omega (arith, e))))
+      ∙ (row-joined 0 sizes ws ∙ take-all STATE-WORDS ws (omega (arith, e)))))
+
+pub same-words : (a b : List ℕ) → length a ≡ STATE-WORDS → length b ≡ STATE-WORDS → ((i : ℕ) → getD a i 0 < 65536) → ((i : ℕ) → getD b i 0 < 65536)
+    → stateOf a ≡ stateOf b → a ≡ b
+same-words a b la lb ha hb e = sym (words-back a la ha) ∙ (ap wordsOf e ∙ words-back b lb hb)

@@ -5,9 +5,10 @@ use super::take;
 use values::bounds;
 ghost use mathlib.Core.Path.{_≡_};
 ghost use mathlib.Core.Bool.{_&&_};
-ghost use Prim.Native.Nat.{_+_, _*_, _≤_};
+ghost use Prim.Native.Nat.{ℕ, _+_, _*_, _≤_};
 ghost use lib.ListN.{length};
 ghost use Rattle.lists.specs.Folds.{every};
+ghost use Rattle.levels.specs.Level.{inRange, wordLevel};
 ghost use Rattle.rules.specs.Bounds.{nameOk, numberOk, distOk};
 ghost use Rattle.machine.specs.WellFormed.{wellFormed, entriesOk};
 ghost use Rattle.words.specs.Layout.{part, stateOf};
@@ -35,10 +36,14 @@ fn entries_ok(units: u16, links: u16, words: &[u16; STATE_WORDS]) -> bool
     let labels = names_ok(links as u32, layout::LABEL, 1024, words);
     let dists = dists_ok(layout::DIST, 256, words);
     let numbers = numbers_ok(layout::SUM, layout::NUMBERS, words);
+    let levels = levels_ok(layout::LEVELS, 1024, words);
     let named = values::both(ends, values::both(trees, classes));
     values::both(
-        values::both(values::both(values::both(named, arcs), labels), dists),
-        numbers,
+        values::both(
+            values::both(values::both(values::both(named, arcs), labels), dists),
+            numbers,
+        ),
+        levels,
     )
 }
 
@@ -67,4 +72,13 @@ fn numbers_ok(at: usize, n: usize, words: &[u16]) -> bool
 {
     let end = at + n;
     bounds::numbers_ok(&words[at..end])
+}
+
+// Every one is the word of a level in range.
+fn levels_ok(at: usize, n: usize, words: &[u16]) -> bool
+    requires { ⌜ at + n ≤ length (now words) ⌝ }
+    ensures { λ r. ⌜ r ≡ every (λ (w : ℕ). inRange (wordLevel w)) (part at n (now (words .entry))) ⌝ }
+{
+    let end = at + n;
+    bounds::levels_ok(&words[at..end])
 }

@@ -19,12 +19,14 @@ fn lay_two<'a>(one: &'a [u16], at: usize, two: &'a [u16], next: usize, words: &m
     copies::lay(two, next, words);
 }
 
-// The counts and the ends.
+// The counts, the ends and the levels.
 pub fn lay_table(t: Table, words: &mut [u16; STATE_WORDS])
     ensures { λ _. ⌜ stateOf (now (words .exit)) ≡ State.withTable t (stateOf (now (words .entry))) ⌝ }
 {
     copies::lay(&[t.units, t.links], layout::UNITS, words);
     copies::lay(&t.ends, layout::ENDS, words);
+    let levels = levels::words_of(&t.levels);
+    copies::lay(&levels, layout::LEVELS, words);
 }
 
 // The clock.

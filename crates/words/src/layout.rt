@@ -49,8 +49,10 @@ pub(crate) const CLASS: usize = CLASSES + 256;
 
 pub(crate) const LABEL: usize = CLASS + 1024;
 
+pub(crate) const LEVELS: usize = LABEL + 1024;
+
 // The words of a state.
-pub const STATE_WORDS: usize = LABEL + 1024;
+pub const STATE_WORDS: usize = LEVELS + 1024;
 
 // Tables of one kind that stand in a row: units, list places, classes, and numbers.
 pub(crate) const TREES: usize = DIST - COLOR;

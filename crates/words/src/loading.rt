@@ -1,4 +1,4 @@
-// Load on words: 4 to 9.
+// Load on words: 4 to 6, 15, 16, 7 to 9.
 use super::lay;
 use super::layout::STATE_WORDS;
 ghost use mathlib.Core.Path.{_≡_};
@@ -10,25 +10,25 @@ ghost use Rattle.words.specs.Layout.{stateOf};
 ghost use Rattle.words.specs.Begun.{frontBegun, backBegun};
 
 // The number of the first check that fails, with the words as they were; else 0, and the words of the loaded state.
-pub fn load(units: u16, table: &[u16], words: &mut [u16; STATE_WORDS]) -> u8
-    ensures number { λ r. ⌜ r ≡ loadRefusal (record { units = units; words = now (table .entry) }) ⌝ }
+pub fn load(units: u16, table: &[u16], levels: &[i16], words: &mut [u16; STATE_WORDS]) -> u8
+    ensures number { λ r. ⌜ r ≡ loadRefusal (record { units = units; words = now (table .entry); levels = now (levels .entry) }) ⌝ }
     ensures words { λ _. ⌜ stateOf (now (words .exit))
-        ≡ cond (eqb (loadRefusal (record { units = units; words = now (table .entry) })) 0) (loaded (record { units = units; words = now (table .entry) })) (stateOf (now (words .entry))) ⌝ }
+        ≡ cond (eqb (loadRefusal (record { units = units; words = now (table .entry); levels = now (levels .entry) })) 0) (loaded (record { units = units; words = now (table .entry); levels = now (levels .entry) })) (stateOf (now (words .entry))) ⌝ }
 {
-    let refused = table::refusal(units, table);
+    let refused = table::refusal(units, table, levels);
     if refused != 0 {
         return refused;
     }
-    lay_loaded(units, table, words);
+    lay_loaded(units, table, levels, words);
     0
 }
 
 // The state of a table that passes, over any words.
-fn lay_loaded(units: u16, table: &[u16], words: &mut [u16; STATE_WORDS])
-    requires { ⌜ tableRefusal units (now table) ≡ 0 ⌝ }
-    ensures { λ _. ⌜ stateOf (now (words .exit)) ≡ loaded (record { units = units; words = now (table .entry) }) ⌝ }
+fn lay_loaded(units: u16, table: &[u16], levels: &[i16], words: &mut [u16; STATE_WORDS])
+    requires { ⌜ tableRefusal units (now table) (now levels) ≡ 0 ⌝ }
+    ensures { λ _. ⌜ stateOf (now (words .exit)) ≡ loaded (record { units = units; words = now (table .entry); levels = now (levels .entry) }) ⌝ }
 {
-    lay::lay_table(begin::table(units, table), words);
+    lay::lay_table(begin::table(units, table, levels), words);
     lay::lay_clock(begin::clock(), words);
     front(words);
     back(words);

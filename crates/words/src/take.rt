@@ -10,18 +10,25 @@ use state::Labels;
 use state::Order;
 use state::Range;
 use state::Ranking;
-use state::Table;
 use state::Tour;
 use state::Tree;
 ghost use mathlib.Core.Path.{_≡_};
 ghost use Rattle.words.specs.Layout.{stateOf};
+ghost use Rattle.words.specs.Bare.{bareOf};
+
+// The table of links without its levels, which few calls read.
+pub struct BareTable {
+    pub units: u16,
+    pub links: u16,
+    pub ends: [u16; 2048],
+}
 
 // The counts and the ends.
-pub fn table_at(words: &[u16; STATE_WORDS]) -> Table
-    ensures { λ r. ⌜ r ≡ stateOf (now (words .entry)) .table ⌝ }
+pub fn table_at(words: &[u16; STATE_WORDS]) -> BareTable
+    ensures { λ r. ⌜ r ≡ bareOf (stateOf (now (words .entry)) .table) ⌝ }
 {
     let ends = copies::ends_at(words, layout::ENDS);
-    Table {
+    BareTable {
         units: words[layout::UNITS],
         links: words[layout::LINKS],
         ends,

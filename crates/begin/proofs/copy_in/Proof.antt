@@ -42,7 +42,7 @@ loop-again : tie.Need-loop-again Inv-loop μ-loop
 loop-again c =
     let l = c .before .before in
     let a = l .before .args in
-    (search needs, search needs, rw (l .loop .inv .2) (copy-one (a .words .now) (a .ends .now) (l .loop .i) (search needs) (l .before .pre)))
+    (search needs, search needs, rw (l .loop .inv .2) (copy-one (a .words .now) (a .ends .now) (l .loop .i) 0 (search needs) (l .before .pre)))
 
 same-length : tie.Need-same-length Inv-loop μ-loop
 same-length c = search needs

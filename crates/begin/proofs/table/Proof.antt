@@ -1,50 +1,29 @@
--- The words that the table holds, copied.
-use mathlib.Core.Path.{_≡_, refl}
-use native.Mathlib.Omega.{arith}
+-- The two arrays, and half as many links as words.
+use mathlib.Core.Path.{_≡_, refl, sym, _∙_}
+use Prim.Native.Nat.{_/_}
 use lib.ListN.{length, take, length-take}
-use Rattle.machine.specs.LoadLaws.{held-words, length-absents}
 use borrow.Author.Needs.{needs}
 use Rattle.begin.proofs.table.Statement.{statement}
 use Rattle.begin.proofs.table.Tie as tie
 
-blank-requires : tie.Need-blank-requires
-blank-requires c κs = search needs
-
 held-requires : tie.Need-held-requires
 held-requires c κs = search needs
 
-slice-aggregate-copy-in : tie.Need-slice-aggregate-copy-in
-slice-aggregate-copy-in c =
-    let w = c .before .before .before .before .args .words .now in
-    rw (length-take (c .before .held .result) w) (omega (arith, c .before .held .ensures))
+cast-t6 : tie.Need-cast-t6
+cast-t6 c = search needs
 
-slice-aggregate-copy-in-2 : tie.Need-slice-aggregate-copy-in-2
-slice-aggregate-copy-in-2 c = search needs
+ends-requires : tie.Need-ends-requires
+ends-requires c κs = search needs
 
-copy-in-requires : tie.Need-copy-in-requires
-copy-in-requires c κs =
-    let w = c .before .before .before .before .before .args .words .now in
-    rw (length-take (c .before .before .held .result) w, c .before .before .before .blank .ensures, length-absents 2048) (omega (arith, c .before .before .held .ensures))
-
-cast-t12 : tie.Need-cast-t12
-cast-t12 c = search needs
+heard-requires : tie.Need-heard-requires
+heard-requires c κs = search needs
 
 returns : tie.Need-returns
 returns c =
-    let h = c .before .before .before .before in
-    let w = h .before .before .before .args .words .now in
-    let same : take (h .held .result) w ≡ take 2048 w = held-words (h .held .result) w (h .held .ensures) in
-    let count : h .held .result ≡ length (take 2048 w) = rw (length-take 2048 w) (h .held .ensures) in
-    rw (c .before .copy-in .ensures, h .before .blank .ensures, same, count) refl
+    let h = c .before .before in
+    let w = h .before .before .args .words .now in
+    let count : h .held .result ≡ length (take 2048 w) = h .held .ensures ∙ sym (length-take 2048 w) in
+    rw (c .heard .ensures, c .before .ends .ensures, count) refl
 
 pub table-spec : {M : Type 1} → statement M
-table-spec =
-    tie.close
-    (tie.spec
-    blank-requires
-    held-requires
-    slice-aggregate-copy-in
-    slice-aggregate-copy-in-2
-    copy-in-requires
-    cast-t12
-    returns)
+table-spec = tie.close (tie.spec held-requires cast-t6 ends-requires heard-requires returns)

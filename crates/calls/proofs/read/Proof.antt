@@ -19,22 +19,28 @@ enum-known-found-2 c = search needs
 same-length : tie.Need-same-length
 same-length c = search needs
 
-returns : tie.Need-returns
-returns c =
-    let a = c .before .before .before .before .before .before .before .before .before .args in
-    let r = c .before .before .before .before .before .read in
-    let told = sym (c .before .found .given .1) ∙ r .ensures .0 in
-    (ap (readingAnswer (of (a .survey))) told ∙ read-answer (a .file .now) (length (a .words .now)) (of (a .survey)), r .ensures .1 .0)
-
 same-length-2 : tie.Need-same-length-2
 same-length-2 c = search needs
 
+returns : tie.Need-returns
+returns c =
+    let a = c .before .before .before .before .before .before .before .before .before .before .before .args in
+    let r = c .before .before .before .before .before .before .read in
+    let told = sym (c .before .found .given .1) ∙ r .ensures .0 in
+    (ap (readingAnswer (of (a .survey))) told ∙ read-answer (a .file .now) (length (a .words .now)) (length (a .levels .now)) (of (a .survey)), (r .ensures .1 .0, r .ensures .1 .1 .0))
+
+same-length-3 : tie.Need-same-length-3
+same-length-3 c = search needs
+
+same-length-4 : tie.Need-same-length-4
+same-length-4 c = search needs
+
 returns-2 : tie.Need-returns-2
 returns-2 c =
-    let a = c .before .before .before .before .before .before .before .before .before .args in
-    let r = c .before .before .before .before .before .read in
+    let a = c .before .before .before .before .before .before .before .before .before .before .before .args in
+    let r = c .before .before .before .before .before .before .read in
     let told = sym (c .before .found2 .given .1) ∙ r .ensures .0 in
-    (ap (readingAnswer (of (a .survey))) told ∙ read-answer (a .file .now) (length (a .words .now)) (of (a .survey)), r .ensures .1 .0)
+    (ap (readingAnswer (of (a .survey))) told ∙ read-answer (a .file .now) (length (a .words .now)) (length (a .levels .now)) (of (a .survey)), (r .ensures .1 .0, r .ensures .1 .1 .0))
 
 pub read-spec : {M : Type 1} → statement M
 read-spec =
@@ -44,6 +50,8 @@ read-spec =
     enum-known-found
     enum-known-found-2
     same-length
-    returns
     same-length-2
+    returns
+    same-length-3
+    same-length-4
     returns-2)

@@ -24,7 +24,7 @@ returns c =
     let a = c .before .before .before .before .before .before .before .before .before .args in
     let r = c .before .before .before .before .before .write in
     let told = sym (c .before .done .given .1) ∙ r .ensures .0 in
-    (ap (writingAnswer (of (a .survey))) told ∙ write-answer (a .units) (a .words .now) (length (a .out .now)) (of (a .survey)), r .ensures .1 .0)
+    (ap (writingAnswer (of (a .survey))) told ∙ write-answer (record { units = a .units; words = a .words .now; levels = a .levels .now }) (length (a .out .now)) (of (a .survey)), r .ensures .1 .0)
 
 same-length-2 : tie.Need-same-length-2
 same-length-2 c = search needs
@@ -34,7 +34,7 @@ returns-2 c =
     let a = c .before .before .before .before .before .before .before .before .before .args in
     let r = c .before .before .before .before .before .write in
     let told = sym (c .before .done2 .given .1) ∙ r .ensures .0 in
-    (ap (writingAnswer (of (a .survey))) told ∙ write-answer (a .units) (a .words .now) (length (a .out .now)) (of (a .survey)), r .ensures .1 .0)
+    (ap (writingAnswer (of (a .survey))) told ∙ write-answer (record { units = a .units; words = a .words .now; levels = a .levels .now }) (length (a .out .now)) (of (a .survey)), r .ensures .1 .0)
 
 pub write-spec : {M : Type 1} → statement M
 write-spec =

@@ -4,9 +4,9 @@ use Prim.Native.Nat.{_+_, _*_, _/_, _≤_}
 use native.Mathlib.Omega.{arith}
 use lib.ListN.{length}
 use Rattle.table.specs.Table.{linkCount}
-use Rattle.table.specs.Passes.{passes}
+use Rattle.table.specs.Passes.{passes, table-alone}
 use Rattle.files.specs.File.{writeRefusal}
-use Rattle.files.specs.WriteLaws.{write-refused, bytes-refused, written-table, written-fits, write-accepted, bytes-accepted}
+use Rattle.files.specs.WriteLaws.{write-refused, bytes-refused, written-table, written-one, written-fits, write-accepted, bytes-accepted}
 use Rattle.files.specs.Replies.{write-tells}
 use Rattle.files.specs.declared.Writing.{Writing}
 use Rattle.files.specs.declared.Writing.the-variants.{Written}
@@ -14,13 +14,13 @@ use borrow.Author.Needs.{needs}
 use Rattle.files.proofs.write.Statement.{statement}
 use Rattle.files.proofs.write.Tie as tie
 
-accepted : (c : tie.Else1) → writeRefusal (c .before .before .before .before .args .units) (c .before .before .before .before .args .words .now) (length (c .before .before .before .before .args .out .now)) ≡ 0
+accepted : (c : tie.Else1) → writeRefusal (c .before .before .before .before .args .units) (c .before .before .before .before .args .words .now) (c .before .before .before .before .args .levels .now) (length (c .before .before .before .before .args .out .now)) ≡ 0
 accepted c = sym (c .before .refusal .ensures) ∙ c .if1 .left
 
 few : (c : tie.Else1) → linkCount (c .before .before .before .before .args .words .now) ≤ 1024
 few c =
     let a = c .before .before .before .before .args in
-    passes (a .units) (a .words .now) (written-table (a .units) (a .words .now) (length (a .out .now)) (accepted c)) .fewLinks
+    passes (a .units) (a .words .now) (table-alone (a .units) (a .words .now) (a .levels .now) (written-table (a .units) (a .words .now) (a .levels .now) (length (a .out .now)) (accepted c))) .fewLinks
 
 refusal-requires : tie.Need-refusal-requires
 refusal-requires c κs = search needs
@@ -29,27 +29,27 @@ returns : tie.Need-returns
 returns c =
     let a = c .before .before .before .before .args in
     let r = c .before .refusal in
-    let reply = write-refused (a .units) (a .words .now) (length (a .out .now)) (r .result) (r .ensures) (c .if1 .taken) in (
+    let reply = write-refused (a .units) (a .words .now) (a .levels .now) (length (a .out .now)) (r .result) (r .ensures) (c .if1 .taken) in (
       reply,
       (
-        bytes-refused (a .units) (a .words .now) (a .out .now) (r .result) (r .ensures) (c .if1 .taken),
-        write-tells (a .units) (a .words .now) (length (a .out .now)) (Writing.Refused (r .result)) reply,
+        bytes-refused (a .units) (a .words .now) (a .levels .now) (a .out .now) (r .result) (r .ensures) (c .if1 .taken),
+        write-tells (a .units) (a .words .now) (a .levels .now) (length (a .out .now)) (Writing.Refused (r .result)) reply,
       ),
     )
 
 lines-requires : tie.Need-lines-requires
 lines-requires c κs =
     let a = c .before .before .before .before .before .args in
-    (few (c .before), written-fits (a .units) (a .words .now) (length (a .out .now)) (accepted (c .before)))
+    (record { few = few (c .before); one = written-one (a .units) (a .words .now) (a .levels .now) (length (a .out .now)) (accepted (c .before)) }, written-fits (a .units) (a .words .now) (a .levels .now) (length (a .out .now)) (accepted (c .before)))
 
-mul-t11 : tie.Need-mul-t11
-mul-t11 c = omega (arith, few (c .before .before .before .before))
+mul-t12 : tie.Need-mul-t12
+mul-t12 c = omega (arith, few (c .before .before .before .before))
 
-add-t12 : tie.Need-add-t12
-add-t12 c = omega (arith, few (c .before .before .before .before))
+add-t13 : tie.Need-add-t13
+add-t13 c = omega (arith, few (c .before .before .before .before))
 
-cast-t13 : tie.Need-cast-t13
-cast-t13 c = omega (arith, few (c .before .before .before .before))
+cast-t14 : tie.Need-cast-t14
+cast-t14 c = omega (arith, few (c .before .before .before .before))
 
 same-length : tie.Need-same-length
 same-length c = search needs
@@ -58,11 +58,11 @@ returns-2 : tie.Need-returns-2
 returns-2 c =
     let a = c .before .before .before .before .before .before .before .before .args in
     let e = accepted (c .before .before .before .before) in
-    let reply = write-accepted (a .units) (a .words .now) (length (a .out .now)) e in (
+    let reply = write-accepted (a .units) (a .words .now) (a .levels .now) (length (a .out .now)) e in (
       reply,
       (
-        c .before .before .lines .ensures ∙ bytes-accepted (a .units) (a .words .now) (a .out .now) e,
-        write-tells (a .units) (a .words .now) (length (a .out .now)) (Written (18 + 13 * (length (a .words .now) / 2))) reply,
+        c .before .before .lines .ensures ∙ bytes-accepted (a .units) (a .words .now) (a .levels .now) (a .out .now) e,
+        write-tells (a .units) (a .words .now) (a .levels .now) (length (a .out .now)) (Written (18 + 15 * (length (a .words .now) / 2))) reply,
       ),
     )
 
@@ -73,8 +73,8 @@ write-spec =
     refusal-requires
     returns
     lines-requires
-    mul-t11
-    add-t12
-    cast-t13
+    mul-t12
+    add-t13
+    cast-t14
     same-length
     returns-2)

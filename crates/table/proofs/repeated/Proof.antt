@@ -12,7 +12,7 @@ found-requires : tie.Need-found-requires
 found-requires c κs = search needs
 
 returns : tie.Need-returns
-returns c h = c .before .found .ensures ∙ found-blank 8192 refl (c .before .before .before .before .args .table .now) h
+returns c h = c .before .found .ensures ∙ (let a = c .before .before .before .before .args in found-blank (a .ordered) 8192 refl (a .table .now) h)
 
 pub repeated-spec : {M : Type 1} → statement M
 repeated-spec = tie.close (tie.spec slice-aggregate-found found-requires returns)

@@ -72,20 +72,20 @@ const CALLS: [&str; 10] = ["report", "read", "write", "load", "round", "run", "s
 /// The deepest that each call goes on one site: round by round, and at the end.
 fn depths(meter: &mut Meter, calls: &Calls, site: &Site) -> [usize; 10] {
     let mut file = vec![0; file_length(site.links())];
-    write_file(site.units, &site.table, &mut file).expect("a site passes the checks");
+    write_file(site.units, &site.table, &site.levels, &mut file).expect("a site passes the checks");
     let mut out = vec![0; report_length(usize::from(site.units), site.links())];
     let mut state = Box::new([0; Survey::WORDS]);
     let mut number = 0;
 
     let report = meter.depth(|| number = (calls.report)(&file, &mut out));
     assert_eq!(number as usize, out.len());
-    let mut words = vec![0; site.table.len()];
-    let read = meter.depth(|| number = (calls.read)(&file, &mut words, &mut 0, &mut 0));
+    let (mut words, mut levels) = (vec![0; site.table.len()], vec![0; site.links()]);
+    let read = meter.depth(|| number = (calls.read)(&file, &mut words, &mut levels, &mut 0, &mut 0));
     assert_eq!(number, 0);
-    assert_eq!(words, site.table);
-    let write = meter.depth(|| number = (calls.write)(site.units, &site.table, &mut file));
+    assert_eq!((&words, &levels), (&site.table, &site.levels));
+    let write = meter.depth(|| number = (calls.write)(site.units, &site.table, &site.levels, &mut file));
     assert_eq!(number, 0);
-    let load = meter.depth(|| number = (calls.load)(&mut state, site.units, &site.table));
+    let load = meter.depth(|| number = (calls.load)(&mut state, site.units, &site.table, &site.levels));
     assert_eq!(number, 0);
     let first = state.clone();
     let run = meter.depth(|| {

@@ -2,7 +2,7 @@
 
 use plain::face::PROVED;
 use plain::random::Random;
-use plain::sites::{Site, ladder, path, ring, scattered, star};
+use plain::sites::{Site, ladder, path, ring, scattered, some_level, star};
 use plain::words::{Calls, PLAIN, State};
 use plain::{Survey, file_length, report_length, report_of_file, write_file};
 
@@ -27,16 +27,19 @@ pub enum Work {
 /// The largest sites.
 pub const LARGEST: [&str; 5] = ["path", "ring", "full", "star", "ladder"];
 
-/// A site by its shape and number of units.
+/// A site by its shape and number of units, with levels that chance picks.
 pub fn site(shape: &str, units: usize) -> Option<Site> {
-    Some(match shape {
+    let site = match shape {
         "path" => path(units),
         "ring" => ring(units),
         "full" => scattered(&mut Random::new(256, 1024), units, 4 * units),
         "star" => star(units),
         "ladder" => ladder(units),
         _ => return None,
-    })
+    };
+    let random = &mut Random::new(128, 1024);
+    let levels = site.levels.iter().map(|_| some_level(random)).collect();
+    Some(Site { levels, ..site })
 }
 
 /// Places that memory is moved by, so that no result hangs on how it lies.
@@ -55,7 +58,7 @@ pub struct Bench {
 impl Bench {
     pub fn new(site: Site) -> Bench {
         let mut file = vec![0; file_length(site.links())];
-        write_file(site.units, &site.table, &mut file).expect("a site passes the checks");
+        write_file(site.units, &site.table, &site.levels, &mut file).expect("a site passes the checks");
         let length = report_length(usize::from(site.units), site.links());
         let state = vec![0; Survey::WORDS + SHIFTS];
         Bench { site, file, survey: Box::default(), state, out: vec![0; length + SHIFTS], length }
@@ -67,8 +70,8 @@ impl Bench {
         let state = self.state[shift..].first_chunk_mut().expect("room for a state");
         let done = match (work, side) {
             (Work::Words, Side::Plain) => {
-                let survey = &mut self.survey;
-                survey.load(self.site.units, &self.site.table).is_ok() && survey.run(u16::MAX).is_ok() && survey.report(out).is_ok()
+                let (survey, site) = (&mut self.survey, &self.site);
+                survey.load(site.units, &site.table, &site.levels).is_ok() && survey.run(u16::MAX).is_ok() && survey.report(out).is_ok()
             }
             (Work::Words, Side::Proved) => called(&PROVED, &self.site, state, out),
             (Work::Words, Side::PlainOnWords) => called(&PLAIN, &self.site, state, out),
@@ -99,5 +102,7 @@ impl Bench {
 }
 
 fn called(calls: &Calls, site: &Site, state: &mut State, out: &mut [u8]) -> bool {
-    (calls.load)(state, site.units, &site.table) == 0 && (calls.run)(state, u16::MAX, &mut 0) == 0 && (calls.state_report)(state, out) == 0
+    (calls.load)(state, site.units, &site.table, &site.levels) == 0
+        && (calls.run)(state, u16::MAX, &mut 0) == 0
+        && (calls.state_report)(state, out) == 0
 }

@@ -8,7 +8,7 @@ use plain::words::{LinkReply, PLAIN, State, StatusReply, UnitReply};
 /// A call on a state, with the memory for its reply as it is lent.
 #[derive(Clone, Debug)]
 pub enum Call {
-    Load { units: u16, table: Vec<u16> },
+    Load { units: u16, table: Vec<u16>, levels: Vec<i16> },
     Round,
     Run { budget: u16, made: u16 },
     Status { reply: StatusReply },
@@ -32,6 +32,7 @@ impl Call {
 }
 
 const WORD_MARGIN: u16 = 0xC3A5;
+const LEVEL_MARGIN: i16 = 0x3CA5;
 const BYTE_MARGIN: u8 = 0xA5;
 
 /// Both sides got the same number.
@@ -46,12 +47,14 @@ pub fn lent_state(words: &State) -> Lent<u16> {
 /// Makes the call; the number that both returned, or where they differ.
 pub fn both(state: &mut Lent<u16>, call: &Call) -> Result<u32, String> {
     let number = match call {
-        Call::Load { units, table } => {
+        Call::Load { units, table, levels } => {
             let mut table = Lent::new(table, WORD_MARGIN);
-            let proved = (PROVED.load)(state.proved_array(), *units, table.proved());
-            let plain = (PLAIN.load)(state.plain_array(), *units, table.plain());
+            let mut levels = Lent::new(levels, LEVEL_MARGIN);
+            let proved = (PROVED.load)(state.proved_array(), *units, table.proved(), levels.proved());
+            let plain = (PLAIN.load)(state.plain_array(), *units, table.plain(), levels.plain());
             let number = agree(proved, plain)?;
             table.difference("table")?;
+            levels.difference("levels")?;
             Ok(number)
         }
         Call::Round => agree((PROVED.round)(state.proved_array()), (PLAIN.round)(state.plain_array())),
@@ -109,30 +112,35 @@ pub fn both_report(input: &[u8], out: &[u8]) -> Result<(u32, Vec<u8>), String> {
     Ok((written, out.plain().to_vec()))
 }
 
-/// Reads a file into the words lent for its ends, and into one word each for the unit count and the number of links.
-pub fn both_read(input: &[u8], table: &[u16], units: u16, links: u16) -> Result<u32, String> {
+/// Reads a file into the words lent for its ends and the places for its levels, and into one word each for the unit count and the
+/// number of links.
+pub fn both_read(input: &[u8], table: &[u16], levels: &[i16], units: u16, links: u16) -> Result<u32, String> {
     let mut input = Lent::new(input, BYTE_MARGIN);
     let mut table = Lent::new(table, WORD_MARGIN);
+    let mut levels = Lent::new(levels, LEVEL_MARGIN);
     let mut units = Lent::new(&[units], WORD_MARGIN);
     let mut links = Lent::new(&[links], WORD_MARGIN);
-    let proved = (PROVED.read)(input.proved(), table.proved(), &mut units.proved()[0], &mut links.proved()[0]);
-    let plain = (PLAIN.read)(input.plain(), table.plain(), &mut units.plain()[0], &mut links.plain()[0]);
+    let proved = (PROVED.read)(input.proved(), table.proved(), levels.proved(), &mut units.proved()[0], &mut links.proved()[0]);
+    let plain = (PLAIN.read)(input.plain(), table.plain(), levels.plain(), &mut units.plain()[0], &mut links.plain()[0]);
     let number = agree(proved, plain)?;
     input.difference("input")?;
     table.difference("table")?;
+    levels.difference("levels")?;
     units.difference("units")?;
     links.difference("links")?;
     Ok(number)
 }
 
-/// Writes the file of a table.
-pub fn both_write(units: u16, table: &[u16], out: &[u8]) -> Result<u32, String> {
+/// Writes the file of a table and its levels.
+pub fn both_write(units: u16, table: &[u16], levels: &[i16], out: &[u8]) -> Result<u32, String> {
     let mut table = Lent::new(table, WORD_MARGIN);
+    let mut levels = Lent::new(levels, LEVEL_MARGIN);
     let mut out = Lent::new(out, BYTE_MARGIN);
-    let proved = (PROVED.write)(units, table.proved(), out.proved());
-    let plain = (PLAIN.write)(units, table.plain(), out.plain());
+    let proved = (PROVED.write)(units, table.proved(), levels.proved(), out.proved());
+    let plain = (PLAIN.write)(units, table.plain(), levels.plain(), out.plain());
     let number = agree(proved, plain)?;
     table.difference("table")?;
+    levels.difference("levels")?;
     out.difference("out")?;
     Ok(number)
 }

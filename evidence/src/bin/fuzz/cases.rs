@@ -40,6 +40,11 @@ fn words(random: &mut Random, needed: usize) -> Vec<u16> {
     (0..some_length(random, needed)).map(|_| random.word()).collect()
 }
 
+/// Places for the levels of a file's links, with anything in them.
+fn levels(random: &mut Random, needed: usize) -> Vec<i16> {
+    (0..some_length(random, needed)).map(|_| random.word() as i16).collect()
+}
+
 fn budget(random: &mut Random) -> u16 {
     match random.below(16) {
         0 => 0,
@@ -128,15 +133,17 @@ fn file(random: &mut Random, tally: &mut Tally) -> Result<(), String> {
     Ok(())
 }
 
-/// A file, whole or damaged, into words that are enough, more or too few.
+/// A file, whole or damaged, into words and levels that are enough, more or too few.
 fn read(random: &mut Random, tally: &mut Tally) -> Result<(), String> {
     let (_, input) = any_file(random);
     tally.kind("file read");
-    let needed = read_file(&input, &mut [0; 2048]).map_or(random.below(2049), |contents| 2 * usize::from(contents.links));
-    let table = words(random, needed);
+    let read = read_file(&input, &mut [0; 2048], &mut [0; 1024]);
+    let needed = read.map_or(random.below(1025), |contents| usize::from(contents.links));
+    let (table, levels) = (words(random, 2 * needed), levels(random, needed));
     let (units, links) = (random.word(), random.word());
-    let number = both_read(&input, &table, units, links).map_err(|difference| {
-        found(&format!("read, {} words, units {units}, links {links}", table.len()), &input.escape_ascii().to_string(), &difference)
+    let number = both_read(&input, &table, &levels, units, links).map_err(|difference| {
+        let call = format!("read, {} words, {} levels, units {units}, links {links}", table.len(), levels.len());
+        found(&call, &input.escape_ascii().to_string(), &difference)
     })?;
     tally.number("read", number);
     Ok(())
@@ -152,7 +159,7 @@ fn write(random: &mut Random, tally: &mut Tally) -> Result<(), String> {
     tally.kind(if faulty { "faulty table written" } else { "table written" });
     let length = some_length(random, file_length(site.links()));
     let out = bytes(random, length);
-    let number = both_write(site.units, &site.table, &out)
+    let number = both_write(site.units, &site.table, &site.levels, &out)
         .map_err(|difference| found(&format!("write, {length} bytes"), &format!("{site:?}"), &difference))?;
     tally.number("write", number);
     Ok(())
@@ -166,7 +173,7 @@ fn load(random: &mut Random, tally: &mut Tally) -> Result<(), String> {
     }
     tally.kind(if faulty { "load of a faulty table" } else { "load of a table" });
     let (_, words) = any_words(random);
-    one_call(tally, &mut lent_state(&words), &Call::Load { units: site.units, table: site.table })
+    one_call(tally, &mut lent_state(&words), &Call::Load { units: site.units, table: site.table, levels: site.levels })
 }
 
 fn state(random: &mut Random, tally: &mut Tally) -> Result<(), String> {
@@ -191,7 +198,7 @@ fn list(random: &mut Random, tally: &mut Tally) -> Result<(), String> {
         let mut call = any_call(random, state.before());
         if random.once_in(60) {
             let site = any_site(random);
-            call = Call::Load { units: site.units, table: site.table };
+            call = Call::Load { units: site.units, table: site.table, levels: site.levels };
         }
         one_call(tally, &mut state, &call)?;
     }

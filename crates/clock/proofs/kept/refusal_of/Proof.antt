@@ -7,17 +7,17 @@ use borrow.Author.Needs.{needs}
 use Rattle.clock.proofs.kept.refusal_of.Statement.{statement}
 use Rattle.clock.proofs.kept.refusal_of.Tie as tie
 
-refusal-requires : tie.Need-refusal-requires
-refusal-requires c κs = search needs
+bare-refusal-requires : tie.Need-bare-refusal-requires
+bare-refusal-requires c κs = search needs
 
 returns : tie.Need-returns
-returns c = rw (take-all (c .before .before .before .args .words) (c .before .before .before .args .ends .now) (omega arith)) (c .refusal .ensures)
+returns c = rw (take-all (c .before .before .before .args .words) (c .before .before .before .args .ends .now) (omega arith)) (c .bare-refusal .ensures)
 
-slice-aggregate-refusal : tie.Need-slice-aggregate-refusal
-slice-aggregate-refusal c = rw (length-take (c .before .before .before .args .words) (c .before .before .before .args .ends .now)) (omega arith)
+slice-aggregate-bare-refusal : tie.Need-slice-aggregate-bare-refusal
+slice-aggregate-bare-refusal c = rw (length-take (c .before .before .before .args .words) (c .before .before .before .args .ends .now)) (omega arith)
 
-refusal-requires-2 : tie.Need-refusal-requires-2
-refusal-requires-2 c κs = search needs
+bare-refusal-requires-2 : tie.Need-bare-refusal-requires-2
+bare-refusal-requires-2 c κs = search needs
 
 returns-2 : tie.Need-returns-2
 returns-2 c = search needs
@@ -25,4 +25,4 @@ returns-2 c = search needs
 pub refusal-of-spec : {M : Type 1} → statement M
 refusal-of-spec =
     tie.close
-    (tie.spec refusal-requires returns slice-aggregate-refusal refusal-requires-2 returns-2)
+    (tie.spec bare-refusal-requires returns slice-aggregate-bare-refusal bare-refusal-requires-2 returns-2)

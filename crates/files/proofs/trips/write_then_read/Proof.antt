@@ -5,8 +5,8 @@ use Prim.Native.Nat.{ℕ, _≤_}
 use native.Mathlib.Omega.{arith}
 use lib.ListN.{length, take}
 use lib.Seq.{length-take-le}
-use Rattle.files.specs.File.{writeReply, readReply, readWords}
-use Rattle.files.specs.TripLaws.{copy-refused, copy-kept, written-front, written-long, copy-read, copy-words}
+use Rattle.files.specs.File.{writeReply, readReply, readWords, readLevels}
+use Rattle.files.specs.TripLaws.{copy-refused, copy-kept, copy-kept-levels, written-front, written-long, copy-read, copy-words, copy-levels}
 use Rattle.files.specs.declared.Writing.the-variants.{Written}
 use Rattle.files.specs.Replies.{copy-tells}
 use Rattle.files.specs.declared.Reading.{Reading}
@@ -14,16 +14,23 @@ use borrow.Author.Needs.{needs}
 use Rattle.files.proofs.trips.write_then_read.Statement.{statement}
 use Rattle.files.proofs.trips.write_then_read.Tie as tie
 
+-- the writing, and the call's start
+abbrev wrote : tie.After-known-told2 → tie.After-write
+wrote c = c .before .before .before .before .before
+
+abbrev start : tie.After-write → tie.Start
+start w = w .before .before .before .before .before
+
 -- the reply of the writing where a file was written, and its characters
 done : (c : tie.After-known-told2)
-    → writeReply (c .before .before .before .before .before .before .before .before .before .before .args .units) (c .before .before .before .before .before .before .before .before .before .before .args .words .now) (length (c .before .before .before .before .before .before .before .before .before .before .args .file .now)) ≡ Written (c .before .done2 .given .0 .0)
-done c = sym (c .before .before .before .before .before .write .ensures .0) ∙ c .before .done2 .given .1
+    → writeReply (start (wrote c) .args .units) (start (wrote c) .args .words .now) (start (wrote c) .args .levels .now) (length (start (wrote c) .args .file .now)) ≡ Written (c .before .done2 .given .0 .0)
+done c = sym (wrote c .write .ensures .0) ∙ c .before .done2 .given .1
 
-long : (c : tie.After-known-told2) → c .before .done2 .given .0 .0 ≤ length (c .before .before .before .before .before .write .last .1 .1 .0)
+long : (c : tie.After-known-told2) → c .before .done2 .given .0 .0 ≤ length (wrote c .write .last .1 .1 .1 .0)
 long c =
-    let a = c .before .before .before .before .before .before .before .before .before .before .args in
-    let fits = written-long (a .units) (a .words .now) (length (a .file .now)) (c .before .done2 .given .0 .0) (done c) (a .file .now) refl in
-    omega (arith, fits, c .before .before .before .before .before .write .kept)
+    let a = start (wrote c) .args in
+    let fits = written-long (a .units) (a .words .now) (a .levels .now) (length (a .file .now)) (c .before .done2 .given .0 .0) (done c) (a .file .now) refl in
+    omega (arith, fits, wrote c .write .kept)
 
 write-requires : tie.Need-write-requires
 write-requires c κs = search needs
@@ -41,8 +48,7 @@ slice-reshare-prefix-read : tie.Need-slice-reshare-prefix-read
 slice-reshare-prefix-read c = long c
 
 slice-aggregate-read : tie.Need-slice-aggregate-read
-slice-aggregate-read c =
-    sym (length-take-le (c .before .before .done2 .given .0 .0) (c .before .before .before .before .before .before .write .last .1 .1 .0) (long (c .before)))
+slice-aggregate-read c = sym (length-take-le (c .before .before .done2 .given .0 .0) (wrote (c .before) .write .last .1 .1 .1 .0) (long (c .before)))
 
 read-requires : tie.Need-read-requires
 read-requires c κs = search needs
@@ -52,15 +58,24 @@ same-length c = search needs
 
 returns : tie.Need-returns
 returns c =
-    let a = c .before .before .before .before .before .before .before .before .before .before .args in
-    let w = c .before .before .before .before .before .write in
+    let w = c .before .before .before .before .before in
+    let a = start w .args in
     let k = c .before .done .given .0 .0 in
-    let e = sym (w .ensures .0) ∙ c .before .done .given .1 in
-    let reply = copy-refused (a .units) (a .words .now) (length (a .file .now)) k e (length (a .copy .now)) in (
+    let e = sym (w .write .ensures .0) ∙ c .before .done .given .1 in
+    let chars = length (a .file .now) in
+    let places = length (a .copy .now) in
+    let spaces = length (a .copied .now) in
+    let reply = copy-refused (a .units) (a .words .now) (a .levels .now) chars k e places spaces in (
       reply,
       (
-        w .ensures .1 .0,
-        (copy-kept (a .units) (a .words .now) (length (a .file .now)) k e (a .copy .now), copy-tells (a .units) (a .words .now) (length (a .file .now)) (length (a .copy .now)) (Reading.Refused k) reply),
+        w .write .ensures .1 .0,
+        (
+          copy-kept (a .units) (a .words .now) (a .levels .now) chars k e (a .copy .now) spaces,
+          (
+            copy-kept-levels (a .units) (a .words .now) (a .levels .now) chars k e places (a .copied .now),
+            copy-tells (a .units) (a .words .now) (a .levels .now) chars places spaces (Reading.Refused k) reply,
+          ),
+        ),
       ),
     )
 
@@ -70,22 +85,31 @@ same-length-2 c = search needs
 same-length-3 : tie.Need-same-length-3
 same-length-3 c = search needs
 
+same-length-4 : tie.Need-same-length-4
+same-length-4 c = search needs
+
 returns-2 : tie.Need-returns-2
 returns-2 c =
-    let a = c .before .before .before .before .before .before .before .before .before .before .before .before .before .before .before .args in
-    let w = c .before .before .before .before .before .before .before .before .before .before .write in
-    let r = c .before .before .read in
-    let m = c .before .before .before .before .before .before .done2 .given .0 .0 in
-    let e = done (c .before .before .before .before .before) in
+    let t = c .before .before .before .before .before .before .before in
+    let w = wrote t in
+    let a = start w .args in
+    let r = c .before .before .before .read in
+    let m = t .before .done2 .given .0 .0 in
+    let e = done t in
     let chars = length (a .file .now) in
-    let front = ap (take m) (w .ensures .1 .0) ∙ written-front (a .units) (a .words .now) chars m e (a .file .now) refl in
-    let reply = r .ensures .0 ∙ ap (λ (l : List ℕ). readReply l (length (a .copy .now))) front ∙ copy-read (a .units) (a .words .now) chars m e (length (a .copy .now)) in (
+    let places = length (a .copy .now) in
+    let spaces = length (a .copied .now) in
+    let front = ap (take m) (w .write .ensures .1 .0) ∙ written-front (a .units) (a .words .now) (a .levels .now) chars m e (a .file .now) refl in
+    let reply = r .ensures .0 ∙ ap (λ (l : List ℕ). readReply l places spaces) front ∙ copy-read (a .units) (a .words .now) (a .levels .now) chars m e places spaces in (
       reply,
       (
-        w .ensures .1 .0,
+        w .write .ensures .1 .0,
         (
-          r .ensures .1 .0 ∙ ap (λ (l : List ℕ). readWords l (a .copy .now)) front ∙ copy-words (a .units) (a .words .now) chars m e (a .copy .now),
-          copy-tells (a .units) (a .words .now) chars (length (a .copy .now)) (r .result) reply,
+          r .ensures .1 .0 ∙ ap (λ (l : List ℕ). readWords l (a .copy .now) spaces) front ∙ copy-words (a .units) (a .words .now) (a .levels .now) chars m e (a .copy .now) spaces,
+          (
+            r .ensures .1 .1 .0 ∙ ap (λ (l : List ℕ). readLevels l places (a .copied .now)) front ∙ copy-levels (a .units) (a .words .now) (a .levels .now) chars m e places (a .copied .now),
+            copy-tells (a .units) (a .words .now) (a .levels .now) chars places spaces (r .result) reply,
+          ),
         ),
       ),
     )
@@ -105,4 +129,5 @@ write-then-read-spec =
     returns
     same-length-2
     same-length-3
+    same-length-4
     returns-2)

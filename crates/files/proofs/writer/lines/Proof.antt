@@ -47,7 +47,7 @@ returns : tie.Need-returns
 returns c =
     let s = c .before .before .before .before .before .before .before .before .before .before .before .before .before .before in
     rw (c .before .before .one-number2 .ensures, c .before .before .before .before .before .before .link-lines .ensures, c .before .before .before .before .before .before .before .before .before .before .one-number .ensures)
-    (file-laid (s .args .units) (s .args .words .now) (s .args .out .now) (s .pre .1))
+    (file-laid (s .args .units) (s .args .words .now) (s .args .levels .now) (s .args .out .now) (s .pre .0 .one) (s .pre .1))
 
 pub lines-spec : {M : Type 1} → statement M
 lines-spec =

@@ -2,17 +2,19 @@
 use mathlib.Core.Path.{_≡_, sym, _∙_}
 use native.Mathlib.Omega.{arith}
 use Rattle.table.specs.Table.{tableRefusal}
-use Rattle.table.specs.Passes.{Passes, passes}
+use Rattle.table.specs.Passes.{Passes, passes, table-alone}
 use Rattle.files.specs.WriteLaws.{write-table, write-14, write-0}
 use borrow.Author.Needs.{needs}
 use Rattle.files.proofs.writer.refusal.Statement.{statement}
 use Rattle.files.proofs.writer.refusal.Tie as tie
 
-none : (c : tie.Else1) → tableRefusal (c .before .before .before .args .units) (c .before .before .before .args .words .now) ≡ 0
+none : (c : tie.Else1) → tableRefusal (c .before .before .before .args .units) (c .before .before .before .args .words .now) (c .before .before .before .args .levels .now) ≡ 0
 none c = sym (c .before .refusal .ensures) ∙ c .if1 .left
 
 passed : (c : tie.Else1) → Passes (c .before .before .before .args .units) (c .before .before .before .args .words .now)
-passed c = passes (c .before .before .before .args .units) (c .before .before .before .args .words .now) (none c)
+passed c =
+    let a = c .before .before .before .args in
+    passes (a .units) (a .words .now) (table-alone (a .units) (a .words .now) (a .levels .now) (none c))
 
 refusal-requires : tie.Need-refusal-requires
 refusal-requires c κs = search needs
@@ -21,7 +23,7 @@ returns : tie.Need-returns
 returns c =
     let a = c .before .before .before .args in
     let r = c .before .refusal .ensures in
-    r ∙ write-table (a .units) (a .words .now) (a .places) (λ z. c .if1 .taken (r ∙ z))
+    r ∙ write-table (a .units) (a .words .now) (a .levels .now) (a .places) (λ z. c .if1 .taken (r ∙ z))
 
 mul-if2 : tie.Need-mul-if2
 mul-if2 c = omega (arith, passed c .fewLinks)
@@ -32,12 +34,12 @@ add-if2 c = omega (arith, passed c .fewLinks)
 returns-2 : tie.Need-returns-2
 returns-2 c =
     let a = c .before .before .before .before .args in
-    write-14 (a .units) (a .words .now) (a .places) (none (c .before)) (c .if2 .taken)
+    write-14 (a .units) (a .words .now) (a .levels .now) (a .places) (none (c .before)) (c .if2 .taken)
 
 returns-3 : tie.Need-returns-3
 returns-3 c =
     let a = c .before .before .before .before .args in
-    write-0 (a .units) (a .words .now) (a .places) (none (c .before)) (c .if2 .left)
+    write-0 (a .units) (a .words .now) (a .levels .now) (a .places) (none (c .before)) (c .if2 .left)
 
 pub refusal-spec : {M : Type 1} → statement M
 refusal-spec = tie.close (tie.spec refusal-requires returns mul-if2 add-if2 returns-2 returns-3)

@@ -13,9 +13,13 @@ returns-3 : tie.Need-returns-3
 returns-3 c = rw (c .match .keys3)
 
 returns-4 : tie.Need-returns-4
-returns-4 c =
+returns-4 c = rw (c .match .keys4)
+
+returns-5 : tie.Need-returns-5
+returns-5 c =
     let k = c .before .args .kind in
-    rw (ne-eqb k 1 (c .match .rest .0 .0 .1), ne-eqb k 2 (c .match .rest .0 .1), ne-eqb k 15 (c .match .rest .1))
+    let r = c .match .rest in
+    rw (ne-eqb k 1 (r .0 .0 .0 .1), ne-eqb k 2 (r .0 .0 .1), ne-eqb k 3 (r .0 .1), ne-eqb k 15 (r .1))
 
 pub frame-bytes-spec : {M : Type 1} → statement M
-frame-bytes-spec = tie.close (tie.spec returns returns-2 returns-3 returns-4)
+frame-bytes-spec = tie.close (tie.spec returns returns-2 returns-3 returns-4 returns-5)

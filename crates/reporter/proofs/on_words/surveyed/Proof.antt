@@ -17,7 +17,7 @@ use Rattle.reporter.proofs.on_words.surveyed.Tie as tie
 abbrev taken : tie.After-load → Input
 taken l =
     let a = l .before .before .before .before .before .args in
-    record { units = a .units; words = a .table .now }
+    record { units = a .units; words = a .table .now; levels = a .levels .now }
 
 -- the number of the load
 told : (l : tie.After-load) → l .load .result ≡ loadRefusal (taken l)
@@ -27,7 +27,7 @@ accepted : (e : tie.Else2) → loadRefusal (taken (e .before)) ≡ 0
 accepted e = sym (told (e .before)) ∙ e .if2 .left
 
 fits-in : (c : tie.Else3) → length (taken (c .before .before .before .before .before .before .before .before .before .before) .words) ≤ 2048
-fits-in c = passed-fits (taken (c .before .before .before .before .before .before .before .before .before .before) .units) _ (accepted (c .before .before .before .before .before .before .before .before .before))
+fits-in c = passed-fits (taken (c .before .before .before .before .before .before .before .before .before .before) .units) _ _ (accepted (c .before .before .before .before .before .before .before .before .before)) .0
 
 -- the words after the run are the survey
 ended : (r : tie.After-run) → stateOf (r .run .last .0) ≡ surveyed (taken (r .before .before .before .before))

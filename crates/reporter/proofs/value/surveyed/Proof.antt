@@ -15,7 +15,7 @@ use Rattle.reporter.proofs.value.surveyed.Tie as tie
 abbrev taken : tie.After-number-of → Input
 taken n =
     let a = n .before .before .before .before .before .before .args in
-    record { units = a .units; words = a .table .now }
+    record { units = a .units; words = a .table .now; levels = a .levels .now }
 
 -- the number of the load
 told : (n : tie.After-number-of) → n .number-of .result ≡ loadRefusal (taken n)

@@ -11,7 +11,7 @@ use Rattle.survey.proofs.kept.kept.Tie as tie
 abbrev the : tie.Start → State
 the s =
     let a = s .args in
-    record { table = record { units = a .units; links = a .links; ends = a .ends .now }; clock = a .clock; components = record { color = a .color .now }; tree = record { parent = a .parent .now; dist = a .dist .now }; tour = record { next = a .next .now; pred = a .pred .now }; ranking = record { jump = a .jump .now; sum = a .sum .now }; order = record { forward = a .forward .now; nd = a .nd .now; pre = a .pre .now }; range = record { low = a .low .now; high = a .high .now; little = a .little .now; big = a .big .now }; global = record { low = a .least .now; high = a .greatest .now }; aux = record { parents = a .parents .now; links = a .linked .now; color = a .classes .now }; labels = record { class = a .class .now; label = a .label .now } }
+    record { table = record { units = a .units; links = a .links; ends = a .ends .now; levels = a .levels .now }; clock = a .clock; components = record { color = a .color .now }; tree = record { parent = a .parent .now; dist = a .dist .now }; tour = record { next = a .next .now; pred = a .pred .now }; ranking = record { jump = a .jump .now; sum = a .sum .now }; order = record { forward = a .forward .now; nd = a .nd .now; pre = a .pre .now }; range = record { low = a .low .now; high = a .high .now; little = a .little .now; big = a .big .now }; global = record { low = a .least .now; high = a .greatest .now }; aux = record { parents = a .parents .now; links = a .linked .now; color = a .classes .now }; labels = record { class = a .class .now; label = a .label .now } }
 
 front-ok-requires : tie.Need-front-ok-requires
 front-ok-requires c κs = search needs
@@ -46,6 +46,9 @@ numbers-ok-requires-2 c κs = search needs
 numbers-ok-requires-3 : tie.Need-numbers-ok-requires-3
 numbers-ok-requires-3 c κs = search needs
 
+all-in-range-requires : tie.Need-all-in-range-requires
+all-in-range-requires c κs = search needs
+
 both-requires : tie.Need-both-requires
 both-requires c κs = search needs
 
@@ -67,9 +70,13 @@ both-requires-6 c κs = search needs
 both-requires-7 : tie.Need-both-requires-7
 both-requires-7 c κs = search needs
 
+both-requires-8 : tie.Need-both-requires-8
+both-requires-8 c κs = search needs
+
 returns-2 : tie.Need-returns-2
 returns-2 c =
-    let n3 = c .before .before .before .before .before .before .before in
+    let v = c .before .before .before .before .before .before .before .before in
+    let n3 = v .before .before in
     let n2 = n3 .before .before .before .before .before in
     let n1 = n2 .before .before .before .before .before in
     let d = n1 .before .before .before .before .before in
@@ -78,12 +85,12 @@ returns-2 c =
     let f = a .before .before .before .before in
     let e = f .before .before .before .before .before in
     let t = e .before .before in
-    kept-parts (the (t .before .before .before)) _ _ _ _ _ _ _ _ _ _ _ _ _ _ _
+    kept-parts (the (t .before .before .before)) _ _ _ _ _ _ _ _ _ _ _ _ _ _ _ _ _
     (sym (t .before .front-ok .ensures) ∙ not-false _ (t .if1 .left))
     (e .names-ok .ensures) (f .four-ok .ensures) (a .three-ok .ensures) (l .names-ok2 .ensures) (d .dists-ok .ensures)
-    (n1 .numbers-ok .ensures) (n2 .numbers-ok2 .ensures) (n3 .numbers-ok3 .ensures)
-    (c .before .before .before .before .before .before .both .ensures) (c .before .before .before .before .before .both2 .ensures) (c .before .before .before .before .both3 .ensures) (c .before .before .before .both4 .ensures)
-    (c .before .before .both5 .ensures) (c .before .both6 .ensures) (c .both7 .ensures)
+    (n1 .numbers-ok .ensures) (n2 .numbers-ok2 .ensures) (n3 .numbers-ok3 .ensures) (v .all-in-range .ensures)
+    (c .before .before .before .before .before .before .before .both .ensures) (c .before .before .before .before .before .before .both2 .ensures) (c .before .before .before .before .before .both3 .ensures) (c .before .before .before .before .both4 .ensures)
+    (c .before .before .before .both5 .ensures) (c .before .before .both6 .ensures) (c .before .both7 .ensures) (c .both8 .ensures)
 
 pub kept-spec : {M : Type 1} → statement M
 kept-spec =
@@ -100,6 +107,7 @@ kept-spec =
     numbers-ok-requires
     numbers-ok-requires-2
     numbers-ok-requires-3
+    all-in-range-requires
     both-requires
     both-requires-2
     both-requires-3
@@ -107,4 +115,5 @@ kept-spec =
     both-requires-5
     both-requires-6
     both-requires-7
+    both-requires-8
     returns-2)

@@ -2,18 +2,18 @@
 use mathlib.Core.Path.{_≡_, refl, sym, ap, _∙_}
 use Prim.Native.Nat.{_≤_, _-_}
 use lib.ListN.{length, drop}
-use Rattle.table.specs.Marks.{marked, foundFrom}
+use Rattle.table.specs.Marks.{placeAs, marked, foundFrom}
 use Rattle.table.specs.MarkLaws.{found-here, found-later, found-end}
 use borrow.Author.Needs.{needs}
 use Rattle.table.proofs.marks.found.Statement.{statement}
 use Rattle.table.proofs.marks.found.Tie as tie
 
 abbrev Inv-loop : tie.InvT-loop
-Inv-loop table marks₀ i₀ marks i =
-    (i ≤ length table) × (length marks ≡ length marks₀) × (foundFrom marks₀ table ≡ foundFrom marks (drop i table))
+Inv-loop ordered table marks₀ i₀ marks i =
+    (i ≤ length table) × (length marks ≡ length marks₀) × (foundFrom (placeAs ordered) marks₀ table ≡ foundFrom (placeAs ordered) marks (drop i table))
 
 abbrev μ-loop : tie.MeasureT-loop
-μ-loop table marks₀ i₀ marks i = length table - i
+μ-loop ordered table marks₀ i₀ marks i = length table - i
 
 loop-holds : tie.Need-loop-holds Inv-loop μ-loop
 loop-holds c = (search needs, refl, refl)
@@ -21,23 +21,23 @@ loop-holds c = (search needs, refl, refl)
 add-loop : tie.Need-add-loop Inv-loop μ-loop
 add-loop c = search needs
 
-mul-pair-at : tie.Need-mul-pair-at Inv-loop μ-loop
-mul-pair-at c = search needs
+mul-place : tie.Need-mul-place Inv-loop μ-loop
+mul-place c = search needs
 
-shared-slice-read-pair-at : tie.Need-shared-slice-read-pair-at Inv-loop μ-loop
-shared-slice-read-pair-at c = search needs
+shared-slice-read-place : tie.Need-shared-slice-read-place Inv-loop μ-loop
+shared-slice-read-place c = search needs
 
-add-pair-at : tie.Need-add-pair-at Inv-loop μ-loop
-add-pair-at c = search needs
+add-place : tie.Need-add-place Inv-loop μ-loop
+add-place c = search needs
 
-mul-pair-at-2 : tie.Need-mul-pair-at-2 Inv-loop μ-loop
-mul-pair-at-2 c = search needs
+mul-place-2 : tie.Need-mul-place-2 Inv-loop μ-loop
+mul-place-2 c = search needs
 
-shared-slice-read-pair-at-2 : tie.Need-shared-slice-read-pair-at-2 Inv-loop μ-loop
-shared-slice-read-pair-at-2 c = search needs
+shared-slice-read-place-2 : tie.Need-shared-slice-read-place-2 Inv-loop μ-loop
+shared-slice-read-place-2 c = search needs
 
-pair-at-requires : tie.Need-pair-at-requires Inv-loop μ-loop
-pair-at-requires c κs = search needs
+place-requires : tie.Need-place-requires Inv-loop μ-loop
+place-requires c κs = search needs
 
 is-marked-requires : tie.Need-is-marked-requires Inv-loop μ-loop
 is-marked-requires c κs = search needs
@@ -51,8 +51,8 @@ returns c =
     let s = p .before .before .before .before in
     sym
     (s .loop .inv .2
-    ∙ found-here (s .loop .marks) (s .before .before .before .args .table .now) (s .loop .i) (search needs)
-    (ap (marked (s .loop .marks)) (sym (p .pair-at .ensures)) ∙ sym (c .before .is-marked .ensures) ∙ c .if1 .taken))
+    ∙ found-here (placeAs (s .before .before .before .args .ordered)) (s .loop .marks) (s .before .before .before .args .table .now) (s .loop .i) (search needs)
+    (ap (marked (s .loop .marks)) (sym (p .place .ensures)) ∙ sym (c .before .is-marked .ensures) ∙ c .if1 .taken))
 
 set-mark-requires : tie.Need-set-mark-requires Inv-loop μ-loop
 set-mark-requires c κs = search needs
@@ -70,10 +70,10 @@ loop-again c =
     let s = p .before .before .before .before in (
       search needs,
       search needs,
-      rw (c .before .before .set-mark .ensures, p .pair-at .ensures)
+      rw (c .before .before .set-mark .ensures, p .place .ensures)
           (s .loop .inv .2
-          ∙ found-later (s .loop .marks) (s .before .before .before .args .table .now) (s .loop .i) (search needs)
-          (ap (marked (s .loop .marks)) (sym (p .pair-at .ensures)) ∙ sym (e .before .is-marked .ensures) ∙ e .if1 .left)),
+          ∙ found-later (placeAs (s .before .before .before .args .ordered)) (s .loop .marks) (s .before .before .before .args .table .now) (s .loop .i) (search needs)
+          (ap (marked (s .loop .marks)) (sym (p .place .ensures)) ∙ sym (e .before .is-marked .ensures) ∙ e .if1 .left)),
     )
 
 same-length-2 : tie.Need-same-length-2 Inv-loop μ-loop
@@ -82,7 +82,7 @@ same-length-2 c = search needs
 returns-2 : tie.Need-returns-2 Inv-loop μ-loop
 returns-2 c =
     let s = c .before in
-    sym (s .loop .inv .2 ∙ found-end (s .loop .marks) (s .before .before .before .args .table .now) (s .loop .i) (c .loop-test .left))
+    sym (s .loop .inv .2 ∙ found-end (placeAs (s .before .before .before .args .ordered)) (s .loop .marks) (s .before .before .before .args .table .now) (s .loop .i) (c .loop-test .left))
 
 pub found-spec : {M : Type 1} → statement M
 found-spec =
@@ -92,12 +92,12 @@ found-spec =
     μ-loop
     loop-holds
     add-loop
-    mul-pair-at
-    shared-slice-read-pair-at
-    add-pair-at
-    mul-pair-at-2
-    shared-slice-read-pair-at-2
-    pair-at-requires
+    mul-place
+    shared-slice-read-place
+    add-place
+    mul-place-2
+    shared-slice-read-place-2
+    place-requires
     is-marked-requires
     same-length
     returns

@@ -28,6 +28,9 @@ dists-ok-requires c κs = search needs
 numbers-ok-requires : tie.Need-numbers-ok-requires
 numbers-ok-requires c κs = search needs
 
+levels-ok-requires : tie.Need-levels-ok-requires
+levels-ok-requires c κs = search needs
+
 both-requires : tie.Need-both-requires
 both-requires c κs = search needs
 
@@ -46,16 +49,22 @@ both-requires-5 c κs = search needs
 both-requires-6 : tie.Need-both-requires-6
 both-requires-6 c κs = search needs
 
+both-requires-7 : tie.Need-both-requires-7
+both-requires-7 c κs = search needs
+
 returns : tie.Need-returns
 returns c =
-    let n5 = c .before .before .before .before .before .before .before .before .before .before in
+    let v = c .before .before .before .before .before .before .before in
+    let n = v .before .before in
+    let d = n .before .before in
+    let n5 = d .before .before in
     let n4 = n5 .before .before in
     let n3 = n4 .before .before in
     let n2 = n3 .before .before in
     let n1 = n2 .before .before in
     let s = n1 .before .before in
-    rw (c .both6 .ensures, c .before .both5 .ensures, c .before .before .both4 .ensures, c .before .before .before .both3 .ensures, c .before .before .before .before .both2 .ensures, c .before .before .before .before .before .both .ensures)
-    (rw (c .before .before .before .before .before .before .numbers-ok .ensures, c .before .before .before .before .before .before .before .before .dists-ok .ensures, n5 .names-ok5 .ensures, n4 .names-ok4 .ensures, n3 .names-ok3 .ensures, n2 .names-ok2 .ensures, n1 .names-ok .ensures)
+    rw (c .both7 .ensures, c .before .both6 .ensures, c .before .before .both5 .ensures, c .before .before .before .both4 .ensures, c .before .before .before .before .both3 .ensures, c .before .before .before .before .before .both2 .ensures, c .before .before .before .before .before .before .both .ensures)
+    (rw (v .levels-ok .ensures, n .numbers-ok .ensures, d .dists-ok .ensures, n5 .names-ok5 .ensures, n4 .names-ok4 .ensures, n3 .names-ok3 .ensures, n2 .names-ok2 .ensures, n1 .names-ok .ensures)
     (entries-judged (s .args .words .now) (s .args .units) (s .args .links) (s .pre .0) (s .pre .1)))
 
 pub entries-ok-spec : {M : Type 1} → statement M
@@ -70,10 +79,12 @@ entries-ok-spec =
     names-ok-requires-5
     dists-ok-requires
     numbers-ok-requires
+    levels-ok-requires
     both-requires
     both-requires-2
     both-requires-3
     both-requires-4
     both-requires-5
     both-requires-6
+    both-requires-7
     returns)

@@ -16,7 +16,7 @@ unfolding loadAnswer
 returns c =
     let a = c .before .before .before .args in
     let r = c .before .refusal in
-    answered-refused (tableRefusal (a .units) (a .table .now)) (r .result) (of (a .self)) _ _ (r .ensures) (c .if1 .taken)
+    answered-refused (tableRefusal (a .units) (a .table .now) (a .levels .now)) (r .result) (of (a .self)) _ _ (r .ensures) (c .if1 .taken)
 
 loaded-requires : tie.Need-loaded-requires
 loaded-requires c κs = search needs

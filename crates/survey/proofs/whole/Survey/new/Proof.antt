@@ -8,6 +8,9 @@ use Rattle.survey.proofs.whole.Survey.new.Tie as tie
 slice-aggregate-table : tie.Need-slice-aggregate-table
 slice-aggregate-table c = search needs
 
+slice-aggregate-table-2 : tie.Need-slice-aggregate-table-2
+slice-aggregate-table-2 c = search needs
+
 table-requires : tie.Need-table-requires
 table-requires c κs = search needs
 
@@ -19,4 +22,4 @@ unfolding unloaded
 returns c = rw (c .begun .ensures, c .before .table .ensures) refl
 
 pub new-spec : {M : Type 1} → statement M
-new-spec = tie.close (tie.spec slice-aggregate-table table-requires begun-requires returns)
+new-spec = tie.close (tie.spec slice-aggregate-table slice-aggregate-table-2 table-requires begun-requires returns)

@@ -1,0 +1,35 @@
+-- The words and the levels are parts of what is there.
+use mathlib.Core.Path.{sym}
+use lib.Seq.{length-take-le}
+use borrow.Author.Needs.{needs}
+use Rattle.loads_check.proofs.table.Statement.{statement}
+use Rattle.loads_check.proofs.table.Tie as tie
+
+returns : tie.Need-returns
+returns c = search needs
+
+returns-2 : tie.Need-returns-2
+returns-2 c = search needs
+
+slice-aggregate-called : tie.Need-slice-aggregate-called
+slice-aggregate-called c = sym (length-take-le _ _ (c .before .before .if1 .left))
+
+slice-aggregate-called-2 : tie.Need-slice-aggregate-called-2
+slice-aggregate-called-2 c = sym (length-take-le _ _ (c .before .before .if2 .left))
+
+called-requires : tie.Need-called-requires
+called-requires c κs = search needs
+
+returns-3 : tie.Need-returns-3
+returns-3 c = search needs
+
+pub table-spec : {M : Type 1} → statement M
+table-spec =
+    tie.close
+    (tie.spec
+    returns
+    returns-2
+    slice-aggregate-called
+    slice-aggregate-called-2
+    called-requires
+    returns-3)

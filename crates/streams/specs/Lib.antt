@@ -1,0 +1,4 @@
+pub mod Stream
+pub mod StreamLaws
+pub mod Text
+pub mod TextLaws
