@@ -1,0 +1,113 @@
+-- Along the chain, place by place.
+use mathlib.Core.Path.{_≡_, refl}
+use Prim.Native.Nat.{_-_}
+use lib.ListN.{length}
+use Rattle.lifting_order.specs.Marking.{acts, does, walked, walk-store}
+use Rattle.lifting_order.specs.Chains.{Along, along-begun, along-turn, along-less, along-end}
+use borrow.Author.Needs.{needs}
+use Rattle.lifting_order.proofs.chains.walk.Statement.{statement}
+use Rattle.lifting_order.proofs.chains.walk.Tie as tie
+
+abbrev Inv-loop : tie.InvT-loop
+Inv-loop mark t last next v x₀ c₀ x c = (length x ≡ length x₀) × Along t v (acts t (does mark)) x₀ c x
+
+abbrev μ-loop : tie.MeasureT-loop
+μ-loop mark t last next v x₀ c₀ x c = c
+
+word-requires : tie.Need-word-requires Inv-loop μ-loop
+word-requires c κs = search needs
+
+loop-holds : tie.Need-loop-holds Inv-loop μ-loop
+loop-holds c =
+    let b = c .before .before .before .before .before in
+    let a = b .args in
+    (refl, along-begun (a .t .now) (a .v) (acts (a .t .now) (does (a .mark))) (a .last .now) (a .next .now) (b .pre .1) (c .word .result) (a .x .now) (b .pre .2) (c .word .ensures))
+
+cast-past : tie.Need-cast-past Inv-loop μ-loop
+cast-past c = search needs
+
+sub-i : tie.Need-sub-i Inv-loop μ-loop
+sub-i c = search needs
+
+other-requires : tie.Need-other-requires Inv-loop μ-loop
+other-requires c κs = search needs
+
+word-requires-2 : tie.Need-word-requires-2 Inv-loop μ-loop
+word-requires-2 c κs = search needs
+
+cast-w : tie.Need-cast-w Inv-loop μ-loop
+cast-w c = search needs
+
+word-requires-3 : tie.Need-word-requires-3 Inv-loop μ-loop
+word-requires-3 c κs = search needs
+
+cast-less : tie.Need-cast-less Inv-loop μ-loop
+cast-less c = search needs
+
+less-requires : tie.Need-less-requires Inv-loop μ-loop
+less-requires c κs = search needs
+
+choose-requires : tie.Need-choose-requires Inv-loop μ-loop
+choose-requires c κs = search needs
+
+put-requires : tie.Need-put-requires Inv-loop μ-loop
+put-requires c κs = search needs
+
+word-requires-4 : tie.Need-word-requires-4 Inv-loop μ-loop
+word-requires-4 c κs = search needs
+
+loop-less : tie.Need-loop-less Inv-loop μ-loop
+loop-less c =
+    let s = c .before .before .before .before .before .before .before .before .before .before .before .before in
+    let b = s .before .before .before .before .before .before in
+    let a = b .args in
+    along-less (a .t .now) (a .v) (acts (a .t .now) (does (a .mark))) (a .last .now) (a .next .now) (b .pre .1) (s .loop .c) (c .word4 .result) (a .x .now) (s .loop .x)
+    (c .before .before .before .before .before .before .before .before .before .before .before .loop-test .taken) (s .loop .inv .1) (c .word4 .ensures)
+
+loop-again : tie.Need-loop-again Inv-loop μ-loop
+loop-again c =
+    let s = c .before .before .before .before .before .before .before .before .before .before .before .before in
+    let b = s .before .before .before .before .before .before in
+    let a = b .args in
+    let put = c .before .before .before .put in
+    let new =
+    walk-store (a .mark) (a .t .now) (s .loop .x) (put .last .0) (s .loop .c - 1) (c .before .before .before .before .before .before .before .before .before .before .other .result) (c .before .before .before .before .before .before .before .before .before .word2 .result) (c .before .before .before .before .before .before .before .word3 .result) (c .before .before .before .before .before .before .less .result) (c .before .before .before .before .before .choose .result)
+    (c .before .before .before .before .before .before .before .before .before .before .other .ensures) (c .before .before .before .before .before .before .before .before .before .word2 .ensures) (c .before .before .before .before .before .before .before .word3 .ensures) (c .before .before .before .before .before .before .less .ensures) (c .before .before .before .before .before .choose .ensures) (put .ensures) in (
+      search needs,
+      along-turn (a .t .now) (a .v) (acts (a .t .now) (does (a .mark))) (a .last .now) (a .next .now) (b .pre .1) (s .loop .c) (c .word4 .result) (a .x .now) (s .loop .x) (put .last .0)
+          (c .before .before .before .before .before .before .before .before .before .before .before .loop-test .taken) (s .loop .inv .1) new (c .word4 .ensures),
+    )
+
+same-length : tie.Need-same-length Inv-loop μ-loop
+same-length c = search needs
+
+returns : tie.Need-returns Inv-loop μ-loop
+unfolding walked
+returns c =
+    let s = c .before in
+    let a = c .before .before .before .before .before .before .before .args in
+    along-end (a .t .now) (a .v) (acts (a .t .now) (does (a .mark))) (s .loop .c) (a .x .now) (s .loop .x) (search needs) (s .loop .inv .1)
+
+pub walk-spec : {M : Type 1} → statement M
+walk-spec =
+    tie.close
+    (tie.spec
+    Inv-loop
+    μ-loop
+    word-requires
+    loop-holds
+    cast-past
+    sub-i
+    other-requires
+    word-requires-2
+    cast-w
+    word-requires-3
+    cast-less
+    less-requires
+    choose-requires
+    put-requires
+    word-requires-4
+    loop-less
+    loop-again
+    same-length
+    returns)

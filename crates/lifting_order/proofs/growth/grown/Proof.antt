@@ -1,0 +1,139 @@
+-- Unit by unit, until all stand or none may stand next.
+use mathlib.Core.Path.{_≡_, sym, _∙_}
+use lib.ListN.{length}
+use Rattle.lifting_order.specs.Standing.{ready, Growing, growing-begun, growing-turn, growing-done, growing-stuck, next-below}
+use borrow.Author.Needs.{needs}
+use Rattle.lifting_order.proofs.growth.grown.Statement.{statement}
+use Rattle.lifting_order.proofs.growth.grown.Tie as tie
+
+abbrev Inv-loop : tie.InvT-loop
+Inv-loop units ends pairs order₀ by-end by-pair near₀ wait₀ left₀ order near wait left = (length order ≡ 256) × Growing units ends pairs order near wait left
+
+abbrev μ-loop : tie.MeasureT-loop
+μ-loop units ends pairs order₀ by-end by-pair near₀ wait₀ left₀ order near wait left = left
+
+chained-requires : tie.Need-chained-requires Inv-loop μ-loop
+chained-requires c κs = c .before .before .before .pre .0 .links
+
+chained-requires-2 : tie.Need-chained-requires-2 Inv-loop μ-loop
+chained-requires-2 c κs = c .before .before .before .before .pre .0 .pairs
+
+reached-requires : tie.Need-reached-requires Inv-loop μ-loop
+reached-requires c κs = search needs
+
+waiting-requires : tie.Need-waiting-requires Inv-loop μ-loop
+waiting-requires c κs = (c .before .before .before .before .before .before .pre .0 .pairs, c .before .before .before .before .before .before .pre .0 .whole-pairs)
+
+loop-holds : tie.Need-loop-holds Inv-loop μ-loop
+loop-holds c =
+    let b = c .before .before .before .before .before .before .before in
+    let a = b .args in (
+      b .pre .1,
+      growing-begun (a .units) (a .ends .now) (a .pairs .now) (b .pre .0) (a .order .now) (c .before .reached .result) (c .waiting .result) (search needs) (search needs) (c .before .reached .ensures) (c .waiting .ensures),
+    )
+
+slice-aggregate-next-up : tie.Need-slice-aggregate-next-up Inv-loop μ-loop
+slice-aggregate-next-up c = sym (c .before .before .loop .inv .1 .tables .near-long)
+
+slice-aggregate-next-up-2 : tie.Need-slice-aggregate-next-up-2 Inv-loop μ-loop
+slice-aggregate-next-up-2 c = sym (c .before .before .before .loop .inv .1 .tables .wait-long)
+
+next-up-requires : tie.Need-next-up-requires Inv-loop μ-loop
+next-up-requires c κs = search needs
+
+same-length : tie.Need-same-length Inv-loop μ-loop
+same-length c = search needs
+
+returns : tie.Need-returns Inv-loop μ-loop
+returns c =
+    let s = c .before .before .before .before .before in
+    let b = c .before .before .before .before .before .before .before .before .before .before .before .before .before in
+    let a = b .args in
+    growing-stuck (a .units) (a .ends .now) (a .pairs .now) (b .pre .0) (s .loop .order) (s .loop .near) (s .loop .wait) (s .loop .left) (c .before .next-up .result)
+    (c .before .before .before .before .loop-test .taken) (s .loop .inv .1) (c .before .next-up .ensures) (c .if1 .taken)
+
+sub-left : tie.Need-sub-left Inv-loop μ-loop
+sub-left c = search needs
+
+cast-put : tie.Need-cast-put Inv-loop μ-loop
+cast-put c = search needs
+
+put-requires : tie.Need-put-requires Inv-loop μ-loop
+put-requires c κs = search needs
+
+slice-aggregate-walk : tie.Need-slice-aggregate-walk Inv-loop μ-loop
+slice-aggregate-walk c = search needs
+
+walk-requires : tie.Need-walk-requires Inv-loop μ-loop
+walk-requires c κs = (c .before .before .before .before .before .before .before .before .before .before .before .before .before .before .before .before .before .before .before .before .before .before .before .pre .0 .links, c .before .before .before .before .before .before .before .before .before .before .before .before .before .before .before .before .before .before .before .chained .ensures, next-below (c .before .before .before .before .before .before .before .before .before .before .before .before .before .before .before .before .before .before .before .before .before .before .before .args .units) (c .before .before .before .before .before .before .before .before .before .before .before .next-up .result) (ready (c .before .before .before .before .before .before .before .before .before .before .before .before .before .before .before .loop .near) (c .before .before .before .before .before .before .before .before .before .before .before .before .before .before .before .loop .wait)) (c .before .before .before .before .before .before .before .before .before .before .before .before .before .before .before .before .before .before .before .before .before .before .before .pre .0 .few) (c .before .before .before .before .before .before .before .before .before .before .before .next-up .ensures) (c .before .before .before .before .before .before .before .before .before .before .if1 .left))
+
+slice-aggregate-walk-2 : tie.Need-slice-aggregate-walk-2 Inv-loop μ-loop
+slice-aggregate-walk-2 c = search needs
+
+walk-requires-2 : tie.Need-walk-requires-2 Inv-loop μ-loop
+walk-requires-2 c κs = (c .before .before .before .before .before .before .before .before .before .before .before .before .before .before .before .before .before .before .before .before .before .before .before .before .before .before .before .before .before .before .before .pre .0 .pairs, c .before .before .before .before .before .before .before .before .before .before .before .before .before .before .before .before .before .before .before .before .before .before .before .before .before .before .chained2 .ensures, next-below (c .before .before .before .before .before .before .before .before .before .before .before .before .before .before .before .before .before .before .before .before .before .before .before .before .before .before .before .before .before .before .before .args .units) (c .before .before .before .before .before .before .before .before .before .before .before .before .before .before .before .before .before .before .before .next-up .result) (ready (c .before .before .before .before .before .before .before .before .before .before .before .before .before .before .before .before .before .before .before .before .before .before .before .loop .near) (c .before .before .before .before .before .before .before .before .before .before .before .before .before .before .before .before .before .before .before .before .before .before .before .loop .wait)) (c .before .before .before .before .before .before .before .before .before .before .before .before .before .before .before .before .before .before .before .before .before .before .before .before .before .before .before .before .before .before .before .pre .0 .few) (c .before .before .before .before .before .before .before .before .before .before .before .before .before .before .before .before .before .before .before .next-up .ensures) (c .before .before .before .before .before .before .before .before .before .before .before .before .before .before .before .before .before .before .if1 .left))
+
+slice-aggregate-put : tie.Need-slice-aggregate-put Inv-loop μ-loop
+slice-aggregate-put c = search needs
+
+cast-put-2 : tie.Need-cast-put-2 Inv-loop μ-loop
+cast-put-2 c = search needs
+
+put-requires-2 : tie.Need-put-requires-2 Inv-loop μ-loop
+put-requires-2 c κs = search needs
+
+loop-less : tie.Need-loop-less Inv-loop μ-loop
+loop-less c = search needs
+
+loop-again : tie.Need-loop-again Inv-loop μ-loop
+loop-again c =
+    let s = c .before .before .before .before .before .before .before .before .before .before .before .before .before .before .before .before .before .before .before .before .before .before .before .before .before .before .before .before in
+    let b = c .before .before .before .before .before .before .before .before .before .before .before .before .before .before .before .before .before .before .before .before .before .before .before .before .before .before .before .before .before .before .before .before .before .before .before .before in
+    let a = b .args in
+    let next = c .before .before .before .before .before .before .before .before .before .before .before .before .before .before .before .before .before .before .before .before .before .before .before .before .next-up in
+    let put = c .before .before .before .before .before .before .before .before .before .before .before .before .before .before .before .before .before .before .before .before .before .put in (
+      put .kept .0 ∙ s .loop .inv .0,
+      growing-turn (a .units) (a .ends .now) (a .pairs .now) (b .pre .0) (s .loop .order) (s .loop .near) (s .loop .wait) _ _ _ _ (s .loop .left) (next .result)
+          (s .loop .inv .0) (c .before .before .before .before .before .before .before .before .before .before .before .before .before .before .before .before .before .before .before .before .before .before .before .before .before .before .before .loop-test .taken) (s .loop .inv .1) (next .ensures) (c .before .before .before .before .before .before .before .before .before .before .before .before .before .before .before .before .before .before .before .before .before .before .before .if1 .left) (put .ensures) (c .before .before .before .before .before .before .before .before .before .before .before .before .walk .ensures) (c .before .before .before .before .walk2 .ensures) (c .before .put2 .ensures),
+    )
+
+same-length-2 : tie.Need-same-length-2 Inv-loop μ-loop
+same-length-2 c = search needs
+
+returns-2 : tie.Need-returns-2 Inv-loop μ-loop
+returns-2 c =
+    let s = c .before in
+    let b = c .before .before .before .before .before .before .before .before .before in
+    let a = b .args in
+    growing-done (a .units) (a .ends .now) (a .pairs .now) (b .pre .0) (s .loop .order) (s .loop .near) (s .loop .wait) (s .loop .left) (search needs) (s .loop .inv .1)
+
+pub grown-spec : {M : Type 1} → statement M
+grown-spec =
+    tie.close
+    (tie.spec
+    Inv-loop
+    μ-loop
+    chained-requires
+    chained-requires-2
+    reached-requires
+    waiting-requires
+    loop-holds
+    slice-aggregate-next-up
+    slice-aggregate-next-up-2
+    next-up-requires
+    same-length
+    returns
+    sub-left
+    cast-put
+    put-requires
+    slice-aggregate-walk
+    walk-requires
+    slice-aggregate-walk-2
+    walk-requires-2
+    slice-aggregate-put
+    cast-put-2
+    put-requires-2
+    loop-less
+    loop-again
+    same-length-2
+    returns-2)

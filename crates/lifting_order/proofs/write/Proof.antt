@@ -1,0 +1,79 @@
+-- By the first cause, then by how many units are left.
+use mathlib.Core.Path.{sym, _∙_}
+use Prim.Native.Nat.{_*_}
+use native.Mathlib.Omega.{arith}
+use lib.ListN.{length, length-take}
+use Rattle.lifting_order.specs.WrittenLaws.{passed-given, site-long, fits-given, told-given, told-none, told-order}
+use borrow.Author.Needs.{needs}
+use Rattle.lifting_order.proofs.write.Statement.{statement}
+use Rattle.lifting_order.proofs.write.Tie as tie
+
+given-refusal-requires : tie.Need-given-refusal-requires
+given-refusal-requires c κs = search needs
+
+returns : tie.Need-returns
+returns c =
+    let a = c .before .before .before .before .before .args in
+    let g = c .before .given-refusal in
+    told-given (a .units) (a .links) (a .ends .now) (a .pairs .now) (g .result) (a .out .now) (g .ensures) (c .if1 .taken)
+
+zeros-requires : tie.Need-zeros-requires
+zeros-requires c κs = search needs
+
+mul-grown : tie.Need-mul-grown
+mul-grown c = search needs
+
+slice-aggregate-grown : tie.Need-slice-aggregate-grown
+slice-aggregate-grown c =
+    let a = c .before .before .before .before .before .before .before .args in
+    let e = sym (c .before .before .before .given-refusal .ensures) ∙ c .before .before .if1 .left in
+    let p = passed-given (a .units) (a .links) (a .ends .now) (a .pairs .now) (length (a .out .now)) e in
+    rw (length-take (2 * a .links) (a .ends .now)) (omega (arith, site-long (a .units) (a .links) (a .ends .now) (p .0)))
+
+slice-aggregate-grown-2 : tie.Need-slice-aggregate-grown-2
+slice-aggregate-grown-2 c = search needs
+
+grown-requires : tie.Need-grown-requires
+grown-requires c κs =
+    let a = c .before .before .before .before .before .before .before .before .args in
+    let e = sym (c .before .before .before .before .given-refusal .ensures) ∙ c .before .before .before .if1 .left in
+    let p = passed-given (a .units) (a .links) (a .ends .now) (a .pairs .now) (length (a .out .now)) e in
+    (fits-given (a .units) (a .links) (a .ends .now) (a .pairs .now) (p .0) (p .2), search needs)
+
+returns-2 : tie.Need-returns-2
+returns-2 c =
+    let a = c .before .before .before .before .before .before .before .before .before .before .before .args in
+    let e = sym (c .before .before .before .before .before .before .before .given-refusal .ensures) ∙ c .before .before .before .before .before .before .if1 .left in
+    told-none (a .units) (a .links) (a .ends .now) (a .pairs .now) (a .out .now) _ (c .before .before .grown .result) e (c .before .before .grown .ensures) (c .if2 .taken)
+
+slice-aggregate-lay : tie.Need-slice-aggregate-lay
+slice-aggregate-lay c = search needs
+
+lay-requires : tie.Need-lay-requires
+lay-requires c κs = search needs
+
+same-length : tie.Need-same-length
+same-length c = search needs
+
+returns-3 : tie.Need-returns-3
+returns-3 c =
+    let a = c .before .before .before .before .before .before .before .before .before .before .before .before .before .before .before .before .args in
+    let e = sym (c .before .before .before .before .before .before .before .before .before .before .before .before .given-refusal .ensures) ∙ c .before .before .before .before .before .before .before .before .before .before .before .if1 .left in
+    told-order (a .units) (a .links) (a .ends .now) (a .pairs .now) (a .out .now) _ _ (c .before .before .before .before .before .before .before .grown .result) e (c .before .before .before .before .before .before .before .grown .ensures) (c .before .before .before .before .before .if2 .left) (c .before .before .lay .ensures)
+
+pub write-spec : {M : Type 1} → statement M
+write-spec =
+    tie.close
+    (tie.spec
+    given-refusal-requires
+    returns
+    zeros-requires
+    mul-grown
+    slice-aggregate-grown
+    slice-aggregate-grown-2
+    grown-requires
+    returns-2
+    slice-aggregate-lay
+    lay-requires
+    same-length
+    returns-3)

@@ -1,0 +1,12 @@
+pub mod Lifts
+pub mod Order
+pub mod Building
+pub mod OrderLaws
+pub mod LiftingOrder
+pub mod LiftingProof
+pub mod Chains
+pub mod Marking
+pub mod Standing
+pub mod Written
+pub mod WrittenLaws
+pub mod Example
