@@ -1,0 +1,90 @@
+-- What the links passed say, or the test from `i` on, is the test of all links.
+use mathlib.Core.Path.{_≡_, refl, sym, ap, _∙_}
+use mathlib.Core.Bool.{Bool, _||_, or-false}
+use Prim.Native.Nat.{_+_, _-_, _≤_}
+use native.Mathlib.Omega.{arith}
+use lib.ListN.{length, drop}
+use Rattle.one_way.specs.Hands.{falls}
+use Rattle.one_way.specs.HandLaws.{falls-next, links-end}
+use borrow.Author.Needs.{needs}
+use Rattle.one_way.proofs.labels.falls.Statement.{statement}
+use Rattle.one_way.proofs.labels.falls.Tie as tie
+
+abbrev Inv-loop : tie.InvT-loop
+Inv-loop forward links key x any₀ i₀ any i = (i ≤ length links) × (falls forward key links x ≡ (any || falls forward key (drop i links) x))
+
+abbrev μ-loop : tie.MeasureT-loop
+μ-loop forward links key x any₀ i₀ any i = length links - i
+
+loop-holds : tie.Need-loop-holds Inv-loop μ-loop
+loop-holds c = (search needs, refl)
+
+add-loop : tie.Need-add-loop Inv-loop μ-loop
+add-loop c = search needs
+
+mul-lowers : tie.Need-mul-lowers Inv-loop μ-loop
+mul-lowers c = search needs
+
+shared-slice-read-lowers : tie.Need-shared-slice-read-lowers Inv-loop μ-loop
+shared-slice-read-lowers c = search needs
+
+add-lowers : tie.Need-add-lowers Inv-loop μ-loop
+add-lowers c = search needs
+
+mul-lowers-2 : tie.Need-mul-lowers-2 Inv-loop μ-loop
+mul-lowers-2 c = search needs
+
+shared-slice-read-lowers-2 : tie.Need-shared-slice-read-lowers-2 Inv-loop μ-loop
+shared-slice-read-lowers-2 c = search needs
+
+lowers-requires : tie.Need-lowers-requires Inv-loop μ-loop
+lowers-requires c κs =
+    let g = c .before .before in
+    let s = g .before in
+    let o = s .before .before .before .before in
+    (omega (arith, o .pre .ends (s .loop .i) (omega arith), o .pre .keys), omega (arith, o .pre .ends (s .loop .i + 1) (g .loop-test .taken), o .pre .keys), o .pre .labels ∙ sym (o .pre .keys))
+
+either-requires : tie.Need-either-requires Inv-loop μ-loop
+either-requires c κs = search needs
+
+add-i : tie.Need-add-i Inv-loop μ-loop
+add-i c = search needs
+
+loop-less : tie.Need-loop-less Inv-loop μ-loop
+loop-less c = search needs
+
+loop-again : tie.Need-loop-again Inv-loop μ-loop
+loop-again c =
+    let g = c .before .before .before .before in
+    let s = g .before in
+    let o = s .before .before .before .before in
+    (search needs, s .loop .inv .1 ∙ falls-next (o .args .forward) (o .args .key .now) (o .args .links .now) (o .args .x .now) (s .loop .i) (s .loop .any) (g .loop-test .taken) ∙ cc)
+
+returns : tie.Need-returns Inv-loop μ-loop
+returns c =
+    let s = c .before in
+    let o = s .before .before .before .before in
+    sym
+    (s .loop .inv .1
+    ∙ ap (λ (z : Bool). s .loop .any || z) (links-end (o .args .forward) (o .args .key .now) (o .args .links .now) (o .args .x .now) (s .loop .i) (c .loop-test .left) .1)
+    ∙ or-false (s .loop .any))
+
+pub falls-spec : {M : Type 1} → statement M
+falls-spec =
+    tie.close
+    (tie.spec
+    Inv-loop
+    μ-loop
+    loop-holds
+    add-loop
+    mul-lowers
+    shared-slice-read-lowers
+    add-lowers
+    mul-lowers-2
+    shared-slice-read-lowers-2
+    lowers-requires
+    either-requires
+    add-i
+    loop-less
+    loop-again
+    returns)

@@ -1,0 +1,29 @@
+-- The labels settle from those of the sources.
+use mathlib.Core.Bool.{false}
+use Rattle.one_way.specs.MinLabel.{source}
+use Rattle.one_way.specs.HandLaws.{site-room, labels-least}
+use borrow.Author.Needs.{needs}
+use Rattle.one_way.proofs.pass.backward.Statement.{statement}
+use Rattle.one_way.proofs.pass.backward.Tie as tie
+
+sources-requires : tie.Need-sources-requires
+sources-requires c κs = search needs
+
+slice-aggregate-settle : tie.Need-slice-aggregate-settle
+slice-aggregate-settle c = search needs
+
+settle-requires : tie.Need-settle-requires
+settle-requires c κs =
+    let o = c .before .before .before .before .before .before in
+    site-room (o .args .units) (o .args .links .now) (o .args .key .now) _ (o .pre .0) (o .pre .1) (search needs)
+
+returns : tie.Need-returns
+returns c =
+    let se = c .before in
+    let so = se .before .before in
+    let o = so .before .before .before .before .before in
+    labels-least false (o .args .units) (o .args .links .now) (o .args .key .now) (source (o .args .f .now)) _ _ (o .pre .0) (so .sources .ensures) (se .settle .ensures)
+
+pub backward-spec : {M : Type 1} → statement M
+backward-spec =
+    tie.close (tie.spec sources-requires slice-aggregate-settle settle-requires returns)
