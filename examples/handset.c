@@ -1,6 +1,6 @@
 /*
- * A handset in small: reads a survey file, makes its survey round by round and shows how it goes, then says where the
- * site is weak and prints the report.
+ * A handset in small: reads a survey file, makes its survey round by round and shows how it goes, with the foreman's
+ * line, then says where the site is weak and prints the report.
  *
  *     handset [-v] [FILE]      without FILE: standard input; -v: every round, not only where a stage begins
  *
@@ -56,11 +56,18 @@ static int told(uint32_t refused)
     return 1;
 }
 
-/* One line of the display. */
-static void show(const uint16_t status[LINK_SURVEY_STATUS_WORDS])
+/* One row of the display: where the survey stands, in words, and then the foreman's line, which ends the row. */
+static uint32_t show(const uint16_t status[LINK_SURVEY_STATUS_WORDS])
 {
-    printf("round %3u  countdown %3u  %s\n", (unsigned)status[LINK_SURVEY_STATUS_ROUNDS],
+    uint8_t line[LINK_SURVEY_FOREMAN_LINE_BYTES];
+    uint32_t refused = link_survey_foreman_line(state, line, sizeof line);
+
+    if (refused != LINK_SURVEY_DONE)
+        return refused;
+    printf("round %3u  countdown %3u  %-18s  ", (unsigned)status[LINK_SURVEY_STATUS_ROUNDS],
            (unsigned)status[LINK_SURVEY_STATUS_COUNTDOWN], stages[status[LINK_SURVEY_STATUS_STAGE]]);
+    fwrite(line, 1, sizeof line, stdout);
+    return LINK_SURVEY_DONE;
 }
 
 /* The survey from its load to its end, one round at a time. */
@@ -74,9 +81,9 @@ static uint32_t surveyed(int every_round)
         uint16_t stage = status[LINK_SURVEY_STATUS_STAGE];
 
         if (every_round || stage != shown)
-            show(status);
+            refused = show(status);
         shown = stage;
-        if (stage == LINK_SURVEY_STAGE_FINISHED)
+        if (stage == LINK_SURVEY_STAGE_FINISHED || refused != LINK_SURVEY_DONE)
             break;
         refused = link_survey_round(state);
         if (refused == LINK_SURVEY_DONE)

@@ -35,9 +35,10 @@
 
 /*
  * The version of these declarations: it grows with each change. 3 has link_survey_read and link_survey_write; 4 has
- * levels: link_survey_load, link_survey_read and link_survey_write take them, and a state has 1,024 words more.
+ * levels: link_survey_load, link_survey_read and link_survey_write take them, and a state has 1,024 words more; 5 has
+ * link_survey_foreman_line and link_survey_service_line.
  */
-#define LINK_SURVEY_VERSION 4
+#define LINK_SURVEY_VERSION 5
 
 /*
  * The words of a state, lent by the caller to every call on a state (all but link_survey_report, link_survey_read and
@@ -71,6 +72,10 @@
 #define LINK_SURVEY_FILE_BYTES(m) (18u + 15u * (m))
 #define LINK_SURVEY_MAX_FILE_BYTES 15378
 
+/* The bytes of a handset's line, line feed included: the foreman's, and the service line. */
+#define LINK_SURVEY_FOREMAN_LINE_BYTES 11
+#define LINK_SURVEY_SERVICE_LINE_BYTES 19
+
 /* "Absent": the parent of a root. */
 #define LINK_SURVEY_ABSENT 65535
 
@@ -94,7 +99,7 @@ enum link_survey_refusal {
     LINK_SURVEY_AT_END = 11,         /* a round or run is wanted of a finished survey */
     LINK_SURVEY_BEFORE_END = 12,     /* a question or report is wanted before the end */
     LINK_SURVEY_NO_SUCH_NAME = 13,   /* the unit or position does not exist */
-    LINK_SURVEY_TOO_SHORT = 14,      /* the slice for a report, a file, or a file's ends or levels is too short */
+    LINK_SURVEY_TOO_SHORT = 14,      /* the slice for a report, a line, a file, or a file's ends or levels is too short */
     LINK_SURVEY_LEVELS_DIFFER = 15,  /* the levels are not as many as the links */
     LINK_SURVEY_LEVEL_OUTSIDE = 16   /* a level is below -127 or above 0 */
 };
@@ -217,6 +222,25 @@ uint32_t link_survey_run(uint16_t state[LINK_SURVEY_STATE_WORDS], uint16_t budge
  * returns  10, or 0.
  */
 uint32_t link_survey_status(const uint16_t state[LINK_SURVEY_STATE_WORDS], uint16_t reply[LINK_SURVEY_STATUS_WORDS]);
+
+/*
+ * The line of the foreman's handset: a frame of kind 20 with the stage as one byte and the countdown, line feed
+ * included. At every stage; two surveys of as many units, at the same stage and after as many rounds of it, have equal
+ * lines, however their links run.
+ *
+ * out      altered: LINK_SURVEY_FOREMAN_LINE_BYTES bytes at its front.
+ * returns  10, 14, or 0.
+ */
+uint32_t link_survey_foreman_line(const uint16_t state[LINK_SURVEY_STATE_WORDS], uint8_t *out, size_t out_len);
+
+/*
+ * The line of the service handset: a frame of kind 21 with the stage as one byte, the countdown, all rounds and the
+ * requests, as link_survey_status says them, line feed included. At every stage.
+ *
+ * out      altered: LINK_SURVEY_SERVICE_LINE_BYTES bytes at its front.
+ * returns  10, 14, or 0.
+ */
+uint32_t link_survey_service_line(const uint16_t state[LINK_SURVEY_STATE_WORDS], uint8_t *out, size_t out_len);
 
 /*
  * What the finished survey says of a unit.

@@ -18,20 +18,21 @@ LEVELS = os.path.join(ROOT, "evidence", "tests", "levels", "program")
 ARCHIVE = os.path.join(ROOT, "target", "staticlib", "libsurvey_c.a")
 WARNINGS = ["-Wall", "-Wextra", "-Wpedantic", "-Werror"]
 
-# document 01's case B: the rounds of stages 1 to 10 are 3, 4, 2, 4, 2, 4, 3, 1, 2, 2, of ceilings 4, 5, 2, 4, 2, 4, 3, 1, 3, 2
+# document 01's case B: the rounds of stages 1 to 10 are 3, 4, 2, 4, 2, 4, 3, 1, 2, 2, of ceilings 4, 5, 2, 4, 2, 4, 3, 1, 3, 2; the foreman's lines
+# are those of an independent model
 CASE_B = """\
 4 units, 4 links
-round   0  countdown  30  colour
-round   3  countdown  26  tree
-round   7  countdown  21  tour
-round   9  countdown  19  first ranking
-round  13  countdown  15  marks
-round  15  countdown  13  second ranking
-round  19  countdown   9  least and greatest
-round  22  countdown   6  joins
-round  23  countdown   5  classes
-round  25  countdown   2  labels
-round  27  countdown   0  finished
+round   0  countdown  30  colour              2001001EC1
+round   3  countdown  26  tree                2002001AC4
+round   7  countdown  21  tour                20030015C8
+round   9  countdown  19  first ranking       20040013C9
+round  13  countdown  15  marks               2005000FCC
+round  15  countdown  13  second ranking      2006000DCD
+round  19  countdown   9  least and greatest  20070009D0
+round  22  countdown   6  joins               20080006D2
+round  23  countdown   5  classes             20090005D2
+round  25  countdown   2  labels              200A0002D4
+round  27  countdown   0  finished            200B0000D5
 unit 2 is a single point: without it, others lose each other
 link 3, between units 2 and 3, at -127 dBm, is lone: no ring backs it up
 """
@@ -120,7 +121,7 @@ class Programs(unittest.TestCase):
         status, printed, _ = self.made("handset", given=b"010001FE\n0F0000F1\n")
         self.assertEqual(status, 0)
         self.assertIn("there is no single point\nthere is no lone link\n", printed)
-        self.assertIn("round   0  countdown  16  colour\n", printed)
+        self.assertIn("round   0  countdown  16  colour              20010010CF\n", printed)
 
     def test_every_round(self):
         """-v shows each round once; the countdown falls to 0; where a stage begins the line is the one shown without -v."""
@@ -133,6 +134,9 @@ class Programs(unittest.TestCase):
         self.assertEqual(countdowns[-1], 0)
         for line in CASE_B.splitlines():
             self.assertIn(line + "\n", printed)
+        # the first case of these vectors is case B: 28 times the foreman's line, then the service line
+        lines = contents(os.path.join(ROOT, "crates", "lines_check", "stdout")).splitlines()
+        self.assertEqual(re.findall(r"(?m)^round .+  (20[0-9A-F]{8})$", printed), lines[0:56:2])
 
     def test_vectors(self):
         """The report of each file, or the number of its refusal with words."""

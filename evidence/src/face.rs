@@ -30,6 +30,8 @@ unsafe extern "C" {
     fn link_survey_unit(state: *const u16, unit: u16, reply: *mut u16) -> u32;
     fn link_survey_link(state: *const u16, position: u16, reply: *mut u16) -> u32;
     fn link_survey_state_report(state: *const u16, out: *mut u8, out_len: usize) -> u32;
+    fn link_survey_foreman_line(state: *const u16, out: *mut u8, out_len: usize) -> u32;
+    fn link_survey_service_line(state: *const u16, out: *mut u8, out_len: usize) -> u32;
 }
 
 // Each call is lent whole arrays, and whole slices with their true lengths, and keeps none of them.
@@ -76,4 +78,12 @@ pub fn state_report(state: &State, out: &mut [u8]) -> u32 {
     unsafe { link_survey_state_report(state.as_ptr(), out.as_mut_ptr(), out.len()) }
 }
 
-pub const PROVED: Calls = Calls { report, read, write, load, round, run, status, unit, link, state_report };
+pub fn foreman_line(state: &State, out: &mut [u8]) -> u32 {
+    unsafe { link_survey_foreman_line(state.as_ptr(), out.as_mut_ptr(), out.len()) }
+}
+
+pub fn service_line(state: &State, out: &mut [u8]) -> u32 {
+    unsafe { link_survey_service_line(state.as_ptr(), out.as_mut_ptr(), out.len()) }
+}
+
+pub const PROVED: Calls = Calls { report, read, write, load, round, run, status, unit, link, state_report, foreman_line, service_line };

@@ -29,9 +29,11 @@ pub struct Calls {
     pub unit: fn(&State, u16, &mut UnitReply) -> u32,
     pub link: fn(&State, u16, &mut LinkReply) -> u32,
     pub state_report: fn(&State, &mut [u8]) -> u32,
+    pub foreman_line: fn(&State, &mut [u8]) -> u32,
+    pub service_line: fn(&State, &mut [u8]) -> u32,
 }
 
-pub const PLAIN: Calls = Calls { report, read, write, load, round, run, status, unit, link, state_report };
+pub const PLAIN: Calls = Calls { report, read, write, load, round, run, status, unit, link, state_report, foreman_line, service_line };
 
 fn number(answer: Result<(), Refusal>) -> u32 {
     match answer {
@@ -119,4 +121,14 @@ pub fn link(state: &State, position: u16, reply: &mut LinkReply) -> u32 {
 /// Refused with 10, 12, 14.
 pub fn state_report(state: &State, out: &mut [u8]) -> u32 {
     number(Survey::from_words(state).report(out).map(|_| ()))
+}
+
+/// Refused with 10, 14.
+pub fn foreman_line(state: &State, out: &mut [u8]) -> u32 {
+    number(Survey::from_words(state).foreman_line(out).map(|_| ()))
+}
+
+/// Refused with 10, 14.
+pub fn service_line(state: &State, out: &mut [u8]) -> u32 {
+    number(Survey::from_words(state).service_line(out).map(|_| ()))
 }

@@ -10,6 +10,7 @@ ghost use Rattle.lent.specs.FileFace.{wordSaid};
 ghost use Rattle.claim.specs.Play;
 ghost use Rattle.claim_on_words.specs.Exchange.{numberTo, stateAfter, lentAfter, madeAfter};
 ghost use Rattle.reporter.specs.Printed.{printed, laidOver, laidCount};
+ghost use Rattle.status_lines.specs.Lines.{foremanAnswer, foremanShown, serviceAnswer, serviceShown};
 
 // No state: what the program prints for the bytes of a file, at the front of `out`, and the number of bytes; nothing and 0 where `out` is too short.
 #[no_mangle]
@@ -99,6 +100,24 @@ pub extern "C" fn link_survey_state_report(state: &[u16; STATE_WORDS], out: &mut
     ensures bytes { λ _. ⌜ now (out .exit) ≡ lentAfter (Play.report (now (out .entry))) (now (state .entry)) (now (out .entry)) ⌝ }
 {
     lent::report(state, out)
+}
+
+// The foreman's line at the front of `out`, at every stage (T-06): 10, 14.
+#[no_mangle]
+pub extern "C" fn link_survey_foreman_line(state: &[u16; STATE_WORDS], out: &mut [u8]) -> u32
+    ensures number { λ r. ⌜ r ≡ numberOf (foremanAnswer (length (now (out .entry))) (stateOf (now (state .entry))) .reply) ⌝ }
+    ensures bytes { λ _. ⌜ now (out .exit) ≡ foremanShown (stateOf (now (state .entry))) (now (out .entry)) ⌝ }
+{
+    handsets_on_words::foreman_line(state, out)
+}
+
+// The service line, in the same way: 10, 14.
+#[no_mangle]
+pub extern "C" fn link_survey_service_line(state: &[u16; STATE_WORDS], out: &mut [u8]) -> u32
+    ensures number { λ r. ⌜ r ≡ numberOf (serviceAnswer (length (now (out .entry))) (stateOf (now (state .entry))) .reply) ⌝ }
+    ensures bytes { λ _. ⌜ now (out .exit) ≡ serviceShown (stateOf (now (state .entry))) (now (out .entry)) ⌝ }
+{
+    handsets_on_words::service_line(state, out)
 }
 
 // No state: the ends of a file to the front of `table` and its levels to the front of `levels`, its unit count and its number of links: 1, 2, 3, 6, 16, 14.

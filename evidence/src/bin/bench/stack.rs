@@ -67,10 +67,11 @@ impl Meter {
     }
 }
 
-const CALLS: [&str; 10] = ["report", "read", "write", "load", "round", "run", "status", "unit", "link", "state_report"];
+const CALLS: [&str; 12] =
+    ["report", "read", "write", "load", "round", "run", "status", "unit", "link", "state_report", "foreman_line", "service_line"];
 
 /// The deepest that each call goes on one site: round by round, and at the end.
-fn depths(meter: &mut Meter, calls: &Calls, site: &Site) -> [usize; 10] {
+fn depths(meter: &mut Meter, calls: &Calls, site: &Site) -> [usize; 12] {
     let mut file = vec![0; file_length(site.links())];
     write_file(site.units, &site.table, &site.levels, &mut file).expect("a site passes the checks");
     let mut out = vec![0; report_length(usize::from(site.units), site.links())];
@@ -101,6 +102,10 @@ fn depths(meter: &mut Meter, calls: &Calls, site: &Site) -> [usize; 10] {
     assert_eq!(number, 0);
     let state_report = meter.depth(|| number = (calls.state_report)(&state, &mut out));
     assert_eq!(number, 0);
+    let foreman_line = meter.depth(|| number = (calls.foreman_line)(&state, &mut out));
+    assert_eq!(number, 0);
+    let service_line = meter.depth(|| number = (calls.service_line)(&state, &mut out));
+    assert_eq!(number, 0);
 
     let mut round = 0;
     state.copy_from_slice(&first[..]);
@@ -113,14 +118,14 @@ fn depths(meter: &mut Meter, calls: &Calls, site: &Site) -> [usize; 10] {
         }));
     }
     assert_eq!(number, 11);
-    [report, read, write, load, round, run, status, unit, link, state_report]
+    [report, read, write, load, round, run, status, unit, link, state_report, foreman_line, service_line]
 }
 
 pub fn print() {
     println!("Deepest stack in bytes, to the next 16, over the largest sites and, for a round, over all their rounds.\n");
     println!("{:14}{:>10}{:>20}", "call", "proved", "plain on words");
     let mut meter = Meter::new();
-    let mut most = [[0; 10]; 2];
+    let mut most = [[0; 12]; 2];
     for shape in LARGEST {
         let site = site(shape, 256).expect("a shape");
         for (most, calls) in most.iter_mut().zip([PROVED, PLAIN]) {

@@ -15,6 +15,8 @@ pub enum Call {
     Unit { unit: u16, reply: UnitReply },
     Link { position: u16, reply: LinkReply },
     Report { out: Vec<u8> },
+    ForemanLine { out: Vec<u8> },
+    ServiceLine { out: Vec<u8> },
 }
 
 impl Call {
@@ -27,6 +29,8 @@ impl Call {
             Call::Unit { .. } => "unit",
             Call::Link { .. } => "link",
             Call::Report { .. } => "state report",
+            Call::ForemanLine { .. } => "foreman's line",
+            Call::ServiceLine { .. } => "service line",
         }
     }
 }
@@ -78,14 +82,21 @@ pub fn both(state: &mut Lent<u16>, call: &Call) -> Result<u32, String> {
             let plain = (PLAIN.link)(state.plain_array(), *position, lent.plain_array());
             (proved, plain)
         }),
-        Call::Report { out } => {
-            let mut out = Lent::new(out, BYTE_MARGIN);
-            let proved = (PROVED.state_report)(state.proved_array(), out.proved());
-            let plain = (PLAIN.state_report)(state.plain_array(), out.plain());
-            let number = agree(proved, plain)?;
-            out.difference("report")?;
-            Ok(number)
-        }
+        Call::Report { out } => written(out, "report", |lent| {
+            let proved = (PROVED.state_report)(state.proved_array(), lent.proved());
+            let plain = (PLAIN.state_report)(state.plain_array(), lent.plain());
+            (proved, plain)
+        }),
+        Call::ForemanLine { out } => written(out, "line", |lent| {
+            let proved = (PROVED.foreman_line)(state.proved_array(), lent.proved());
+            let plain = (PLAIN.foreman_line)(state.plain_array(), lent.plain());
+            (proved, plain)
+        }),
+        Call::ServiceLine { out } => written(out, "line", |lent| {
+            let proved = (PROVED.service_line)(state.proved_array(), lent.proved());
+            let plain = (PLAIN.service_line)(state.plain_array(), lent.plain());
+            (proved, plain)
+        }),
     }?;
     state.difference("state").map_err(|difference| named(&difference))?;
     Ok(number)
@@ -97,6 +108,15 @@ fn replied(reply: &[u16], call: impl FnOnce(&mut Lent<u16>) -> (u32, u32)) -> Re
     let (proved, plain) = call(&mut lent);
     let number = agree(proved, plain)?;
     lent.difference("reply")?;
+    Ok(number)
+}
+
+/// A call that writes to a slice of bytes, which is lent with its margins.
+fn written(out: &[u8], name: &str, call: impl FnOnce(&mut Lent<u8>) -> (u32, u32)) -> Result<u32, String> {
+    let mut lent = Lent::new(out, BYTE_MARGIN);
+    let (proved, plain) = call(&mut lent);
+    let number = agree(proved, plain)?;
+    lent.difference(name)?;
     Ok(number)
 }
 

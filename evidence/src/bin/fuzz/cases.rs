@@ -7,7 +7,7 @@ use plain::damage::{any_file, any_words, spoil_site};
 use plain::random::Random;
 use plain::sites::any_site;
 use plain::states::{any_kept, loaded};
-use plain::{file_length, read_file, report_length, report_of_file};
+use plain::{FOREMAN_LINE, SERVICE_LINE, file_length, read_file, report_length, report_of_file};
 
 /// The place of the stage among the words of a state.
 const STAGE: usize = 2050;
@@ -33,6 +33,12 @@ fn reply<const WORDS: usize>(random: &mut Random) -> [u16; WORDS] {
 
 fn bytes(random: &mut Random, length: usize) -> Vec<u8> {
     (0..length).map(|_| random.word() as u8).collect()
+}
+
+/// Places for a handset's line.
+fn line(random: &mut Random, needed: usize) -> Vec<u8> {
+    let length = some_length(random, needed);
+    bytes(random, length)
 }
 
 /// Words for the ends of a file's links, as many as `some_length` says.
@@ -70,12 +76,14 @@ fn number(random: &mut Random, count: u16) -> u16 {
 /// Any call but a load, with numbers that fit the state's counts, whatever these are.
 fn any_call(random: &mut Random, state: &[u16]) -> Call {
     let (units, links) = (state[0], state[1]);
-    match random.below(7) {
+    match random.below(9) {
         0 => Call::Round,
         1 | 2 => Call::Run { budget: budget(random), made: random.word() },
         3 => Call::Status { reply: reply(random) },
         4 => Call::Unit { unit: number(random, units), reply: reply(random) },
         5 => Call::Link { position: number(random, links), reply: reply(random) },
+        6 => Call::ForemanLine { out: line(random, FOREMAN_LINE) },
+        7 => Call::ServiceLine { out: line(random, SERVICE_LINE) },
         _ => {
             let needed = report_length(usize::from(units), usize::from(links)).min(MOST);
             let length = some_length(random, needed);

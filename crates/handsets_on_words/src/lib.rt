@@ -1,0 +1,48 @@
+// The foreman's line and the service line (T-06) on a state in words that the caller lends. A number that comes back is that of the refusal, 0 where the
+// call was not refused; on a refusal nothing lent is altered.
+use status_lines::Status;
+use words::STATE_WORDS;
+ghost use mathlib.Core.Path.{_≡_};
+ghost use lib.ListN.{length};
+ghost use Rattle.machine.specs.Calls.{numberOf};
+ghost use Rattle.words.specs.Layout.{stateOf};
+ghost use Rattle.status_lines.specs.Lines.{foremanAnswer, foremanShown, serviceAnswer, serviceShown};
+ghost use Rattle.handsets_on_words.specs.Reply.{recordOf};
+
+// The status record of a status call's reply.
+fn record_of(told: [u16; 4]) -> Status
+    ensures { λ r. ⌜ r ≡ recordOf told ⌝ }
+{
+    Status {
+        stage: told[0],
+        countdown: told[1],
+        rounds: told[2],
+        requests: told[3],
+    }
+}
+
+// The foreman's line at the front of `out`: 10, 14.
+pub fn foreman_line(state: &[u16; STATE_WORDS], out: &mut [u8]) -> u32
+    ensures number { λ r. ⌜ r ≡ numberOf (foremanAnswer (length (now (out .entry))) (stateOf (now (state .entry))) .reply) ⌝ }
+    ensures bytes { λ _. ⌜ now (out .exit) ≡ foremanShown (stateOf (now (state .entry))) (now (out .entry)) ⌝ }
+{
+    let mut told = [0; 4];
+    let refused = lent::status(state, &mut told);
+    if refused != 0 {
+        return refused;
+    }
+    status_lines::foreman::write(record_of(told), out) as u32
+}
+
+// The service line at the front of `out`: 10, 14.
+pub fn service_line(state: &[u16; STATE_WORDS], out: &mut [u8]) -> u32
+    ensures number { λ r. ⌜ r ≡ numberOf (serviceAnswer (length (now (out .entry))) (stateOf (now (state .entry))) .reply) ⌝ }
+    ensures bytes { λ _. ⌜ now (out .exit) ≡ serviceShown (stateOf (now (state .entry))) (now (out .entry)) ⌝ }
+{
+    let mut told = [0; 4];
+    let refused = lent::status(state, &mut told);
+    if refused != 0 {
+        return refused;
+    }
+    status_lines::service::write(record_of(told), out) as u32
+}
