@@ -1,4 +1,4 @@
-//! Links the proved library's C face, for the feature `face` alone.
+//! Links the proved library's C face, for the feature `face` alone, and the crate `seats` for `record`.
 
 use std::path::Path;
 
@@ -8,12 +8,19 @@ fn main() {
         return;
     }
     let folder = Path::new(env!("CARGO_MANIFEST_DIR")).join("../target/staticlib");
-    let archive = folder.join("libsurvey_c.a");
+    println!("cargo::rustc-link-search=native={}", folder.display());
+    link(&folder, "survey_c");
+    if std::env::var_os("CARGO_FEATURE_RECORD").is_some() {
+        link(&folder, "seats");
+    }
+}
+
+fn link(folder: &Path, name: &str) {
+    let archive = folder.join(format!("lib{name}.a"));
     println!("cargo::rerun-if-changed={}", archive.display());
     if !archive.exists() {
-        println!("cargo::error={} is missing: make it by `rt staticlib survey_c` at the root of the repository", archive.display());
+        println!("cargo::error={} is missing: make it by `rt staticlib {name}` at the root of the repository", archive.display());
         return;
     }
-    println!("cargo::rustc-link-search=native={}", folder.display());
-    println!("cargo::rustc-link-lib=static=survey_c");
+    println!("cargo::rustc-link-lib=static={name}");
 }

@@ -36,9 +36,9 @@
 /*
  * The version of these declarations: it grows with each change. 3 has link_survey_read and link_survey_write; 4 has
  * levels: link_survey_load, link_survey_read and link_survey_write take them, and a state has 1,024 words more; 5 has
- * link_survey_foreman_line and link_survey_service_line.
+ * link_survey_foreman_line and link_survey_service_line; 6 has seats: link_survey_seat_load and link_survey_tick.
  */
-#define LINK_SURVEY_VERSION 5
+#define LINK_SURVEY_VERSION 6
 
 /*
  * The words of a state, lent by the caller to every call on a state (all but link_survey_report, link_survey_read and
@@ -54,6 +54,10 @@
 #define LINK_SURVEY_MAX_UNITS 256
 #define LINK_SURVEY_MAX_LINKS 1024
 #define LINK_SURVEY_MAX_ROUNDS 804
+
+/* The seats of an office, and the seat last served before any tick: the search then begins at seat 0. */
+#define LINK_SURVEY_SEATS 8
+#define LINK_SURVEY_FIRST_TURN 7
 
 /* The level of a link: its received signal in dBm, from the lowest to the highest. */
 #define LINK_SURVEY_LOWEST_LEVEL (-127)
@@ -80,9 +84,9 @@
 #define LINK_SURVEY_ABSENT 65535
 
 /*
- * The customer's numbers of the refusals (15 and 16 are document 02's): 1 to 3, 6 and 16 of reading a file, 4 to 9, 15
- * and 16 of loading or writing a table, 10 to 13 of the calls on a state, 14 of whatever writes to a slice. 17 to 23
- * are free; take any number but 0 for a refusal.
+ * The customer's numbers of the refusals (15, 16 and 23 are document 02's): 1 to 3, 6 and 16 of reading a file, 4 to 9,
+ * 15 and 16 of loading or writing a table, 10 to 13 of the calls on a state, 14 of whatever writes to a slice, 23 of
+ * loading a seat. 17 to 22 are free; take any number but 0 for a refusal.
  */
 enum link_survey_refusal {
     LINK_SURVEY_DONE = 0,            /* not refused */
@@ -95,13 +99,14 @@ enum link_survey_refusal {
     LINK_SURVEY_END_MISSING = 7,     /* an end is no unit */
     LINK_SURVEY_EQUAL_ENDS = 8,      /* a link has equal ends */
     LINK_SURVEY_REPEATED_LINK = 9,   /* two links join the same two units, whichever way round */
-    LINK_SURVEY_NOT_KEPT = 10,       /* the state is not kept */
-    LINK_SURVEY_AT_END = 11,         /* a round or run is wanted of a finished survey */
+    LINK_SURVEY_NOT_KEPT = 10,       /* the state is not kept; of a tick, a loaded seat or the seat last served */
+    LINK_SURVEY_AT_END = 11,         /* a round or run is wanted of a finished survey, a tick with every seat finished */
     LINK_SURVEY_BEFORE_END = 12,     /* a question or report is wanted before the end */
     LINK_SURVEY_NO_SUCH_NAME = 13,   /* the unit or position does not exist */
     LINK_SURVEY_TOO_SHORT = 14,      /* the slice for a report, a line, a file, or a file's ends or levels is too short */
     LINK_SURVEY_LEVELS_DIFFER = 15,  /* the levels are not as many as the links */
-    LINK_SURVEY_LEVEL_OUTSIDE = 16   /* a level is below -127 or above 0 */
+    LINK_SURVEY_LEVEL_OUTSIDE = 16,  /* a level is below -127 or above 0 */
+    LINK_SURVEY_NO_SUCH_SEAT = 23    /* the seat is above 7 */
 };
 
 /* The stages. */
@@ -269,6 +274,31 @@ uint32_t link_survey_link(const uint16_t state[LINK_SURVEY_STATE_WORDS], uint16_
  * returns  10, 12, 14, or 0.
  */
 uint32_t link_survey_state_report(const uint16_t state[LINK_SURVEY_STATE_WORDS], uint8_t *out, size_t out_len);
+
+/*
+ * Several sites over one channel. Eight seats, each the words of a state, and the number of the seat last served, one
+ * word. A seat is empty while its unit count (its first word) is 0: begin with all words of the seats 0 and the number
+ * LINK_SURVEY_FIRST_TURN. Every call on a state takes a seat too: link_survey_status(seats[i], reply).
+ */
+
+/*
+ * Load a seat with a table and its levels, as link_survey_load loads a state.
+ *
+ * seats    altered: the words of the one seat. The others stay, and no turn moves.
+ * seat     its number, 0 to 7.
+ * returns  23, 4, 5, 6, 15, 16, 7, 8, 9, or 0.
+ */
+uint32_t link_survey_seat_load(uint16_t seats[LINK_SURVEY_SEATS][LINK_SURVEY_STATE_WORDS], uint16_t seat, uint16_t units,
+                               const uint16_t *table, size_t table_len, const int16_t *levels, size_t levels_len);
+
+/*
+ * Give one round to the next unfinished seat after the one last served, going round. An empty seat counts as finished.
+ *
+ * last     altered: the seat that was served (one word).
+ * seats    altered: the words of that seat, one round on. The other seven stay.
+ * returns  10 (last is above 7, or a loaded seat is not kept), 11 (every seat is finished), or 0.
+ */
+uint32_t link_survey_tick(uint16_t *last, uint16_t seats[LINK_SURVEY_SEATS][LINK_SURVEY_STATE_WORDS]);
 
 #ifdef __cplusplus
 }

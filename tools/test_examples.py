@@ -81,7 +81,7 @@ class Programs(unittest.TestCase):
         folder = tempfile.TemporaryDirectory()
         cls.addClassCleanup(folder.cleanup)
         cls.folder = folder.name
-        for name in "case_b", "handset":
+        for name in "case_b", "handset", "office":
             command = [found[0], "-std=c99", *WARNINGS, "-I" + os.path.join(ROOT, "include"), example(name + ".c"), ARCHIVE]
             built = subprocess.run(command + ["-o", os.path.join(cls.folder, name)], capture_output=True, text=True, check=False)
             if built.returncode != 0:
@@ -95,6 +95,11 @@ class Programs(unittest.TestCase):
 
     def test_case_b(self):
         self.assertEqual(self.made("case_b"), (0, "27 rounds\nunit 2 is a single point\n", ""))
+
+    def test_office(self):
+        # cases B and E take 27 and 28 rounds, by turns from seat 0 on: B ends with tick 2 * 27 - 1, E with tick 27 + 28
+        printed = "tick 53: seat 0 is finished after 27 rounds\ntick 55: seat 3 is finished after 28 rounds\n"
+        self.assertEqual(self.made("office"), (0, printed, ""))
 
     def test_handset(self):
         printed = CASE_B + contents(example("case-b.report.txt"))

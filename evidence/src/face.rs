@@ -1,5 +1,6 @@
 //! The proved library through its C face. A slice goes over as its pointer and its length, an array of fixed size as its pointer.
 
+use crate::seats::{SeatCalls, Seats};
 use crate::words::{Calls, LinkReply, State, StatusReply, UnitReply};
 
 unsafe extern "C" {
@@ -32,6 +33,16 @@ unsafe extern "C" {
     fn link_survey_state_report(state: *const u16, out: *mut u8, out_len: usize) -> u32;
     fn link_survey_foreman_line(state: *const u16, out: *mut u8, out_len: usize) -> u32;
     fn link_survey_service_line(state: *const u16, out: *mut u8, out_len: usize) -> u32;
+    fn link_survey_seat_load(
+        seats: *mut Seats,
+        seat: u16,
+        units: u16,
+        table: *const u16,
+        table_len: usize,
+        levels: *const i16,
+        levels_len: usize,
+    ) -> u32;
+    fn link_survey_tick(last: *mut u16, seats: *mut Seats) -> u32;
 }
 
 // Each call is lent whole arrays, and whole slices with their true lengths, and keeps none of them.
@@ -87,3 +98,41 @@ pub fn service_line(state: &State, out: &mut [u8]) -> u32 {
 }
 
 pub const PROVED: Calls = Calls { report, read, write, load, round, run, status, unit, link, state_report, foreman_line, service_line };
+
+fn seat_load(seats: &mut Seats, seat: u16, units: u16, table: &[u16], levels: &[i16]) -> u32 {
+    unsafe { link_survey_seat_load(seats, seat, units, table.as_ptr(), table.len(), levels.as_ptr(), levels.len()) }
+}
+
+fn tick(last: &mut u16, seats: &mut Seats) -> u32 {
+    unsafe { link_survey_tick(last, seats) }
+}
+
+pub const PROVED_SEATS: SeatCalls = SeatCalls { load: seat_load, tick };
+
+/// The tick that takes the turn as a record, of the archive of the crate `seats`.
+#[cfg(feature = "record")]
+pub mod record {
+    use super::{SeatCalls, Seats, seat_load};
+
+    #[repr(C)]
+    struct Turn {
+        last: u16,
+    }
+
+    mod archive {
+        use super::{Seats, Turn};
+
+        unsafe extern "C" {
+            pub fn tick(turn: *mut Turn, seats: *mut Seats) -> u32;
+        }
+    }
+
+    fn tick(last: &mut u16, seats: &mut Seats) -> u32 {
+        let mut turn = Turn { last: *last };
+        let number = unsafe { archive::tick(&mut turn, seats) };
+        *last = turn.last;
+        number
+    }
+
+    pub const BY_RECORD: SeatCalls = SeatCalls { load: seat_load, tick };
+}

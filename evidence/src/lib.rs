@@ -21,6 +21,9 @@ mod table;
 /// What the calls give on lent words, as in the C face.
 pub mod words;
 
+/// Eight states and a turn, on lent words.
+pub mod seats;
+
 #[cfg(feature = "face")]
 pub mod face;
 

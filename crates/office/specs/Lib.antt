@@ -1,0 +1,9 @@
+pub mod Turns
+pub mod TurnLaws
+pub mod Office
+pub mod OfficeLaws
+pub mod TickLaws
+pub mod Fairness
+pub mod TickCauses
+pub mod Channel
+pub mod ChannelProof

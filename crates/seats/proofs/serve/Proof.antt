@@ -1,0 +1,97 @@
+-- The turn, the other seats, whether some seat waits, and its round.
+use Rattle.seats.specs.ServeLaws.{told-high, seat-served, told-others, told-over, told-refused, told-given}
+use borrow.Author.Needs.{needs}
+use Rattle.seats.proofs.serve.Statement.{statement}
+use Rattle.seats.proofs.serve.Tie as tie
+
+returns : tie.Need-returns
+returns c = told-high (c .before .args .last) (c .before .args .seats .now) (c .if1 .taken)
+
+flags-requires : tie.Need-flags-requires
+flags-requires c κs = search needs
+
+pick-requires : tie.Need-pick-requires
+pick-requires c κs = search needs
+
+others-sound-requires : tie.Need-others-sound-requires
+others-sound-requires c κs = search needs
+
+returns-2 : tie.Need-returns-2
+returns-2 c =
+    let os = c .before in
+    let p = os .before .before .before in
+    let f = p .before in
+    let e1 = f .before .before in
+    let a = e1 .before .args in
+    let eight = os .before .others-sound-arg2 .given .0 in
+    told-others (a .last) (a .seats .now) eight (p .pick .result) (seat-served (a .last) (a .seats .now) eight (f .flags .result) (p .pick .result) (f .flags .ensures) (p .pick .ensures))
+    (e1 .if1 .left) (os .others-sound .result) (os .others-sound .ensures) (c .if2 .taken)
+
+returns-3 : tie.Need-returns-3
+returns-3 c =
+    let e2 = c .before in
+    let os = e2 .before in
+    let p = os .before .before .before in
+    let f = p .before in
+    let e1 = f .before .before in
+    let a = e1 .before .args in
+    let eight = os .before .others-sound-arg2 .given .0 in
+    told-over (a .last) (a .seats .now) eight (p .pick .result) (seat-served (a .last) (a .seats .now) eight (f .flags .result) (p .pick .result) (f .flags .ensures) (p .pick .ensures))
+    (e1 .if1 .left) (os .others-sound .result) (os .others-sound .ensures) (e2 .if2 .left) (c .if3 .taken)
+
+cast-round : tie.Need-cast-round
+cast-round c = search needs
+
+mul-round : tie.Need-mul-round
+mul-round c = search needs
+
+index-1-round : tie.Need-index-1-round
+index-1-round c = search needs
+
+round-requires : tie.Need-round-requires
+round-requires c κs = search needs
+
+returns-4 : tie.Need-returns-4
+returns-4 c =
+    let r = c .before in
+    let e3 = r .before .before in
+    let e2 = e3 .before in
+    let os = e2 .before in
+    let p = os .before .before .before in
+    let f = p .before in
+    let e1 = f .before .before in
+    let a = e1 .before .args in
+    let eight = os .before .others-sound-arg2 .given .0 in
+    told-refused (a .last) (a .seats .now) eight (p .pick .result) (seat-served (a .last) (a .seats .now) eight (f .flags .result) (p .pick .result) (f .flags .ensures) (p .pick .ensures))
+    (e1 .if1 .left) (os .others-sound .result) (os .others-sound .ensures) (e2 .if2 .left) (e3 .if3 .left) (r .round .result) _ (r .round .ensures .0) (r .round .ensures .1) (c .if4 .taken)
+
+returns-5 : tie.Need-returns-5
+returns-5 c =
+    let r = c .before in
+    let e3 = r .before .before in
+    let e2 = e3 .before in
+    let os = e2 .before in
+    let p = os .before .before .before in
+    let f = p .before in
+    let e1 = f .before .before in
+    let a = e1 .before .args in
+    let eight = os .before .others-sound-arg2 .given .0 in
+    told-given (a .last) (a .seats .now) eight (p .pick .result) (seat-served (a .last) (a .seats .now) eight (f .flags .result) (p .pick .result) (f .flags .ensures) (p .pick .ensures))
+    (e1 .if1 .left) (os .others-sound .result) (os .others-sound .ensures) (e2 .if2 .left) (e3 .if3 .left) (r .round .result) _ (r .round .ensures .0) (r .round .ensures .1) (c .if4 .left)
+
+pub serve-spec : {M : Type 1} → statement M
+serve-spec =
+    tie.close
+    (tie.spec
+    returns
+    flags-requires
+    pick-requires
+    others-sound-requires
+    returns-2
+    returns-3
+    cast-round
+    mul-round
+    index-1-round
+    round-requires
+    returns-4
+    returns-5)

@@ -1,0 +1,4 @@
+pub mod Lent
+pub mod LentLaws
+pub mod ServeLaws
+pub mod Cleared

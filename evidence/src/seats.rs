@@ -1,0 +1,50 @@
+//! Several sites over one channel (document 02, T-12) on lent words, as the C face has it: eight states, and the number of the seat
+//! last served.
+
+use crate::words::{State, load, round};
+use crate::{FINISHED, Survey};
+
+pub const SEATS: usize = 8;
+/// The seat last served before any tick.
+pub const FIRST_TURN: u16 = 7;
+
+pub type Seats = [State; SEATS];
+
+/// One side's calls.
+#[derive(Clone, Copy)]
+pub struct SeatCalls {
+    pub load: fn(&mut Seats, u16, u16, &[u16], &[i16]) -> u32,
+    pub tick: fn(&mut u16, &mut Seats) -> u32,
+}
+
+pub const PLAIN: SeatCalls = SeatCalls { load: load_seat, tick };
+
+/// Eight empty seats.
+pub fn empty_seats() -> Box<Seats> {
+    let seats: Box<[State]> = vec![[0; Survey::WORDS]; SEATS].into_boxed_slice();
+    seats.try_into().expect("eight seats")
+}
+
+/// Refused with 23, then as a load.
+pub fn load_seat(seats: &mut Seats, seat: u16, units: u16, table: &[u16], levels: &[i16]) -> u32 {
+    match seats.get_mut(usize::from(seat)) {
+        Some(state) => load(state, units, table, levels),
+        None => 23,
+    }
+}
+
+/// Refused with 10, 11.
+pub fn tick(last: &mut u16, seats: &mut Seats) -> u32 {
+    let surveys: Vec<Survey> = seats.iter().map(Survey::from_words).collect();
+    let loaded = |survey: &&Survey| survey.units != 0;
+    if usize::from(*last) >= SEATS || surveys.iter().filter(loaded).any(|survey| !survey.kept()) {
+        return 10;
+    }
+    let after = (*last as usize + 1)..(*last as usize + 1 + SEATS);
+    let unfinished = |seat: &usize| surveys[*seat].units != 0 && surveys[*seat].stage != FINISHED;
+    let Some(seat) = after.map(|seat| seat % SEATS).find(unfinished) else {
+        return 11;
+    };
+    *last = seat as u16;
+    round(&mut seats[seat])
+}
