@@ -95,20 +95,45 @@ fn words_there_and_back() {
     }
 }
 
-/// A load keeps the levels as the last words, with 0 past the links; no round changes them, and no other word has to do with them.
+/// A load keeps the levels as the last words, with 0 past the links, and no round changes them. Where all are equal, no other word has to do with them.
 #[test]
 fn levels_of_a_load() {
     for case in 0..200 {
         let site = any_site(&mut Random::new(6, case));
         let mut survey = loaded(&site);
-        let mut bare = loaded(&Site { levels: vec![LOWEST_LEVEL; site.links()], ..site.clone() });
         survey.run(u16::MAX).unwrap();
-        bare.run(u16::MAX).unwrap();
-        let (words, others) = (survey.to_words(), bare.to_words());
-        let levels: Vec<i16> = words[11014..].iter().map(|&word| level_of_word(word)).collect();
+        let levels: Vec<i16> = survey.levels.iter().map(|&word| level_of_word(word)).collect();
         assert!(levels[..site.links()] == site.levels && levels[site.links()..].iter().all(|&level| level == 0), "load {case}");
+        let [words, others] = [-61, LOWEST_LEVEL].map(|level| {
+            let mut survey = loaded(&Site { levels: vec![level; site.links()], ..site.clone() });
+            survey.run(u16::MAX).unwrap();
+            survey.to_words()
+        });
         assert!(words[..11014] == others[..11014], "load {case}");
     }
+}
+
+/// Any levels give the same first countdown, distances, labels, lone links and single points (T-02); parents and rounds may differ.
+#[test]
+fn whatever_the_levels() {
+    let mut parents = 0;
+    for case in 0..1_000 {
+        let site = any_site(&mut Random::new(7, case));
+        let [mut survey, mut bare] =
+            [site.levels.clone(), vec![LOWEST_LEVEL; site.links()]].map(|levels| loaded(&Site { levels, ..site.clone() }));
+        assert_eq!(survey.status().unwrap().countdown, bare.status().unwrap().countdown, "load {case}");
+        survey.run(u16::MAX).unwrap();
+        bare.run(u16::MAX).unwrap();
+        assert!(survey.dist == bare.dist && survey.label == bare.label, "load {case}");
+        for unit in 0..survey.units {
+            assert_eq!(survey.unit(unit).unwrap().single, bare.unit(unit).unwrap().single, "load {case}: unit {unit}");
+        }
+        for position in 0..survey.links {
+            assert_eq!(survey.link(position).unwrap().lone, bare.link(position).unwrap().lone, "load {case}: link {position}");
+        }
+        parents += usize::from(survey.parent != bare.parent);
+    }
+    assert!(parents > 80, "only {parents} sites have parents of their own");
 }
 
 /// One word of a kept state out of its bound, and it is kept no more.

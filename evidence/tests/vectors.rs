@@ -103,10 +103,10 @@ fn parts<'a>(lines: &'a str, names: &'a str) -> Vec<(&'a str, String)> {
     parts
 }
 
-fn each_round(folder: &str, say: fn(&Survey, &mut String)) {
+fn each_round(folder: &str, load: fn(&[u8]) -> Survey, say: fn(&Survey, &mut String)) {
     let folder = crates().join(folder);
     for (name, expected) in parts(&text(&folder.join("stdout")), &text(&folder.join("args"))) {
-        let mut survey = loaded(&read(&folder.join("data").join(name)));
+        let mut survey = load(&read(&folder.join("data").join(name)));
         let mut said = String::new();
         say(&survey, &mut said);
         while !survey.finished() {
@@ -123,7 +123,7 @@ fn each_round(folder: &str, say: fn(&Survey, &mut String)) {
 /// The status after the load and after each round.
 #[test]
 fn traces() {
-    each_round("trace_check", |survey, said| {
+    each_round("trace_check", loaded, |survey, said| {
         let s = survey.status().unwrap();
         writeln!(said, "{} {} {} {}", s.stage, s.countdown, s.rounds, s.requests).unwrap();
     });
@@ -132,7 +132,28 @@ fn traces() {
 /// Every table after the load and after each round.
 #[test]
 fn tables() {
-    each_round("table_check", say_tables);
+    each_round("table_check", loaded, say_tables);
+}
+
+/// The same of tables with levels (document 02, T-02).
+#[test]
+fn tables_by_level() {
+    each_round("levels_check", streamed, say_tables);
+}
+
+/// A stream of numbers: the unit count, the list of words, the list of levels; a list is its length and its numbers.
+fn streamed(input: &[u8]) -> Survey {
+    let mut numbers = std::str::from_utf8(input).unwrap().split_whitespace().map(|word| word.parse::<i32>().unwrap());
+    let units = numbers.next().unwrap() as u16;
+    let mut list = || -> Vec<i32> {
+        let length = numbers.next().unwrap() as usize;
+        numbers.by_ref().take(length).collect()
+    };
+    let table: Vec<u16> = list().into_iter().map(|end| end.try_into().unwrap()).collect();
+    let levels: Vec<i16> = list().into_iter().map(|level| level.try_into().unwrap()).collect();
+    let mut survey = Survey::new();
+    survey.load(units, &table, &levels).unwrap();
+    survey
 }
 
 fn word(x: u16) -> String {

@@ -29,8 +29,8 @@ unfoldable pub tree : State → State
 tree s =
     State.withTree
     (record {
-      parent = parentRound (State.units s) (State.links s) (s .clock .made) (s .table .ends) (s .components .color) (s .tree .dist) (s .tree .parent);
-      dist = distRound (State.units s) (State.links s) (s .clock .made) (s .table .ends) (s .components .color) (s .tree .dist);
+      parent = parentRound (State.units s) (State.links s) (s .clock .made) (s .table .ends) (s .table .levels) (s .components .color) (s .tree .dist) (s .tree .parent);
+      dist = distRound (State.units s) (State.links s) (s .clock .made) (s .table .ends) (s .table .levels) (s .components .color) (s .tree .dist);
     })
     s
 
@@ -187,7 +187,7 @@ endsAt k s =
     cond (eqb k 1)
     (colorEnds (State.units s) (s .clock .made) (s .components .color) (components s .components .color))
     (cond (eqb k 2)
-    (treeEnds (State.units s) (State.links s) (s .clock .made) (s .table .ends) (s .components .color) (s .tree .dist))
+    (treeEnds (State.units s) (State.links s) (s .clock .made) (s .table .ends) (s .table .levels) (s .components .color) (s .tree .dist))
     (cond (eqb k 3) (eqb (s .clock .made) 1)
     (cond (eqb k 4) (rankingEnds (2 * State.units s) (s .ranking .jump))
     (cond (eqb k 5) (eqb (s .clock .made) 1)

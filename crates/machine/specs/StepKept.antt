@@ -89,10 +89,10 @@ module _ (s : State) (k : Kept s) (open′ : s .clock .stage ≡ FINISHED → �
   tree-moved =
       record {
         table = refl;
-        unitNames = (k .unitNames .0, (k .unitNames .1 .0, (RoundBounds.parent-names (units s) (links s) (s .clock .made) (s .table .ends) (s .components .color) (s .tree .dist) (s .tree .parent) some (k .unitNames .0) (k .unitNames .1 .1 .0), k .unitNames .1 .1 .1)));
+        unitNames = (k .unitNames .0, (k .unitNames .1 .0, (RoundBounds.parent-names (units s) (links s) (s .clock .made) (s .table .ends) (s .table .levels) (s .components .color) (s .tree .dist) (s .tree .parent) small-absent some (k .unitNames .0) (k .unitNames .1 .1 .0), k .unitNames .1 .1 .1)));
         arcNames = k .arcNames;
         linkNames = k .linkNames;
-        distances = (RoundBounds.dist-distances (units s) (links s) (s .clock .made) (s .table .ends) (s .components .color) (s .tree .dist) made-small (k .distances .0), tt);
+        distances = (RoundBounds.dist-distances (units s) (links s) (s .clock .made) (s .table .ends) (s .table .levels) (s .components .color) (s .tree .dist) made-small (k .distances .0), tt);
         numbers = k .numbers;
       }
 

@@ -9,6 +9,7 @@ use native.Mathlib.Decide.{ℕ-discrete, decLt}
 use native.Mathlib.Nat.{le-trans}
 use native.Mathlib.Omega.{arith}
 use lib.Dec.{eqb, ltb}
+use lib.IntN.{ℤ}
 use lib.ListN.{length}
 use borrow.Author.Tests.{eqb-true, eqb-false, eq-eqb, ne-eqb, lt-ltb, le-ltb, not-true, not-false}
 use Rattle.lists.specs.Folds.{some}
@@ -74,28 +75,28 @@ Leveled m ends d = (u v : ℕ) → Link m ends u v → d v ≤ suc (d u)
 -- ---- how the round after k rounds leaves a unit
 
 -- visited now, from a neighbour visited in the round before
-record Visited (m : ℕ) (ends color dist parent′ dist′ : List ℕ) (k v : ℕ) : Type 0 where
-  goes : visits m k ends color dist v ≡ true
+record Visited (m : ℕ) (ends : List ℕ) (levels : List ℤ) (color dist parent′ dist′ : List ℕ) (k v : ℕ) : Type 0 where
+  goes : visits m k ends levels color dist v ≡ true
   unseen : at dist v ≡ ABSENT
   distance : at dist′ v ≡ k
   link : Link m ends v (at parent′ v)
   nearer : suc (at dist (at parent′ v)) ≡ k
 
 -- as it was, and with no such neighbour where unvisited
-record Kept (m : ℕ) (ends color parent dist parent′ dist′ : List ℕ) (k v : ℕ) : Type 0 where
-  stays : visits m k ends color dist v ≡ false
+record Kept (m : ℕ) (ends : List ℕ) (levels : List ℤ) (color parent dist parent′ dist′ : List ℕ) (k v : ℕ) : Type 0 where
+  stays : visits m k ends levels color dist v ≡ false
   sameDist : at dist′ v ≡ at dist v
   sameParent : at parent′ v ≡ at parent v
   apart : at dist v ≡ ABSENT → (w : ℕ) → Link m ends v w → suc (at dist w) ≡ k → ⊥
 
-data Now (m : ℕ) (ends color parent dist parent′ dist′ : List ℕ) (k v : ℕ) : Type 0 where
-  visited : Visited m ends color dist parent′ dist′ k v → Now m ends color parent dist parent′ dist′ k v
-  kept : Kept m ends color parent dist parent′ dist′ k v → Now m ends color parent dist parent′ dist′ k v
+data Now (m : ℕ) (ends : List ℕ) (levels : List ℤ) (color parent dist parent′ dist′ : List ℕ) (k v : ℕ) : Type 0 where
+  visited : Visited m ends levels color dist parent′ dist′ k v → Now m ends levels color parent dist parent′ dist′ k v
+  kept : Kept m ends levels color parent dist parent′ dist′ k v → Now m ends levels color parent dist parent′ dist′ k v
 
-record Round (n m : ℕ) (ends color parent dist parent′ dist′ : List ℕ) (k : ℕ) : Type 0 where
+record Round (n m : ℕ) (ends : List ℕ) (levels : List ℤ) (color parent dist parent′ dist′ : List ℕ) (k : ℕ) : Type 0 where
   parentRoom : n ≤ length parent′
   distRoom : n ≤ length dist′
-  each : (v : ℕ) → v < n → Now m ends color parent dist parent′ dist′ k v
+  each : (v : ℕ) → v < n → Now m ends levels color parent dist parent′ dist′ k v
 
 -- e + 1 different units at distances up to e
 record Chain (n : ℕ) (dist : List ℕ) (e : ℕ) : Type 0 where
@@ -104,7 +105,7 @@ record Chain (n : ℕ) (dist : List ℕ) (e : ℕ) : Type 0 where
   different : Distinct units
   within : (z : ℕ) → Mem z units → (z < n) × (at dist z ≤ e)
 
-module _ {n m : ℕ} {ends : List ℕ} (site : Site n m ends) {color : List ℕ} (colored : Colored n m ends color) where
+module _ {n m : ℕ} {ends : List ℕ} (site : Site n m ends) (levels : List ℤ) {color : List ℕ} (colored : Colored n m ends color) where
   fewUnits : n ≤ 256
   fewUnits = site .fewUnits
 
@@ -112,7 +113,7 @@ module _ {n m : ℕ} {ends : List ℕ} (site : Site n m ends) {color : List ℕ}
 
   pub first : (parent dist : List ℕ) → n ≤ length parent → n ≤ length dist
       → ((v : ℕ) → v < n → at parent v ≡ ABSENT) → ((v : ℕ) → v < n → at dist v ≡ ABSENT)
-      → TreeAt n m ends color (parentRound n m 0 ends color dist parent) (distRound n m 0 ends color dist) 1
+      → TreeAt n m ends color (parentRound n m 0 ends levels color dist parent) (distRound n m 0 ends levels color dist) 1
   unfolding parentRound distRound visits
   first parent dist roomP roomD noParent noDist =
       record {
@@ -146,12 +147,12 @@ module _ {n m : ℕ} {ends : List ℕ} (site : Site n m ends) {color : List ℕ}
           })
 
   -- unit 0 equals its color
-  pub first-goes-on : (dist : List ℕ) → treeEnds n m 0 ends color dist ≡ false
+  pub first-goes-on : (dist : List ℕ) → treeEnds n m 0 ends levels color dist ≡ false
   unfolding treeEnds visits
   first-goes-on dist =
       let lowest : at color 0 ≤ 0 = colored .lowest 0 0 (site .someUnit) (connected-refl (Link m ends) 0) in
       let own : at color 0 ≡ 0 = omega arith in
-      rw (some-exact n (visits m 0 ends color dist) .1 (0, site .someUnit, eq-eqb (at color 0) 0 own)) refl
+      rw (some-exact n (visits m 0 ends levels color dist) .1 (0, site .someUnit, eq-eqb (at color 0) 0 own)) refl
 
   -- ---- what the units visited so far are
 
@@ -296,20 +297,20 @@ module _ {n m : ℕ} {ends : List ℕ} (site : Site n m ends) {color : List ℕ}
   -- ---- a later round
 
   made : {parent dist : List ℕ} {k : ℕ} → TreeAt n m ends color parent dist k → 1 ≤ k
-      → Round n m ends color parent dist (parentRound n m k ends color dist parent) (distRound n m k ends color dist) k
+      → Round n m ends levels color parent dist (parentRound n m k ends levels color dist parent) (distRound n m k ends levels color dist) k
   unfolding parentRound distRound
   made {parent} {dist} {k} tree later =
       record {
         parentRoom = rw (length-over n parents parent) (tree .parentRoom);
         distRoom = rw (length-over n dists dist) (tree .distRoom);
-        each = λ v l. each v l (ℕ-discrete (at dist v) ABSENT) (chosen m k ends dist smallA smallB v);
+        each = λ v l. each v l (ℕ-discrete (at dist v) ABSENT) (chosen m k ends levels dist smallA smallB v);
       }
     where
       goes : ℕ → Bool
-      goes v = visits m k ends color dist v
+      goes v = visits m k ends levels color dist v
 
       choice : ℕ → ℕ
-      choice v = chosenParent m k ends dist v
+      choice v = chosenParent m k ends levels dist v
 
       parents : ℕ → ℕ
       parents v = cond (goes v) (cond (eqb k 0) ABSENT (choice v)) (at parent v)
@@ -333,28 +334,28 @@ module _ {n m : ℕ} {ends : List ℕ} (site : Site n m ends) {color : List ℕ}
       not-first = ne-eqb k 0 (λ e. omega arith)
 
       same : (v : ℕ) → v < n → goes v ≡ false → (at dist v ≡ ABSENT → (w : ℕ) → Link m ends v w → suc (at dist w) ≡ k → ⊥)
-          → Now m ends color parent dist (over n parents parent) (over n dists dist) k v
+          → Now m ends levels color parent dist (over n parents parent) (over n dists dist) k v
       same v l e apart =
           kept (record { stays = e; sameDist = dists-at v l ∙ rw e refl; sameParent = parents-at v l ∙ rw e refl; apart = apart })
 
       each : (v : ℕ) → v < n → Dec (at dist v ≡ ABSENT) → Choice m k ends dist v (choice v)
-          → Now m ends color parent dist (over n parents parent) (over n dists dist) k v
+          → Now m ends levels color parent dist (over n parents parent) (over n dists dist) k v
       each v l (yes d) (nearer small j h r e) =
-          let on : goes v ≡ true = rw (visits-later m k ends color dist v later, eq-eqb (at dist v) ABSENT d, ne-eqb (choice v) ABSENT (λ x. omega arith)) refl in
+          let on : goes v ≡ true = rw (visits-later m k ends levels color dist v later, eq-eqb (at dist v) ABSENT d, ne-eqb (choice v) ABSENT (λ x. omega arith)) refl in
           let p : at (over n parents parent) v ≡ choice v = parents-at v l ∙ rw (on, not-first) refl in
           visited (record { goes = on; unseen = d; distance = dists-at v l ∙ rw on refl; link = rw p (j, h, r); nearer = rw p (omega arith) })
       each v l (yes d) (nobody e none) =
-          same v l (rw (visits-later m k ends color dist v later, eq-eqb (at dist v) ABSENT d, eq-eqb (choice v) ABSENT e) refl)
+          same v l (rw (visits-later m k ends levels color dist v later, eq-eqb (at dist v) ABSENT d, eq-eqb (choice v) ABSENT e) refl)
           (λ x w r s. none (r .0) w (r .1) (r .2) (omega arith))
-      each v l (no d) c = same v l (rw (visits-later m k ends color dist v later, ne-eqb (at dist v) ABSENT d) refl) (λ x. absurd (d x))
+      each v l (no d) c = same v l (rw (visits-later m k ends levels color dist v later, ne-eqb (at dist v) ABSENT d) refl) (λ x. absurd (d x))
 
   module _ {parent dist parent′ dist′ : List ℕ} {k : ℕ} (tree : TreeAt n m ends color parent dist k) (later : 1 ≤ k)
-      (round : Round n m ends color parent dist parent′ dist′ k) where
+      (round : Round n m ends levels color parent dist parent′ dist′ k) where
     -- what was visited stays
     settled : (v : ℕ) → v < n → at dist v < ABSENT → at dist′ v ≡ at dist v
     settled v l h = go (round .each v l)
       where
-        go : Now m ends color parent dist parent′ dist′ k v → at dist′ v ≡ at dist v
+        go : Now m ends levels color parent dist parent′ dist′ k v → at dist′ v ≡ at dist v
         go (visited now) = absurd (omega arith)
         go (kept now) = now .sameDist
 
@@ -367,7 +368,7 @@ module _ {n m : ℕ} {ends : List ℕ} (site : Site n m ends) {color : List ℕ}
           closed = closed;
         }
       where
-        stands : (v : ℕ) → v < n → Now m ends color parent dist parent′ dist′ k v → Standing n m ends color parent dist k v
+        stands : (v : ℕ) → v < n → Now m ends levels color parent dist parent′ dist′ k v → Standing n m ends color parent dist k v
             → Standing n m ends color parent′ dist′ (suc k) v
         stands v l (visited now) (root s) = absurd (omega arith)
         stands v l (visited now) (child s) = absurd (omega (arith, fewUnits))
@@ -403,12 +404,12 @@ module _ {n m : ℕ} {ends : List ℕ} (site : Site n m ends) {color : List ℕ}
         closed u v r h = go (round .each u (link-below site u v r .0)) (round .each v (link-below site u v r .1)) (decLt (suc (at dist u)) k)
           where
             -- a neighbour of a unit visited in the round before is visited by now
-            last-round : suc (at dist u) ≡ k → Kept m ends color parent dist parent′ dist′ k v → Standing n m ends color parent dist k v → at dist v ≤ k
+            last-round : suc (at dist u) ≡ k → Kept m ends levels color parent dist parent′ dist′ k v → Standing n m ends color parent dist k v → at dist v ≤ k
             last-round e now (root s) = omega arith
             last-round e now (child s) = omega arith
             last-round e now (unvisited s) = absurd (now .apart (s .distance) u (site-graph site .flip u v r) e)
 
-            go : Now m ends color parent dist parent′ dist′ k u → Now m ends color parent dist parent′ dist′ k v → Dec (suc (at dist u) < k)
+            go : Now m ends levels color parent dist parent′ dist′ k u → Now m ends levels color parent dist parent′ dist′ k v → Dec (suc (at dist u) < k)
                 → at dist′ v ≤ suc (at dist′ u)
             go (visited a) b c = absurd (omega arith)
             go (kept a) (visited b) (yes c) =
@@ -419,47 +420,47 @@ module _ {n m : ℕ} {ends : List ℕ} (site : Site n m ends) {color : List ℕ}
             go (kept a) (kept b) (no c) = omega (arith, last-round (omega arith) b (tree .stands v (link-below site u v r .1)))
 
   pub next : {parent dist : List ℕ} {k : ℕ} → TreeAt n m ends color parent dist k → 1 ≤ k
-      → TreeAt n m ends color (parentRound n m k ends color dist parent) (distRound n m k ends color dist) (suc k)
+      → TreeAt n m ends color (parentRound n m k ends levels color dist parent) (distRound n m k ends levels color dist) (suc k)
   next tree later = after tree later (made tree later)
 
   -- ---- the end of the stage
 
   module _ {parent dist : List ℕ} {k : ℕ} (tree : TreeAt n m ends color parent dist k) (later : 1 ≤ k) where
     -- while it goes on, the ceiling is not reached
-    pub bound : treeEnds n m k ends color dist ≡ false → suc k ≤ n
+    pub bound : treeEnds n m k ends levels color dist ≡ false → suc k ≤ n
     unfolding treeEnds
-    bound e = go (some-exact n (visits m k ends color dist) .0 (not-false (some n (visits m k ends color dist)) e))
+    bound e = go (some-exact n (visits m k ends levels color dist) .0 (not-false (some n (visits m k ends levels color dist)) e))
       where
-        go : (v : ℕ) × (v < n) × (visits m k ends color dist v ≡ true) → suc k ≤ n
+        go : (v : ℕ) × (v < n) × (visits m k ends levels color dist v ≡ true) → suc k ≤ n
         go (v, l, h) = by (made tree later .each v l)
           where
-            by : Now m ends color parent dist (parentRound n m k ends color dist parent) (distRound n m k ends color dist) k v → suc k ≤ n
+            by : Now m ends levels color parent dist (parentRound n m k ends levels color dist parent) (distRound n m k ends levels color dist) k v → suc k ≤ n
             by (visited now) = few-rounds tree later v _ (now .unseen) (now .link) (now .nearer)
-            by (kept now) = absurd (not-both (visits m k ends color dist v) h (now .stays))
+            by (kept now) = absurd (not-both (visits m k ends levels color dist v) h (now .stays))
 
     -- the last round left every unit as it was, so none at distance k
-    last-short : treeEnds n m k ends color dist ≡ true → (v : ℕ) → v < n → at (distRound n m k ends color dist) v < ABSENT
-        → (at (distRound n m k ends color dist) v < n) × (at (distRound n m k ends color dist) v < k)
+    last-short : treeEnds n m k ends levels color dist ≡ true → (v : ℕ) → v < n → at (distRound n m k ends levels color dist) v < ABSENT
+        → (at (distRound n m k ends levels color dist) v < n) × (at (distRound n m k ends levels color dist) v < k)
     unfolding treeEnds
     last-short e v l h = by (made tree later .each v l)
       where
-        none : visits m k ends color dist v ≡ false
-        none = some-none n (visits m k ends color dist) (not-true (some n (visits m k ends color dist)) e) v l
+        none : visits m k ends levels color dist v ≡ false
+        none = some-none n (visits m k ends levels color dist) (not-true (some n (visits m k ends levels color dist)) e) v l
 
-        by : Now m ends color parent dist (parentRound n m k ends color dist parent) (distRound n m k ends color dist) k v
-            → (at (distRound n m k ends color dist) v < n) × (at (distRound n m k ends color dist) v < k)
-        by (visited now) = absurd (not-both (visits m k ends color dist v) (now .goes) none)
+        by : Now m ends levels color parent dist (parentRound n m k ends levels color dist parent) (distRound n m k ends levels color dist) k v
+            → (at (distRound n m k ends levels color dist) v < n) × (at (distRound n m k ends levels color dist) v < k)
+        by (visited now) = absurd (not-both (visits m k ends levels color dist v) (now .goes) none)
         by (kept now) = rw (now .sameDist) (visited-few tree later v l (omega arith))
 
-    pub done : treeEnds n m k ends color dist ≡ true
-        → Rooted n m ends color (parentRound n m k ends color dist parent) (depthOf n (distRound n m k ends color dist))
-        × Leveled m ends (depthOf n (distRound n m k ends color dist))
+    pub done : treeEnds n m k ends levels color dist ≡ true
+        → Rooted n m ends color (parentRound n m k ends levels color dist parent) (depthOf n (distRound n m k ends levels color dist))
+        × Leveled m ends (depthOf n (distRound n m k ends levels color dist))
     done e = rooted-all final all (λ u v r. near u v r (all u (link-below site u v r .0)))
       where
         dist′ : List ℕ
-        dist′ = distRound n m k ends color dist
+        dist′ = distRound n m k ends levels color dist
 
-        final : TreeAt n m ends color (parentRound n m k ends color dist parent) dist′ (suc k)
+        final : TreeAt n m ends color (parentRound n m k ends levels color dist parent) dist′ (suc k)
         final = next tree later
 
         near : (u v : ℕ) → Link m ends u v → at dist′ u < ABSENT → at dist′ v ≤ suc (at dist′ u)

@@ -1,5 +1,5 @@
 -- The exact rules of stages 1 to 3 have the values of the rules, on a table whose ends are units and, from stage 3 on, whose parents are.
-use mathlib.Core.Path.{_≡_, refl}
+use mathlib.Core.Path.{_≡_, refl, ap, _∙_}
 use mathlib.Core.Bool.{Bool, true, false, cond, _&&_}
 use mathlib.Core.Logic.{_⊎_, inl, inr}
 use mathlib.Core.Option.{some}
@@ -7,12 +7,14 @@ use mathlib.Core.List.{List}
 use Prim.Native.Nat.{ℕ, _+_, _*_, _-_, _/_, _%_, _≤_, _<_, min}
 use native.Mathlib.Omega.{arith}
 use lib.Dec.{eqb, ltb}
-use borrow.Author.Tests.{eqb-true, eqb-false, eq-eqb, not-true}
+use lib.IntN.{ℤ, pos, negsuc}
+use lib.Signed.{mag}
+use borrow.Author.Tests.{eqb-true, eqb-false, eq-eqb, lt-ltb, not-true}
 use Rattle.lists.specs.Tests.{either, or-left, or-right}
 use Rattle.table.specs.Table.{endA, endB}
 use Rattle.rules.specs.Basics.{ABSENT, at, isRoot, offTree, heard}
 use Rattle.rules.specs.Components.{leastHeard, colorRound}
-use Rattle.rules.specs.Tree.{candidate, chosenParent, visits, parentRound, distRound, treeEnds}
+use Rattle.rules.specs.Tree.{levelAt, loss, keyOf, candidate, bestKey, chosenParent, visits, parentRound, distRound, treeEnds}
 use Rattle.rules.specs.Tour.{arcUnit, isInto, isArc, treeNeighbor, leastNeighbor, greaterNeighbor, neighborAfter, arcAfter, follower, isStart, predecessor, nextRound, predRound, firstSums, firstJumps}
 use Rattle.rules.specs.CyclicOrder.{after-next}
 use Rattle.rules.specs.BoundLaws.{Names}
@@ -51,6 +53,14 @@ module _ (n : ℕ) {x y : Value} {a b : ℕ} (e : x ≡ some a) (f : y ≡ some 
 
 -- ---- stages 1 and 2
 
+-- a level of 16 bits has its loss
+losses : (z : ℤ) → mag z < 32768 → ExactRules.loss? (some z) ≡ some (loss z)
+unfolding ExactRules.loss? loss
+losses (pos k) h = minus refl refl (omega (arith, h))
+losses (negsuc k) h =
+    let e : 65535 - (32767 - k) ≡ min (32768 + k) 65535 = omega (arith, h) in
+    minus refl (minus refl refl (omega (arith, h))) (omega arith) ∙ ap some e
+
 module _ (n m : ℕ) (ends : List ℕ) (belowA : (j : ℕ) → j < m → endA ends j < n) (belowB : (j : ℕ) → j < m → endB ends j < n) where
   least-heard : (value : List ℕ) (v : ℕ) → v < n → ExactRules.leastHeard? n m ends value (some v) ≡ some (leastHeard m ends value v)
   unfolding ExactRules.leastHeard? leastHeard
@@ -63,45 +73,52 @@ module _ (n m : ℕ) (ends : List ℕ) (belowA : (j : ℕ) → j < m → endA en
   unfolding ExactRules.colorRound? colorRound
   color-round made color = overs n _ _ color (least-heard _)
 
-  module _ (made : ℕ) (dist : List ℕ) where
+  module _ (levels : List ℤ) (fair : (j : ℕ) → j < m → mag (levelAt levels j) < 32768) (made : ℕ) (dist : List ℕ) where
     later : eqb made 0 ≡ false → 1 ≤ made
     later t = omega (arith, eqb-false made 0 t)
 
-    chosen : 1 ≤ made → (v : ℕ) → ExactRules.chosenParent? n m made ends dist (some v) ≡ some (chosenParent m made ends dist v)
-    unfolding ExactRules.chosenParent? ExactRules.candidate? ExactRules.visitedBefore? chosenParent
+    -- the key of a neighbour over link j
+    key : (j : ℕ) → j < m → {x : Value} {w : ℕ} → x ≡ some w → ExactRules.keyOf? (ExactRules.levelAt? m levels (some j)) x ≡ some (keyOf (levelAt levels j) w)
+    unfolding ExactRules.keyOf? ExactRules.levelAt?
+    key j k e = both _+_ (both _*_ (rw (lt-ltb j m k) (losses (levelAt levels j) (fair j k))) refl) e
+
+    chosen : 1 ≤ made → (v : ℕ) → ExactRules.chosenParent? n m made ends levels dist (some v) ≡ some (chosenParent m made ends levels dist v)
+    unfolding ExactRules.chosenParent? ExactRules.candidate? ExactRules.visitedBefore? chosenParent bestKey
     chosen h v =
-        folds min m _ (candidate made ends dist v)
+        both _%_
+        (folds min m _ (candidate made ends levels dist v)
         (λ j k.
         ifs (ands (both eqb (end-a m ends refl k) refl) (λ q. both eqb (read n dist (end-b m ends refl k) (belowB j k)) (minus refl refl h)))
-        (λ q. end-b m ends refl k)
+        (λ q. key j k (end-b m ends refl k))
         (λ q.
         ifs (ands (both eqb (end-b m ends refl k) refl) (λ r. both eqb (read n dist (end-a m ends refl k) (belowA j k)) (minus refl refl h)))
-        (λ r. end-a m ends refl k)
+        (λ r. key j k (end-a m ends refl k))
         (λ r. refl)))
+        refl)
         refl
 
     -- a parent is chosen in later rounds only
-    visit : (color : List ℕ) (v : ℕ) → v < n → ExactRules.visits? n m made ends color dist (some v) ≡ some (visits m made ends color dist v)
+    visit : (color : List ℕ) (v : ℕ) → v < n → ExactRules.visits? n m made ends levels color dist (some v) ≡ some (visits m made ends levels color dist v)
     unfolding ExactRules.visits? visits
     visit color v l =
         conds (eqb made 0) (λ t. both eqb (read n color refl l) refl)
         (λ t. ands (both eqb (read n dist refl l) refl) (λ q. nots (both eqb (chosen (later t) v) refl)))
 
     pub parent-round : (color parent : List ℕ)
-        → ExactRules.parentRound? n m made ends color dist parent ≡ some (parentRound n m made ends color dist parent)
+        → ExactRules.parentRound? n m made ends levels color dist parent ≡ some (parentRound n m made ends levels color dist parent)
     unfolding ExactRules.parentRound? parentRound
     parent-round color parent =
-        overs n _ (λ (v : ℕ). cond (visits m made ends color dist v) (cond (eqb made 0) ABSENT (chosenParent m made ends dist v)) (at parent v)) parent
+        overs n _ (λ (v : ℕ). cond (visits m made ends levels color dist v) (cond (eqb made 0) ABSENT (chosenParent m made ends levels dist v)) (at parent v)) parent
         (λ v l.
         ifs (visit color v l) (λ q. conds (eqb made 0) (λ t. refl) (λ t. chosen (later t) v)) (λ q. read n parent refl l))
 
-    pub dist-round : (color : List ℕ) → ExactRules.distRound? n m made ends color dist ≡ some (distRound n m made ends color dist)
+    pub dist-round : (color : List ℕ) → ExactRules.distRound? n m made ends levels color dist ≡ some (distRound n m made ends levels color dist)
     unfolding ExactRules.distRound? distRound
     dist-round color =
-        overs n _ (λ (v : ℕ). cond (visits m made ends color dist v) made (at dist v)) dist
+        overs n _ (λ (v : ℕ). cond (visits m made ends levels color dist v) made (at dist v)) dist
         (λ v l. ifs (visit color v l) (λ q. refl) (λ q. read n dist refl l))
 
-    pub tree-ends : (color : List ℕ) → ExactRules.treeEnds? n m made ends color dist ≡ some (treeEnds n m made ends color dist)
+    pub tree-ends : (color : List ℕ) → ExactRules.treeEnds? n m made ends levels color dist ≡ some (treeEnds n m made ends levels color dist)
     unfolding ExactRules.treeEnds? treeEnds
     tree-ends color = nots (anys n _ _ (visit color))
 

@@ -2,11 +2,13 @@
 -- and half of an odd number have no value, and numbers have no bound. Tables by unit or by place are read below n, by arc below 2n, by link below m,
 -- and the ends below 2m. To be read beside `rules`: each word stands under its name there, with a question mark.
 use mathlib.Core.Bool.{cond}
-use mathlib.Core.Option.{Option, some}
+use mathlib.Core.Option.{Option, none, some}
 use mathlib.Core.List.{List}
 use Prim.Native.Nat.{ℕ, suc, _*_, _^_, min}
-use lib.Dec.{eqb}
+use lib.Dec.{eqb, ltb}
+use lib.IntN.{ℤ, pos, negsuc}
 use Rattle.rules.specs.Components.{colorSaid}
+use Rattle.rules.specs.Tree.{levelAt, NO-KEY}
 use Rattle.rules.specs.Aux.{auxSaid}
 use Rattle.reach.specs.Partial.{Value, Test, absent, at?, half?, minus?, both?, plus?, times?, remainder?, eq?, lt?, le?, not?, and?, or?, if?, fold?, least?, count?, any?, over?}
 
@@ -39,34 +41,47 @@ leastHeard? n m ends value v = least? m (λ (j : Value). heard? n value (endA? m
 unfoldable pub colorRound? : ℕ → ℕ → ℕ → List ℕ → List ℕ → Option (List ℕ)
 colorRound? n m made ends color = over? n (leastHeard? n m ends (colorSaid n made color)) color
 
--- ---- stage 2
+-- ---- stage 2: levels past 16 bits are not compared
 
 unfoldable pub visitedBefore? : ℕ → ℕ → List ℕ → Value → Test
 visitedBefore? n made dist w = eq? (at? n dist w) (minus? (some made) (some 1))
 
-unfoldable pub candidate? : ℕ → ℕ → ℕ → List ℕ → List ℕ → Value → Value → Value
-candidate? n m made ends dist v j =
-    if? (and? (eq? (endA? m ends j) v) (visitedBefore? n made dist (endB? m ends j))) (endB? m ends j)
-    (if? (and? (eq? (endB? m ends j) v) (visitedBefore? n made dist (endA? m ends j))) (endA? m ends j) absent)
+unfoldable pub levelAt? : ℕ → List ℤ → Value → Option ℤ
+levelAt? m levels none = none
+levelAt? m levels (some j) = cond (ltb j m) (some (levelAt levels j)) none
 
-unfoldable pub chosenParent? : ℕ → ℕ → ℕ → List ℕ → List ℕ → Value → Value
-chosenParent? n m made ends dist v = least? m (candidate? n m made ends dist v) absent
+unfoldable pub loss? : Option ℤ → Value
+loss? none = none
+loss? (some (pos n)) = minus? (some 32767) (some n)
+loss? (some (negsuc n)) = minus? (some 65535) (minus? (some 32767) (some n))
 
-unfoldable pub visits? : ℕ → ℕ → ℕ → List ℕ → List ℕ → List ℕ → Value → Test
-visits? n m made ends color dist v =
-    cond (eqb made 0) (eq? (at? n color v) v) (and? (eq? (at? n dist v) absent) (not? (eq? (chosenParent? n m made ends dist v) absent)))
+unfoldable pub keyOf? : Option ℤ → Value → Value
+keyOf? z w = plus? (times? (loss? z) (some 65536)) w
 
-unfoldable pub parentRound? : ℕ → ℕ → ℕ → List ℕ → List ℕ → List ℕ → List ℕ → Option (List ℕ)
-parentRound? n m made ends color dist parent =
+unfoldable pub candidate? : ℕ → ℕ → ℕ → List ℕ → List ℤ → List ℕ → Value → Value → Value
+candidate? n m made ends levels dist v j =
+    if? (and? (eq? (endA? m ends j) v) (visitedBefore? n made dist (endB? m ends j))) (keyOf? (levelAt? m levels j) (endB? m ends j))
+    (if? (and? (eq? (endB? m ends j) v) (visitedBefore? n made dist (endA? m ends j))) (keyOf? (levelAt? m levels j) (endA? m ends j)) (some NO-KEY))
+
+unfoldable pub chosenParent? : ℕ → ℕ → ℕ → List ℕ → List ℤ → List ℕ → Value → Value
+chosenParent? n m made ends levels dist v = remainder? (least? m (candidate? n m made ends levels dist v) (some NO-KEY)) (some 65536)
+
+unfoldable pub visits? : ℕ → ℕ → ℕ → List ℕ → List ℤ → List ℕ → List ℕ → Value → Test
+visits? n m made ends levels color dist v =
+    cond (eqb made 0) (eq? (at? n color v) v) (and? (eq? (at? n dist v) absent) (not? (eq? (chosenParent? n m made ends levels dist v) absent)))
+
+unfoldable pub parentRound? : ℕ → ℕ → ℕ → List ℕ → List ℤ → List ℕ → List ℕ → List ℕ → Option (List ℕ)
+parentRound? n m made ends levels color dist parent =
     over? n
-    (λ (v : Value). if? (visits? n m made ends color dist v) (cond (eqb made 0) absent (chosenParent? n m made ends dist v)) (at? n parent v))
+    (λ (v : Value).
+    if? (visits? n m made ends levels color dist v) (cond (eqb made 0) absent (chosenParent? n m made ends levels dist v)) (at? n parent v))
     parent
 
-unfoldable pub distRound? : ℕ → ℕ → ℕ → List ℕ → List ℕ → List ℕ → Option (List ℕ)
-distRound? n m made ends color dist = over? n (λ (v : Value). if? (visits? n m made ends color dist v) (some made) (at? n dist v)) dist
+unfoldable pub distRound? : ℕ → ℕ → ℕ → List ℕ → List ℤ → List ℕ → List ℕ → Option (List ℕ)
+distRound? n m made ends levels color dist = over? n (λ (v : Value). if? (visits? n m made ends levels color dist v) (some made) (at? n dist v)) dist
 
-unfoldable pub treeEnds? : ℕ → ℕ → ℕ → List ℕ → List ℕ → List ℕ → Test
-treeEnds? n m made ends color dist = not? (any? n (visits? n m made ends color dist))
+unfoldable pub treeEnds? : ℕ → ℕ → ℕ → List ℕ → List ℤ → List ℕ → List ℕ → Test
+treeEnds? n m made ends levels color dist = not? (any? n (visits? n m made ends levels color dist))
 
 -- ---- stage 3
 

@@ -26,8 +26,8 @@ components? s = do
 
 unfoldable pub tree? : State → Option State
 tree? s = do
-  parent ← ExactRules.parentRound? (units s) (links s) (s .clock .made) (s .table .ends) (s .components .color) (s .tree .dist) (s .tree .parent)
-  dist ← ExactRules.distRound? (units s) (links s) (s .clock .made) (s .table .ends) (s .components .color) (s .tree .dist)
+  parent ← ExactRules.parentRound? (units s) (links s) (s .clock .made) (s .table .ends) (s .table .levels) (s .components .color) (s .tree .dist) (s .tree .parent)
+  dist ← ExactRules.distRound? (units s) (links s) (s .clock .made) (s .table .ends) (s .table .levels) (s .components .color) (s .tree .dist)
   some (withTree (record { parent = parent; dist = dist }) s)
 
 unfoldable pub tourNext? : State → Option State
@@ -131,7 +131,7 @@ unfoldable pub ruleEnds? : State → Test
 ruleEnds? s =
     cond (eqb (s .clock .stage) 1) (colors? s >>= λ after. some (colorEnds (units s) (s .clock .made) (s .components .color) after))
     (cond (eqb (s .clock .stage) 2)
-    (ExactRules.treeEnds? (units s) (links s) (s .clock .made) (s .table .ends) (s .components .color) (s .tree .dist))
+    (ExactRules.treeEnds? (units s) (links s) (s .clock .made) (s .table .ends) (s .table .levels) (s .components .color) (s .tree .dist))
     (cond (eqb (s .clock .stage) 3) (some (eqb (s .clock .made) 1))
     (cond (eqb (s .clock .stage) 4) (ExactRules.rankingEnds? (2 * units s) (s .ranking .jump))
     (cond (eqb (s .clock .stage) 5) (some (eqb (s .clock .made) 1))

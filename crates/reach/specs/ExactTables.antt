@@ -7,13 +7,19 @@ use mathlib.Core.List.{List}
 use Prim.Native.Nat.{ℕ, _+_, _*_, _-_, _^_, _≤_, _<_, min, max}
 use native.Mathlib.Decide.{ℕ-discrete}
 use native.Mathlib.Omega.{arith}
-use lib.Dec.{eqb, ltb}
-use borrow.Author.Tests.{eqb-true, eqb-false, not-true, ltb-true}
+use lib.Dec.{eqb, leb, ltb}
+use lib.IntN.{ℤ, pos, negsuc}
+use lib.Signed.{mag}
+use borrow.Author.Tests.{eqb-true, eqb-false, not-true, leb-true, ltb-true}
+use Rattle.lists.specs.All.{all-at}
 use Rattle.lists.specs.Multiples.{Multiple, multiple-step}
 use Rattle.lists.specs.Tests.{and-left, not-both}
+use Rattle.levels.specs.Level.{HIGHEST, inRange}
+use Rattle.levels.specs.LevelLaws.{InRange, range-exact as level-exact, zero-range}
 use Rattle.rules.specs.Basics.{ABSENT, MAX-NUMBER, at, isRoot}
 use Rattle.rules.specs.BoundLaws.{Names}
 use Rattle.rules.specs.Components.{colorRound}
+use Rattle.rules.specs.Tree.{levelAt}
 use Rattle.rules.specs.Tour.{arcUnit, isArc}
 use Rattle.rules.specs.Ranking.{asks, rankingEnds}
 use Rattle.rules.specs.Range.{unitAt, localAt, globalFirst, rangeFirst, movesLittle, movesBig, odd}
@@ -71,9 +77,18 @@ module _ {K : ℕ} {R S : ℕ → ℕ} (potential : Potential K R S) {jump sum :
 
 -- ---- the end of a stage, and the requests
 
+range-small : (z : ℤ) → InRange z → mag z < 32768
+unfolding inRange
+range-small (pos n) h = omega (arith, leb-true n 0 (level-exact (pos n) .1 h))
+range-small (negsuc n) h = omega (arith, leb-true n 126 (and-left (leb n 126) true (level-exact (negsuc n) .1 h)))
+
 module _ (s : State) (b : Base s) where
   few : units s ≤ ABSENT
   few = omega (arith, b .site .fewUnits)
+
+  -- a level fits 16 bits
+  fair : (j : ℕ) → j < links s → mag (levelAt (s .table .levels) j) < 32768
+  fair j l = range-small (levelAt (s .table .levels) j) (all-at InRange (s .table .levels) j HIGHEST (level-exact HIGHEST .0 zero-range) (b .levels))
 
   colors-exact : ExactStep.colors? s ≡ some (colorRound (units s) (links s) (s .clock .made) (s .table .ends) (s .components .color))
   unfolding ExactStep.colors?
@@ -92,7 +107,7 @@ module _ (s : State) (b : Base s) where
       conds (eqb (s .clock .stage) 1) (λ q. rw colors-exact refl)
       (λ q.
       conds (eqb (s .clock .stage) 2)
-      (λ q. Laws1.tree-ends (units s) (links s) (s .table .ends) (b .site .belowA) (b .site .belowB) (s .clock .made) (s .tree .dist) (s .components .color))
+      (λ q. Laws1.tree-ends (units s) (links s) (s .table .ends) (b .site .belowA) (b .site .belowB) (s .table .levels) fair (s .clock .made) (s .tree .dist) (s .components .color))
       (λ q.
       conds (eqb (s .clock .stage) 3) (λ q. refl)
       (λ q.
@@ -123,8 +138,8 @@ module _ (s : State) (b : Base s) where
   unfolding ExactStep.tree? Step.tree
   tree-exact =
       rw (
-        Laws1.parent-round (units s) (links s) (s .table .ends) (b .site .belowA) (b .site .belowB) (s .clock .made) (s .tree .dist) (s .components .color) (s .tree .parent),
-        Laws1.dist-round (units s) (links s) (s .table .ends) (b .site .belowA) (b .site .belowB) (s .clock .made) (s .tree .dist) (s .components .color),
+        Laws1.parent-round (units s) (links s) (s .table .ends) (b .site .belowA) (b .site .belowB) (s .table .levels) (fair s b) (s .clock .made) (s .tree .dist) (s .components .color) (s .tree .parent),
+        Laws1.dist-round (units s) (links s) (s .table .ends) (b .site .belowA) (b .site .belowB) (s .table .levels) (fair s b) (s .clock .made) (s .tree .dist) (s .components .color),
       )
       refl
 

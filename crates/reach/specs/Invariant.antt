@@ -5,6 +5,8 @@ use mathlib.Core.Logic.{_⊎_}
 use mathlib.Core.List.{List}
 use Prim.Native.Nat.{ℕ, _+_, _*_, _-_, _≤_, _<_, min, max}
 use Rattle.numbers.specs.Lg.{lg}
+use Rattle.lists.specs.All.{All}
+use Rattle.levels.specs.LevelLaws.{InRange}
 use Rattle.rules.specs.Basics.{ABSENT, at}
 use Rattle.lists.specs.FoldLaws.{AtLeast}
 use Rattle.rules.specs.Tour.{isInto, isArc, follower, predecessor}
@@ -170,7 +172,8 @@ pub data Reached (s : State) : Type 0 where
   in10 : In10 s → Reached s
   in11 : In11 s → Reached s
 
--- the site behind the state, and its tables' lengths
+-- the site behind the state, its tables' lengths, and its levels from −127 to 0
 pub record Base (s : State) : Type 0 where
   pub site : Site (units s) (links s) (s .table .ends)
   pub sized : Sized s
+  pub levels : All InRange (s .table .levels)

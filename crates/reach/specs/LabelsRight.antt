@@ -32,6 +32,8 @@ pub record Right (n m : ℕ) (ends label : List ℕ) : Type 0 where
   -- two different links have one label exactly when a ring holds both
   pub together : (j k : ℕ) → j < m → k < m → (j ≡ k → ⊥)
       → (at label j ≡ at label k) ↔ OnRing (Link m ends) (endA ends j) (endB ends j) (endA ends k) (endB ends k)
+  -- a label is the least position that has it
+  pub firsts : (j : ℕ) → j < m → (at label j < m) × (at label (at label j) ≡ at label j) × ((k : ℕ) → k < m → at label k ≡ at label j → at label j ≤ k)
   -- a link is lone exactly when no ring holds it
   pub bridges : (j : ℕ) → j < m
       → (lone m label j ≡ true) ↔ ((r : List ℕ) → Ring (Link m ends) r → Holds r (endA ends j) (endB ends j) → ⊥)
@@ -124,6 +126,22 @@ module _
 
             back : at class j ≡ at class k → at label j ≡ at label k
             back e = label-is j hj ∙ ap (λ (c : ℕ). least m (λ (i : ℕ). cond (eqb (at class i) c) i ABSENT) ABSENT) e ∙ sym (label-is k hk)
+
+        label-first : (j : ℕ) → j < m
+            → (at label j < m) × (at label (at label j) ≡ at label j) × ((k : ℕ) → k < m → at label k ≡ at label j → at label j ≤ k)
+        unfolding labelOf
+        label-first j l =
+            let below : at label j < m = rw (label-is j l) (label-class j l .0) in
+            let same : at class (at label j) ≡ at class j = rw (label-is j l) (label-class j l .1) in
+            (below, labels-as-classes (at label j) j below l .1 same, least-of)
+          where
+            f : ℕ → ℕ
+            f k = cond (eqb (at class k) (at class j)) k ABSENT
+
+            least-of : (k : ℕ) → k < m → at label k ≡ at label j → at label j ≤ k
+            least-of k h e =
+                let own : f k ≡ k = cond-true (eqb (at class k) (at class j)) k ABSENT (eq-eqb (at class k) (at class j) (labels-as-classes k j h l .0 e)) in
+                rw (label-is j l) (rw own at (least-le m f ABSENT k h))
 
         -- ---- the three sentences
 
@@ -225,6 +243,7 @@ module _
         labels-right =
             record {
               together = together;
+              firsts = label-first;
               bridges = bridges;
               cuts = λ u h. (λ e. articulation (site-graph site) (rooted .forest) classes .0 (meet-exact u .0 e), λ a. meet-exact u .1 (articulation (site-graph site) (rooted .forest) classes .1 a));
             }

@@ -24,6 +24,8 @@ pub mod Rounds7and8
 pub mod Rounds9and10
 pub mod Loaded
 pub mod Reach
+pub mod AnyLevels
+pub mod AnyLevelsProof
 pub mod Partial
 pub mod ExactRules
 pub mod ExactStep

@@ -12,6 +12,7 @@ use Rattle.graph.specs.Rings.{SameLink}
 use Rattle.machine.specs.State.{State}
 use Rattle.machine.specs.State.{units, links}
 use Rattle.machine.specs.Load.{Input, loadRefusal, absents, zeros, endsOf, begun, loaded}
+use Rattle.machine.specs.StepLaws.{loaded-kept}
 use Rattle.reach.specs.Site.{Site, Link}
 use Rattle.reach.specs.Sized.{loaded-sized}
 use Rattle.reach.specs.Invariant.{Base, Fresh, In1, Reached, in1}
@@ -45,7 +46,7 @@ module _ (input : Input) (e : loadRefusal input ≡ 0) where
 
   pub base-loaded : Base (loaded input)
   unfolding loaded begun
-  base-loaded = record { site = site-loaded; sized = loaded-sized input }
+  base-loaded = record { site = site-loaded; sized = loaded-sized input; levels = loaded-kept input e .levels }
 
   absent-at : (v : ℕ) → v < (input .units) → at (absents 256) v ≡ ABSENT
   unfolding absents

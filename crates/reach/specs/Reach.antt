@@ -51,7 +51,7 @@ goes s b (in10 i) h = goes-10 s b i
 goes s b (in11 i) h = absurd (h (i .stage))
 
 base-step : (s : State) → Base s → Base (Step.step s)
-base-step s b = record { site = rw (step-table s) (b .site); sized = step-sized s (b .sized) }
+base-step s b = record { site = rw (step-table s) (b .site); sized = step-sized s (b .sized); levels = rw (step-table s) (b .levels) }
 
 reached-step : (s : State) → Base s → Reached s → Dec (s .clock .stage ≡ FINISHED) → Reached (Step.step s)
 reached-step s b r (yes e) = rw (step-finished s (eq-eqb (s .clock .stage) FINISHED e)) r
@@ -108,6 +108,10 @@ pub record SurveyRight (input : Input) (e : State) : Type 0 where
   -- two different links have one label exactly when a ring holds both
   pub labels : (j k : ℕ) → j < linksIn input → k < linksIn input → (j ≡ k → ⊥)
       → (linkLabel e j ≡ linkLabel e k) ↔ OnRing (Link (linksIn input) (input .words)) (endA (input .words) j) (endB (input .words) j) (endA (input .words) k) (endB (input .words) k)
+  -- a label is the least position that has it
+  pub firsts : (j : ℕ) → j < linksIn input
+      → (linkLabel e j < linksIn input) × (linkLabel e (linkLabel e j) ≡ linkLabel e j)
+      × ((k : ℕ) → k < linksIn input → linkLabel e k ≡ linkLabel e j → linkLabel e j ≤ k)
   -- a link is lone exactly when no ring holds it
   pub lones : (j : ℕ) → j < linksIn input
       → (linkLone e j ≡ true) ↔ ((r : List ℕ) → Ring (Link (linksIn input) (input .words)) r → Holds r (endA (input .words) j) (endB (input .words) j) → ⊥)
@@ -143,6 +147,7 @@ module _ (input : Input) (accepted : loadRefusal input ≡ 0) where
             let q : (at (s .labels .label) j ≡ at (s .labels .label) k) ↔ OnRing (Link (linksIn input) (endsOf (input .words))) (endA (input .words) j) (endB (input .words) j) (endA (input .words) k) (endB (input .words) k) =
             rw (end-a input accepted j lj, end-b input accepted j lj, end-a input accepted k lk, end-b input accepted k lk) at w in
             (λ x. o .0 (q .0 x), λ x. q .1 (o .1 x));
+        firsts = r .firsts;
         lones =
             λ j l.
             let o = no-ring-same (Link (linksIn input) (endsOf (input .words))) (Link (linksIn input) (input .words)) (same-links input accepted) (endA (input .words) j) (endB (input .words) j) in
@@ -155,6 +160,12 @@ module _ (input : Input) (accepted : loadRefusal input ≡ 0) where
             rw e (λ x. o .0 (r .cuts u l .0 x), λ x. r .cuts u l .1 (o .1 x));
       }
 
+  -- whenever it is finished
+  pub end-right : (k : ℕ) → Step.steps k (loaded input) .clock .stage ≡ FINISHED → SurveyRight input (Step.steps k (loaded input))
+  end-right k f =
+      right-words (Step.steps k (loaded input)) (table-steps input accepted k)
+      (finished-right (Step.steps k (loaded input)) (table-steps input accepted k) (reached-steps input accepted k) f)
+
   -- For every accepted table: the survey comes to the end after `total` rounds and no fewer, at most the first countdown; all rounds and requests stay
   -- within their limits; and the finished survey is right.
   pub survey-right : Total (loaded input) (total (loaded input))
@@ -165,7 +176,5 @@ module _ (input : Input) (accepted : loadRefusal input ≡ 0) where
     total-least (loaded input) (loaded-wellFormed input accepted),
     total-countdown (loaded input),
     first-countdown input accepted,
-    right-words (Step.steps (total (loaded input)) (loaded input)) (table-steps input accepted (total (loaded input)))
-        (finished-right (Step.steps (total (loaded input)) (loaded input)) (table-steps input accepted (total (loaded input))) (reached-steps input accepted (total (loaded input)))
-        (total-least (loaded input) (loaded-wellFormed input accepted) .ends)),
+    end-right (total (loaded input)) (total-least (loaded input) (loaded-wellFormed input accepted) .ends),
   )

@@ -97,10 +97,10 @@ module _ (s : State) (b : Base s) (i : In2 s) where
   within-2 = omega (arith, i .quiet, requests-at 2 s (i .stage))
 
   parents′ : List ℕ
-  parents′ = parentRound (units s) (links s) (s .clock .made) (s .table .ends) (s .components .color) (s .tree .dist) (s .tree .parent)
+  parents′ = parentRound (units s) (links s) (s .clock .made) (s .table .ends) (s .table .levels) (s .components .color) (s .tree .dist) (s .tree .parent)
 
   dists′ : List ℕ
-  dists′ = distRound (units s) (links s) (s .clock .made) (s .table .ends) (s .components .color) (s .tree .dist)
+  dists′ = distRound (units s) (links s) (s .clock .made) (s .table .ends) (s .table .levels) (s .components .color) (s .tree .dist)
 
   quiet-2 : (last : Bool) → Step.nextClock last (Step.roundRequests s) (s .clock) .requests ≡ 0
   quiet-2 last =
@@ -142,7 +142,7 @@ module _ (s : State) (b : Base s) (i : In2 s) where
   unfolding parents′ dists′
   goes-2 = go (i .tree) (either (Step.ruleEnds s))
     where
-      rule : Step.ruleEnds s ≡ treeEnds (units s) (links s) (s .clock .made) (s .table .ends) (s .components .color) (s .tree .dist)
+      rule : Step.ruleEnds s ≡ treeEnds (units s) (links s) (s .clock .made) (s .table .ends) (s .table .levels) (s .components .color) (s .tree .dist)
       rule = ends-at 2 s (i .stage)
 
       Later : Type 0
@@ -150,11 +150,11 @@ module _ (s : State) (b : Base s) (i : In2 s) where
 
       go : ((s .clock .made ≡ 0) × Fresh s) ⊎ Later → (Step.ruleEnds s ≡ true) ⊎ (Step.ruleEnds s ≡ false) → Goes s
       go (inl (z, f)) r =
-          let e : Step.ruleEnds s ≡ false = rule ∙ rw z (BreadthFirst.first-goes-on (b .site) (i .colored) (s .tree .dist)) in
-          let first = BreadthFirst.first (b .site) (i .colored) (s .tree .parent) (s .tree .dist) (omega (arith, b .site .fewUnits, b .sized .byUnit .1 .0))
+          let e : Step.ruleEnds s ≡ false = rule ∙ rw z (BreadthFirst.first-goes-on (b .site) (s .table .levels) (i .colored) (s .tree .dist)) in
+          let first = BreadthFirst.first (b .site) (s .table .levels) (i .colored) (s .tree .parent) (s .tree .dist) (omega (arith, b .site .fewUnits, b .sized .byUnit .1 .0))
           (omega (arith, b .site .fewUnits, b .sized .byUnit .1 .1 .0)) (f .parents) (f .distances) in
           goes-within s (Step.tree s) within-2 (step-at 2 tt s (i .stage)) e (rw (i .stage) (omega (arith, b .site .someUnit))) (λ q. on-2 q (rw z first))
       go (inr (l, t)) (inr r) =
-          goes-within s (Step.tree s) within-2 (step-at 2 tt s (i .stage)) r (rw (i .stage) (omega (arith, BreadthFirst.bound (b .site) (i .colored) t l (sym rule ∙ r)))) (λ q. on-2 q (BreadthFirst.next (b .site) (i .colored) t l))
+          goes-within s (Step.tree s) within-2 (step-at 2 tt s (i .stage)) r (rw (i .stage) (omega (arith, BreadthFirst.bound (b .site) (s .table .levels) (i .colored) t l (sym rule ∙ r)))) (λ q. on-2 q (BreadthFirst.next (b .site) (s .table .levels) (i .colored) t l))
       go (inr (l, t)) (inl r) =
-          goes-over s (Step.tree s) within-2 (step-at 2 tt s (i .stage)) r (λ q. over-2 q (BreadthFirst.done (b .site) (i .colored) t l (sym rule ∙ r)))
+          goes-over s (Step.tree s) within-2 (step-at 2 tt s (i .stage)) r (λ q. over-2 q (BreadthFirst.done (b .site) (s .table .levels) (i .colored) t l (sym rule ∙ r)))

@@ -6,6 +6,9 @@ pub mod CeilingLaws
 pub mod Components
 pub mod Tree
 pub mod ParentChoice
+pub mod BestParent
+pub mod EqualLevels
+pub mod ParentExamples
 pub mod Tour
 pub mod CyclicOrder
 pub mod Ranking

@@ -6,6 +6,7 @@ use mathlib.Core.List.{List}
 use Prim.Native.Nat.{ℕ, _+_, _*_, _-_, _/_, _^_, _≤_, _<_, min}
 use native.Mathlib.Omega.{arith}
 use lib.Dec.{eqb, leb, ltb}
+use lib.IntN.{ℤ}
 use borrow.Author.Tests.{eqb-false, eq-eqb}
 use Rattle.lists.specs.All.{All, all-at, all-over, cond-keeps}
 use Rattle.lists.specs.Folds.{least, count}
@@ -18,7 +19,7 @@ use Rattle.rules.specs.Basics.{ABSENT, MAX-NUMBER, at, bounded, isRoot, 
 use Rattle.rules.specs.BoundLaws.{Names, Number, Distance, names-at, number-at, bounded-number}
 use Rattle.lists.specs.FoldLaws.{Picks, min-picks, picks-keep, fold-picks}
 use Rattle.rules.specs.Components.{leastHeard, colorSaid, colorRound}
-use Rattle.rules.specs.Tree.{visitedBefore, candidate, chosenParent, visits, parentRound, distRound}
+use Rattle.rules.specs.Tree.{visitedBefore, levelAt, keyOf, unitOf, NO-KEY, candidate, bestKey, chosenParent, visits, parentRound, distRound}
 use Rattle.rules.specs.Tour.{arcUnit, isInto, isArc, treeNeighbor, leastNeighbor, greaterNeighbor, neighborAfter, arcAfter, follower, isStart, predecessor, nextRound, predRound, firstSums, firstJumps}
 use Rattle.rules.specs.Ranking.{asks, sumRound, jumpRound}
 use Rattle.rules.specs.Order.{reverseArc, forwardRound, descendants, ndRound, secondSums, secondJumps, placeOf, preRound}
@@ -53,32 +54,43 @@ color-names n m made ends color h w = all-over (Names n) n _ color (λ (v : ℕ)
 
 -- ---- stage 2
 
-chosen-names : (n m made : ℕ) (ends dist : List ℕ) (v : ℕ) → 0 < n → All (Names n) ends → Names n (chosenParent m made ends dist v)
-unfolding chosenParent
-chosen-names n m made ends dist v h e =
-    fold-picks (Names n) min min-picks m (candidate made ends dist v) ABSENT
-    (λ (j : ℕ) (l : j < m).
-    cond-keeps (Names n) (eqb (endA ends j) v && visitedBefore made dist (endB ends j)) (endB ends j) _ (names-at n ends _ h e)
-    (cond-keeps (Names n) (eqb (endB ends j) v && visitedBefore made dist (endA ends j)) (endA ends j) ABSENT (names-at n ends _ h e) (inr refl)))
-    (inr refl)
+-- the unit in a key of w is w, where w fits its place
+key-names : (n : ℕ) (z : ℤ) (w : ℕ) → n ≤ ABSENT → Names n w → Names n (unitOf (keyOf z w))
+key-names n z w small (inl h) = inl (omega (arith, h, small))
+key-names n z w small (inr h) = inr (omega (arith, h))
 
-pub parent-names : (n m made : ℕ) (ends color dist parent : List ℕ) → 0 < n → All (Names n) ends → All (Names n) parent
-    → All (Names n) (parentRound n m made ends color dist parent)
+chosen-names : (n m made : ℕ) (ends : List ℕ) (levels : List ℤ) (dist : List ℕ) (v : ℕ) → n ≤ ABSENT → 0 < n → All (Names n) ends
+    → Names n (chosenParent m made ends levels dist v)
+unfolding chosenParent bestKey
+chosen-names n m made ends levels dist v small h e =
+    fold-picks named min min-picks m (candidate made ends levels dist v) NO-KEY
+    (λ (j : ℕ) (l : j < m).
+    cond-keeps named (eqb (endA ends j) v && visitedBefore made dist (endB ends j)) (keyOf (levelAt levels j) (endB ends j)) _
+    (key-names n (levelAt levels j) (endB ends j) small (names-at n ends _ h e))
+    (cond-keeps named (eqb (endB ends j) v && visitedBefore made dist (endA ends j)) (keyOf (levelAt levels j) (endA ends j)) NO-KEY
+    (key-names n (levelAt levels j) (endA ends j) small (names-at n ends _ h e)) (inr refl)))
+    (inr refl)
+  where
+    named : ℕ → Type 0
+    named key = Names n (unitOf key)
+
+pub parent-names : (n m made : ℕ) (ends : List ℕ) (levels : List ℤ) (color dist parent : List ℕ) → n ≤ ABSENT → 0 < n → All (Names n) ends → All (Names n) parent
+    → All (Names n) (parentRound n m made ends levels color dist parent)
 unfolding parentRound
-parent-names n m made ends color dist parent h e w =
+parent-names n m made ends levels color dist parent small h e w =
     all-over (Names n) n _ parent
     (λ (v : ℕ) (l : v < n).
-    cond-keeps (Names n) (visits m made ends color dist v) _ _
-    (cond-keeps (Names n) (eqb made 0) _ _ (inr refl) (chosen-names n m made ends dist v h e))
+    cond-keeps (Names n) (visits m made ends levels color dist v) _ _
+    (cond-keeps (Names n) (eqb made 0) _ _ (inr refl) (chosen-names n m made ends levels dist v small h e))
     (names-at n parent v h w))
     w
 
-pub dist-distances : (n m made : ℕ) (ends color dist : List ℕ) → made ≤ MAX-NUMBER → All Distance dist
-    → All Distance (distRound n m made ends color dist)
+pub dist-distances : (n m made : ℕ) (ends : List ℕ) (levels : List ℤ) (color dist : List ℕ) → made ≤ MAX-NUMBER → All Distance dist
+    → All Distance (distRound n m made ends levels color dist)
 unfolding distRound
-dist-distances n m made ends color dist h w =
+dist-distances n m made ends levels color dist h w =
     all-over Distance n _ dist
-    (λ (v : ℕ) (l : v < n). cond-keeps Distance (visits m made ends color dist v) _ _ (inl h) (all-at Distance dist v 0 (inl (omega arith)) w))
+    (λ (v : ℕ) (l : v < n). cond-keeps Distance (visits m made ends levels color dist v) _ _ (inl h) (all-at Distance dist v 0 (inl (omega arith)) w))
     w
 
 -- ---- stage 3

@@ -34,6 +34,7 @@ pub(crate) fn tree_stage(words: &mut [u16; STATE_WORDS], budget: u16) -> u16
     ensures { λ r. ⌜ Moved budget (stateOf (now (words .entry))) r (stateOf (now (words .exit))) ⌝ }
 {
     let table = words::table_at(words);
+    let levels = words::levels_at(words);
     let components = words::components_at(words);
     let Tree { parent, dist } = words::tree_at(words);
     let r = tree::run(
@@ -41,6 +42,7 @@ pub(crate) fn tree_stage(words: &mut [u16; STATE_WORDS], budget: u16) -> u16
         table.links,
         budget,
         &table.ends,
+        &levels,
         &components.color,
         words::clock_at(words),
         parent,

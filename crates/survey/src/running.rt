@@ -124,6 +124,7 @@ impl Survey {
                         links,
                         left,
                         &self.table.ends,
+                        &self.table.levels,
                         &self.components.color,
                         clock,
                         parent,

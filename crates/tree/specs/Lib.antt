@@ -1,2 +1,3 @@
 pub mod Chosen
+pub mod Losses
 pub mod Rounds

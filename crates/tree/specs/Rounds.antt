@@ -4,6 +4,7 @@ use mathlib.Core.Bool.{Bool, _&&_}
 use mathlib.Core.List.{List}
 use Prim.Native.Nat.{ℕ, _+_}
 use native.Mathlib.Omega.{arith}
+use lib.IntN.{ℤ}
 use Rattle.rules.specs.Tree.{parentRound, distRound, treeEnds}
 use Rattle.rules.specs.Fits.{linksFit}
 use Rattle.machine.specs.State
@@ -19,12 +20,12 @@ use Rattle.tree.specs.declared.Ran.{Ran}
 abbrev pub on : ℕ → ℕ → List ℕ → Ran → Bool
 on n m ends x = linksFit n m ends && inStage n 2 (x .clock)
 
-unfoldable pub one : ℕ → ℕ → List ℕ → List ℕ → Ran → Ran
-one n m ends color x =
+unfoldable pub one : ℕ → ℕ → List ℕ → List ℤ → List ℕ → Ran → Ran
+one n m ends levels color x =
     record {
-      parent = parentRound n m (x .clock .made) ends color (x .dist) (x .parent);
-      dist = distRound n m (x .clock .made) ends color (x .dist);
-      clock = nextClock (lastAt n (treeEnds n m (x .clock .made) ends color (x .dist)) (x .clock)) 0 (x .clock);
+      parent = parentRound n m (x .clock .made) ends levels color (x .dist) (x .parent);
+      dist = distRound n m (x .clock .made) ends levels color (x .dist);
+      clock = nextClock (lastAt n (treeEnds n m (x .clock .made) ends levels color (x .dist)) (x .clock)) 0 (x .clock);
       made = x .made + 1;
     }
 
@@ -33,7 +34,7 @@ abbrev pub into : State → Ran → State
 into s x = State.withClock (x .clock) (State.withTree (record { parent = x .parent; dist = x .dist }) s)
 
 pub stage : (s : State)
-    → Stage 2 (units s) (linksFit (units s) (links s) (s .table .ends)) (λ (x : Ran). x .clock) (one (units s) (links s) (s .table .ends) (s .components .color)) (λ (x : Ran). x .made) (into s)
+    → Stage 2 (units s) (linksFit (units s) (links s) (s .table .ends)) (λ (x : Ran). x .clock) (one (units s) (links s) (s .table .ends) (s .table .levels) (s .components .color)) (λ (x : Ran). x .made) (into s)
 unfolding one lastAt Step.tree
 stage s =
     record {

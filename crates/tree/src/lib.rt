@@ -1,10 +1,9 @@
-// Stage 2, tree: breadth first. One pass over the links gives each unit its candidate, one over the units both tables and the end.
+// Stage 2, tree: breadth first. One pass over the links gives each unit the key of its candidate, one over the units both tables and the end.
 use state::Clock;
 use table::ABSENT;
 use values::bounds;
-use values::tables;
 ghost use mathlib.Core.Path.{_≡_};
-ghost use mathlib.Core.Bool.{not};
+ghost use mathlib.Core.Bool.{cond, not};
 ghost use Prim.Native.Nat.{ℕ, _<_, _≤_, min};
 ghost use lib.ListN.{length, getD};
 ghost use Rattle.lists.specs.Tables.{over};
@@ -12,11 +11,14 @@ ghost use Rattle.lists.specs.Folds.{some};
 ghost use Rattle.lists.specs.Scatter.{takesIn};
 ghost use Rattle.table.specs.Table.{maxUnits};
 ghost use Rattle.rules.specs.Fits.{EndsWithin};
-ghost use Rattle.rules.specs.Tree.{visitedBefore, chosenParent, parentRound, distRound, treeEnds};
+ghost use Rattle.rules.specs.Tree.{visitedBefore, loss, keyOf, unitOf, NO-KEY, bestKey, parentRound, distRound, treeEnds};
 ghost use Rattle.rules.specs.TreeLaws.{visitsBy, parentBy, distBy};
 ghost use Rattle.machine.specs.StageRun.{stageRun};
 ghost use Rattle.tree.specs.Chosen.{offersIf};
 ghost use Rattle.tree.specs.Rounds.{on, one};
+
+// Where a unit has no candidate: past every key, and the unit in it is absent.
+const NO_KEY: u32 = 4294967295;
 
 // The tables of the stage, the clock, and the rounds made.
 pub struct Ran {
@@ -39,12 +41,13 @@ pub fn run<'a>(
     links: u16,
     budget: u16,
     ends: &'a [u16; 2048],
+    levels: &'a [i16; 1024],
     color: &'a [u16; 256],
     clock: Clock,
     parent: [u16; 256],
     dist: [u16; 256],
 ) -> Ran
-    ensures { λ r. ⌜ r ≡ stageRun (on units links (now (ends .entry))) (one units links (now (ends .entry)) (now (color .entry))) budget
+    ensures { λ r. ⌜ r ≡ stageRun (on units links (now (ends .entry))) (one units links (now (ends .entry)) (now (levels .entry)) (now (color .entry))) budget
         (record { parent = parent; dist = dist; clock = clock; made = 0 }) ⌝ }
 {
     let fits = bounds::links_fit(units, links, ends);
@@ -53,7 +56,7 @@ pub fn run<'a>(
     let mut c = clock;
     let mut made: u16 = 0;
     while clock::goes_on(fits, units, 2, made, budget, c) {
-        let new = round(units, links, c.made, ends, color, above, far);
+        let new = round(units, links, c.made, ends, levels, color, above, far);
         let after = clock::ticked(units, 2, new.ends, 0, c);
         let new_parent = new.parent;
         let new_dist = new.dist;
@@ -76,46 +79,56 @@ fn round<'a>(
     links: u16,
     made: u16,
     ends: &'a [u16],
+    levels: &'a [i16],
     color: &'a [u16],
     parent: [u16; 256],
     dist: [u16; 256],
 ) -> After
-    requires { ⌜ (units ≤ 256) × (length (now color) ≡ 256) × EndsWithin units links (now ends) ⌝ }
-    ensures parents { λ r. ⌜ r .parent ≡ parentRound units links made (now (ends .entry)) (now (color .entry)) dist parent ⌝ }
-    ensures dists { λ r. ⌜ r .dist ≡ distRound units links made (now (ends .entry)) (now (color .entry)) dist ⌝ }
-    ensures ends { λ r. ⌜ r .ends ≡ treeEnds units links made (now (ends .entry)) (now (color .entry)) dist ⌝ }
+    requires { ⌜ (units ≤ 256) × (length (now color) ≡ 256) × EndsWithin units links (now ends) × (length (now ends) ≡ 2048) × (length (now levels) ≡ 1024) ⌝ }
+    ensures parents { λ r. ⌜ r .parent ≡ parentRound units links made (now (ends .entry)) (now (levels .entry)) (now (color .entry)) dist parent ⌝ }
+    ensures dists { λ r. ⌜ r .dist ≡ distRound units links made (now (ends .entry)) (now (levels .entry)) (now (color .entry)) dist ⌝ }
+    ensures ends { λ r. ⌜ r .ends ≡ treeEnds units links made (now (ends .entry)) (now (levels .entry)) (now (color .entry)) dist ⌝ }
 {
-    let cand = chosen(units, links, made, ends, &dist);
+    let cand = chosen(units, links, made, ends, levels, &dist);
     visit(units, made, color, &cand, parent, dist)
 }
 
-// The parent that each unit would take.
-fn chosen<'a>(n: u16, links: u16, made: u16, ends: &'a [u16], dist: &'a [u16]) -> [u16; 256]
-    requires { ⌜ (n ≤ 256) × (length (now dist) ≡ 256) × EndsWithin n links (now ends) ⌝ }
-    ensures { λ r. ⌜ ((v : ℕ) → v < maxUnits → getD r v 0 ≡ chosenParent links made (now (ends .entry)) (now (dist .entry)) v) ⌝ }
+// The key of the parent that each unit would take.
+fn chosen<'a>(
+    n: u16,
+    links: u16,
+    made: u16,
+    ends: &'a [u16],
+    levels: &'a [i16],
+    dist: &'a [u16],
+) -> [u32; 256]
+    requires { ⌜ (n ≤ 256) × (length (now dist) ≡ 256) × EndsWithin n links (now ends) × (length (now ends) ≡ 2048) × (length (now levels) ≡ 1024) ⌝ }
+    ensures { λ r. ⌜ ((v : ℕ) → v < maxUnits → getD r v 0 ≡ bestKey links made (now (ends .entry)) (now (levels .entry)) (now (dist .entry)) v) ⌝ }
 {
-    let mut cand = tables::blank();
+    let mut cand = no_keys();
     let mut j = 0;
     while j < links {
-        let at = 2 * (j as usize);
+        let pos = j as usize;
+        let at = 2 * pos;
         let a = ends[at];
         let b = ends[at + 1];
-        offer_both(made, dist, a, b, &mut cand);
+        let level = levels[pos];
+        offer_both(made, dist, level, a, b, &mut cand);
         j += 1;
     }
     cand
 }
 
 // A link: each end is offered the other. It is passed over where neither was visited in the round before, as most are in most rounds.
-fn offer_both(made: u16, dist: &[u16], a: u16, b: u16, cand: &mut [u16])
+fn offer_both(made: u16, dist: &[u16], level: i16, a: u16, b: u16, cand: &mut [u32])
     requires { ⌜ (a < 256) × (b < 256) × (length (now dist) ≡ 256) × (length (now cand) ≡ 256) ⌝ }
-    ensures { λ _. ⌜ now (cand .exit) ≡ offersIf made (now (dist .entry)) a b (now (cand .entry)) ⌝ }
+    ensures { λ _. ⌜ now (cand .exit) ≡ offersIf made (now (dist .entry)) level a b (now (cand .entry)) ⌝ }
 {
     let from_a = was_visited(made, dist, a);
     let from_b = was_visited(made, dist, b);
     if values::either(from_a, from_b) {
-        offer(cand, a, values::choose(from_b, b, ABSENT));
-        offer(cand, b, values::choose(from_a, a, ABSENT));
+        offer(cand, a, key_if(from_b, level, b));
+        offer(cand, b, key_if(from_a, level, a));
     }
 }
 
@@ -128,22 +141,66 @@ fn was_visited(made: u16, dist: &[u16], w: u16) -> bool
     dist[at] == values::less(made, 1)
 }
 
-// The choice of a parent: of its candidate and of what it is offered, absent or a neighbour, unit `v` keeps the lesser.
-fn offer(cand: &mut [u16], v: u16, w: u16)
+// The choice of a parent: of its candidate and of what it is offered unit `v` keeps the lesser key.
+fn offer(cand: &mut [u32], v: u16, key: u32)
     requires { ⌜ (v < 256) × (length (now cand) ≡ 256) ⌝ }
-    ensures { λ _. ⌜ now (cand .exit) ≡ takesIn min maxUnits (now (cand .entry)) v w ⌝ }
+    ensures { λ _. ⌜ now (cand .exit) ≡ takesIn min maxUnits (now (cand .entry)) v key ⌝ }
 {
     let at = v as usize;
-    let x = values::least_of(cand[at], w);
+    let x = lesser(cand[at], key);
     cand[at] = x;
 }
 
-// The round, from the chosen parents: one pass over the units, without branches.
+// The lesser of two keys.
+fn lesser(x: u32, y: u32) -> u32
+    ensures { λ r. ⌜ r ≡ min x y ⌝ }
+{
+    if x < y { x } else { y }
+}
+
+// How far a level lies below the highest signed number of 16 bits.
+fn loss_of(level: i16) -> u32
+    ensures { λ r. ⌜ r ≡ loss level ⌝ }
+{
+    (32767 - level as i32) as u32
+}
+
+// A neighbour `w` over a link of `level` as one number, by level first: the lesser of two has the higher level, or the same level and the lesser `w`.
+fn key_of(level: i16, w: u16) -> u32
+    ensures { λ r. ⌜ r ≡ keyOf level w ⌝ }
+{
+    let far = loss_of(level);
+    far * 65536 + w as u32
+}
+
+// The key where the test holds, else none.
+fn key_if(test: bool, level: i16, w: u16) -> u32
+    ensures { λ r. ⌜ r ≡ cond test (keyOf level w) NO-KEY ⌝ }
+{
+    let key = key_of(level, w);
+    if test { key } else { NO_KEY }
+}
+
+// The neighbour in a key.
+fn unit_of(key: u32) -> u16
+    ensures { λ r. ⌜ r ≡ unitOf key ⌝ }
+{
+    (key % 65536) as u16
+}
+
+// No candidate for any unit.
+fn no_keys() -> [u32; 256]
+    ensures { λ r. ⌜ ((i : ℕ) → i < 256 → getD r i 0 ≡ NO-KEY) ⌝ }
+{
+    [4294967295; 256]
+}
+
+// The round, from the keys of the chosen parents: one pass over the units, without branches.
 fn visit<'a>(
     units: u16,
     made: u16,
     color: &'a [u16],
-    cand: &'a [u16],
+    cand: &'a [u32],
     parent: [u16; 256],
     dist: [u16; 256],
 ) -> After
@@ -159,7 +216,8 @@ fn visit<'a>(
     while v < units {
         let at = v as usize;
         let visited = visits(made, color, &dist, cand, v);
-        let taken = values::choose(made == 0, ABSENT, cand[at]);
+        let best = unit_of(cand[at]);
+        let taken = values::choose(made == 0, ABSENT, best);
         let x = values::choose(visited, taken, parent[at]);
         let d = values::choose(visited, made, dist[at]);
         new_parent[at] = x;
@@ -175,11 +233,12 @@ fn visit<'a>(
 }
 
 // Whether unit `v` is visited in this round.
-fn visits<'a>(made: u16, color: &'a [u16], dist: &'a [u16], cand: &'a [u16], v: u16) -> bool
+fn visits<'a>(made: u16, color: &'a [u16], dist: &'a [u16], cand: &'a [u32], v: u16) -> bool
     requires { ⌜ (v < length (now color)) × (v < length (now dist)) × (v < length (now cand)) ⌝ }
     ensures { λ r. ⌜ r ≡ visitsBy made (now (color .entry)) (now (dist .entry)) (now (cand .entry)) v ⌝ }
 {
     let at = v as usize;
-    let later = values::both(dist[at] == ABSENT, cand[at] != ABSENT);
+    let best = unit_of(cand[at]);
+    let later = values::both(dist[at] == ABSENT, best != ABSENT);
     values::pick(made == 0, color[at] == v, later)
 }

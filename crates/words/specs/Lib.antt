@@ -2,6 +2,7 @@ pub mod Layout
 pub mod Begun
 pub mod FieldLaws
 pub mod CopyLaws
+pub mod LevelCopies
 pub mod Rows
 pub mod SameWords
 pub mod Bare

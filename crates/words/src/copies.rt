@@ -2,6 +2,7 @@
 ghost use mathlib.Core.Path.{_≡_};
 ghost use Prim.Native.Nat.{_+_, _≤_};
 ghost use lib.ListN.{length};
+ghost use Rattle.levels.specs.Level.{fromWords};
 ghost use Rattle.words.specs.Layout.{part, laid};
 
 // A table over the words from `at` on.
@@ -66,4 +67,27 @@ pub(crate) fn units_at(words: &[u16], at: usize) -> [u16; 256]
     let mut table = [0; 256];
     copy(words, at, &mut table);
     table
+}
+
+// A level a link.
+pub(crate) fn levels_at(words: &[u16], at: usize) -> [i16; 1024]
+    requires { ⌜ at + 1024 ≤ length (now words) ⌝ }
+    ensures { λ r. ⌜ r ≡ fromWords (part at 1024 (now (words .entry))) ⌝ }
+{
+    let mut table: [i16; 1024] = [0; 1024];
+    copy_levels(words, at, &mut table);
+    table
+}
+
+// The words from `at` on as levels, as many as `to` takes.
+fn copy_levels(words: &[u16], at: usize, to: &mut [i16])
+    requires { ⌜ at + length (now to) ≤ length (now words) ⌝ }
+    ensures { λ _. ⌜ now (to .exit) ≡ fromWords (part at (length (now (to .entry))) (now (words .entry))) ⌝ }
+{
+    let mut i = 0;
+    while i < to.len() {
+        let level = levels::of_word(words[at + i]);
+        to[i] = level;
+        i += 1;
+    }
 }

@@ -25,6 +25,7 @@ pub use take::clock_at;
 pub use take::components_at;
 pub use take::global_at;
 pub use take::labels_at;
+pub use take::levels_at;
 pub use take::order_at;
 pub use take::range_at;
 pub use take::ranking_at;

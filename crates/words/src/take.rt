@@ -35,6 +35,13 @@ pub fn table_at(words: &[u16; STATE_WORDS]) -> BareTable
     }
 }
 
+// The levels.
+pub fn levels_at(words: &[u16; STATE_WORDS]) -> [i16; 1024]
+    ensures { λ r. ⌜ r ≡ stateOf (now (words .entry)) .table .levels ⌝ }
+{
+    copies::levels_at(words, layout::LEVELS)
+}
+
 // The clock.
 pub fn clock_at(words: &[u16; STATE_WORDS]) -> Clock
     ensures { λ r. ⌜ r ≡ stateOf (now (words .entry)) .clock ⌝ }

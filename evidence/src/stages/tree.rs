@@ -1,6 +1,7 @@
-//! Stage 2, tree: breadth first from the units that equal their colour.
+//! Stage 2, tree: breadth first from the units that equal their colour, along the links with the highest levels (T-02).
 
-use crate::{ABSENT, Survey};
+use crate::{ABSENT, Survey, level_of_word};
+use std::cmp::Reverse;
 
 impl Survey {
     /// Ends with the first round that visits none.
@@ -21,22 +22,23 @@ impl Survey {
         visited
     }
 
-    /// An unvisited unit takes the least of its neighbours that the round before visited (W2).
+    /// An unvisited unit takes, of its neighbours that the round before visited (W2), the one with the highest level, ties to the least number.
     fn visit_neighbours(&mut self) -> bool {
         let before = self.made - 1;
-        let mut chosen = [ABSENT; 256];
-        for &[a, b] in self.pairs() {
+        let mut chosen = [(Reverse(i16::MIN), ABSENT); 256];
+        for (&[a, b], &word) in self.pairs().iter().zip(&self.levels) {
+            let level = Reverse(level_of_word(word));
             let (i, j) = (usize::from(a), usize::from(b));
             let (from, to) = (self.dist[i], self.dist[j]);
             if from == before && to == ABSENT {
-                chosen[j] = chosen[j].min(a);
+                chosen[j] = chosen[j].min((level, a));
             }
             if to == before && from == ABSENT {
-                chosen[i] = chosen[i].min(b);
+                chosen[i] = chosen[i].min((level, b));
             }
         }
         let mut visited = false;
-        for (v, &parent) in chosen.iter().enumerate() {
+        for (v, &(_, parent)) in chosen.iter().enumerate() {
             if parent != ABSENT {
                 self.parent[v] = parent;
                 self.dist[v] = self.made;

@@ -1,7 +1,7 @@
 //! The stages said slowly: each table after a round is a rule for each entry, over numbers without bounds and reads that give 0
 //! where there is nothing. A rule here is a sentence of document 01 or a row of docs/DECISIONS.md, with no thought for speed.
 
-use plain::{ABSENT, FINISHED, Survey, ceiling, lg};
+use plain::{ABSENT, FINISHED, Survey, ceiling, level_of_word, lg};
 
 type Table<'a> = &'a [u16];
 
@@ -81,13 +81,17 @@ impl Rules<'_> {
         })
     }
 
+    /// Document 02, T-02: of the neighbours visited in the round before, the one with the highest level, ties to the least number.
     fn chosen_parent(&self, v: u32) -> u32 {
         let before = |w| at(&self.s.dist, w) == self.made - 1;
-        least(self.m, NONE, |j| match self.ends(j) {
-            (a, b) if a == v && before(b) => b,
-            (a, b) if b == v && before(a) => a,
-            _ => NONE,
-        })
+        let neighbour = |j| match self.ends(j) {
+            (a, b) if a == v && before(b) => Some(b),
+            (a, b) if b == v && before(a) => Some(a),
+            _ => None,
+        };
+        let level = |j: u32| level_of_word(self.s.levels[j as usize]);
+        let highest = (0..self.m).filter(|&j| neighbour(j).is_some()).map(level).max();
+        (0..self.m).filter(|&j| Some(level(j)) == highest).filter_map(neighbour).min().unwrap_or(NONE)
     }
 
     fn visits(&self, v: u32) -> bool {

@@ -5,14 +5,14 @@ use borrow.Author.Needs.{needs}
 use Rattle.tree.proofs.offer.Statement.{statement}
 use Rattle.tree.proofs.offer.Tie as tie
 
-mul-least-of : tie.Need-mul-least-of
-mul-least-of c = search needs
+mul-lesser : tie.Need-mul-lesser
+mul-lesser c = search needs
 
-slice-read-least-of : tie.Need-slice-read-least-of
-slice-read-least-of c = search needs
+slice-read-lesser : tie.Need-slice-read-lesser
+slice-read-lesser c = search needs
 
-least-of-requires : tie.Need-least-of-requires
-least-of-requires c κs = search needs
+lesser-requires : tie.Need-lesser-requires
+lesser-requires c κs = search needs
 
 mul-cand : tie.Need-mul-cand
 mul-cand c = search needs
@@ -27,15 +27,15 @@ returns : tie.Need-returns
 unfolding takesIn
 returns c =
     let s = c .before .before .before in
-    rw (lt-ltb (s .args .v) 256 (s .pre .0), c .least-of .ensures)
+    rw (lt-ltb (s .args .v) 256 (s .pre .0), c .lesser .ensures)
 
 pub offer-spec : {M : Type 1} → statement M
 offer-spec =
     tie.close
     (tie.spec
-    mul-least-of
-    slice-read-least-of
-    least-of-requires
+    mul-lesser
+    slice-read-lesser
+    lesser-requires
     mul-cand
     slice-write-cand
     same-length

@@ -1,6 +1,8 @@
 -- By the test of both ends.
 use mathlib.Core.Path.{_≡_, sym, _∙_}
 use mathlib.Core.Bool.{true, false, _||_}
+use mir.Syntax.{w16}
+use mir.ValLaws.{toZ-ofZ}
 use Rattle.rules.specs.Tree.{visitedBefore}
 use Rattle.rules.specs.TreeLaws.{offers}
 use borrow.Author.Needs.{needs}
@@ -16,14 +18,14 @@ was-visited-requires-2 c κs = search needs
 either-requires : tie.Need-either-requires
 either-requires c κs = search needs
 
-choose-requires : tie.Need-choose-requires
-choose-requires c κs = search needs
+key-if-requires : tie.Need-key-if-requires
+key-if-requires c κs = search needs
 
 offer-requires : tie.Need-offer-requires
 offer-requires c κs = search needs
 
-choose-requires-2 : tie.Need-choose-requires-2
-choose-requires-2 c κs = search needs
+key-if-requires-2 : tie.Need-key-if-requires-2
+key-if-requires-2 c κs = search needs
 
 offer-requires-2 : tie.Need-offer-requires-2
 offer-requires-2 c κs = search needs
@@ -38,12 +40,14 @@ returns c =
     let one = two .before .before .before .before .before in
     let s = one .before .before .before in
     let e = s .before in
-    let a = e .before .before .before .before .before .args in
+    let start = e .before .before .before .before .before in
+    let a = start .args in
+    let level = toZ-ofZ w16 (a .level) (start .fits .level) in
     let some
     : (visitedBefore (a .made) (a .dist .now) (a .a) || visitedBefore (a .made) (a .dist .now) (a .b)) ≡ true
     = sym (rw (e .before .before .was-visited .ensures, e .before .was-visited2 .ensures) at (e .either .ensures)) ∙ s .if1 .taken in
-    let to-a = rw (one .before .choose .ensures, e .before .was-visited2 .ensures) at (one .offer .ensures) in
-    let to-b = rw (two .before .choose2 .ensures, e .before .before .was-visited .ensures, to-a) at (two .offer2 .ensures) in
+    let to-a = rw (one .before .key-if .ensures, e .before .was-visited2 .ensures, level) at (one .offer .ensures) in
+    let to-b = rw (two .before .key-if2 .ensures, e .before .before .was-visited .ensures, level, to-a) at (two .offer2 .ensures) in
     rw some to-b
 
 returns-2 : tie.Need-returns-2
@@ -62,9 +66,9 @@ offer-both-spec =
     was-visited-requires
     was-visited-requires-2
     either-requires
-    choose-requires
+    key-if-requires
     offer-requires
-    choose-requires-2
+    key-if-requires-2
     offer-requires-2
     same-length
     returns

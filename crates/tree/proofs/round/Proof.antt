@@ -25,13 +25,14 @@ returns : tie.Need-returns
 returns c =
     let start = c .before .before .before .before .before .before in
     let a = start .args in
-    let full : length (a .t7) ≤ maxUnits = omega (arith, start .good .1 .1 .1 .1 .1 .1) in
+    let full : length (a .t8) ≤ maxUnits = omega (arith, start .good .1 .1 .1 .1 .1 .1 .1) in
+    let small : length (a .parent) ≤ maxUnits = omega (arith, start .good .1 .1 .1 .1 .1 .1 .0) in
     let h = c .before .before .chosen in (
       c .visit .ensures .0
-          ∙ parent-round (a .links) (a .made) (a .ends .now) (a .color .now) (a .t7) (h .result) full (h .ensures) (a .units) (a .parent) (search needs),
+          ∙ parent-round (a .links) (a .made) (a .ends .now) (a .levels .now) (a .color .now) (a .t8) (h .result) full (h .ensures) (a .units) (a .parent) small,
       (
-        c .visit .ensures .1 .0 ∙ dist-round (a .links) (a .made) (a .ends .now) (a .color .now) (a .t7) (h .result) full (h .ensures) (a .units),
-        c .visit .ensures .1 .1 ∙ tree-ends (a .links) (a .made) (a .ends .now) (a .color .now) (a .t7) (h .result) full (h .ensures) (a .units),
+        c .visit .ensures .1 .0 ∙ dist-round (a .links) (a .made) (a .ends .now) (a .levels .now) (a .color .now) (a .t8) (h .result) full (h .ensures) (a .units),
+        c .visit .ensures .1 .1 ∙ tree-ends (a .links) (a .made) (a .ends .now) (a .levels .now) (a .color .now) (a .t8) (h .result) full (h .ensures) (a .units),
       ),
     )
 

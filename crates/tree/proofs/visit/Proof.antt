@@ -36,17 +36,20 @@ slice-aggregate-visits c = search needs
 visits-requires : tie.Need-visits-requires Inv-loop μ-loop
 visits-requires c κs = search needs
 
-mul-choose : tie.Need-mul-choose Inv-loop μ-loop
-mul-choose c = search needs
+mul-unit-of : tie.Need-mul-unit-of Inv-loop μ-loop
+mul-unit-of c = search needs
 
-shared-slice-read-choose : tie.Need-shared-slice-read-choose Inv-loop μ-loop
-shared-slice-read-choose c = search needs
+shared-slice-read-unit-of : tie.Need-shared-slice-read-unit-of Inv-loop μ-loop
+shared-slice-read-unit-of c = search needs
+
+unit-of-requires : tie.Need-unit-of-requires Inv-loop μ-loop
+unit-of-requires c κs = search needs
 
 choose-requires : tie.Need-choose-requires Inv-loop μ-loop
 choose-requires c κs = search needs
 
-mul-choose-2 : tie.Need-mul-choose-2 Inv-loop μ-loop
-mul-choose-2 c = search needs
+mul-choose : tie.Need-mul-choose Inv-loop μ-loop
+mul-choose c = search needs
 
 array-read-choose : tie.Need-array-read-choose Inv-loop μ-loop
 array-read-choose c = search needs
@@ -54,8 +57,8 @@ array-read-choose c = search needs
 choose-requires-2 : tie.Need-choose-requires-2 Inv-loop μ-loop
 choose-requires-2 c κs = search needs
 
-mul-choose-3 : tie.Need-mul-choose-3 Inv-loop μ-loop
-mul-choose-3 c = search needs
+mul-choose-2 : tie.Need-mul-choose-2 Inv-loop μ-loop
+mul-choose-2 c = search needs
 
 array-read-choose-2 : tie.Need-array-read-choose-2 Inv-loop μ-loop
 array-read-choose-2 c = search needs
@@ -88,12 +91,12 @@ loop-again : tie.Need-loop-again Inv-loop μ-loop
 loop-again c =
     let three = c .before in
     let two = three .before in
-    let seen = two .before .before .before in
+    let seen = two .before .before .before .before in
     let s = seen .before .before .before in
     let a = s .before .before .before .args in
     let is-parent
     : two .choose2 .result ≡ parentBy (a .made) (a .color .now) (a .t6) (a .cand .now) (a .t5) (s .loop .v)
-    = rw (seen .visits .ensures, two .before .choose .ensures) at (two .choose2 .ensures) in
+    = rw (seen .visits .ensures, two .before .choose .ensures, two .before .before .unit-of .ensures) at (two .choose2 .ensures) in
     let is-dist
     : three .choose3 .result ≡ distBy (a .made) (a .color .now) (a .t6) (a .cand .now) (s .loop .v)
     = rw (seen .visits .ensures) at (three .choose3 .ensures) in (
@@ -127,13 +130,14 @@ visit-spec =
     cast-at
     slice-aggregate-visits
     visits-requires
-    mul-choose
-    shared-slice-read-choose
+    mul-unit-of
+    shared-slice-read-unit-of
+    unit-of-requires
     choose-requires
-    mul-choose-2
+    mul-choose
     array-read-choose
     choose-requires-2
-    mul-choose-3
+    mul-choose-2
     array-read-choose-2
     choose-requires-3
     mul-new-parent

@@ -4,17 +4,20 @@ use borrow.Author.Needs.{needs}
 use Rattle.tree.proofs.visits.Statement.{statement}
 use Rattle.tree.proofs.visits.Tie as tie
 
+mul-unit-of : tie.Need-mul-unit-of
+mul-unit-of c = search needs
+
+shared-slice-read-unit-of : tie.Need-shared-slice-read-unit-of
+shared-slice-read-unit-of c = search needs
+
+unit-of-requires : tie.Need-unit-of-requires
+unit-of-requires c κs = search needs
+
 mul-both : tie.Need-mul-both
 mul-both c = search needs
 
 shared-slice-read-both : tie.Need-shared-slice-read-both
 shared-slice-read-both c = search needs
-
-mul-both-2 : tie.Need-mul-both-2
-mul-both-2 c = search needs
-
-shared-slice-read-both-2 : tie.Need-shared-slice-read-both-2
-shared-slice-read-both-2 c = search needs
 
 both-requires : tie.Need-both-requires
 both-requires c κs = search needs
@@ -36,10 +39,11 @@ pub visits-spec : {M : Type 1} → statement M
 visits-spec =
     tie.close
     (tie.spec
+    mul-unit-of
+    shared-slice-read-unit-of
+    unit-of-requires
     mul-both
     shared-slice-read-both
-    mul-both-2
-    shared-slice-read-both-2
     both-requires
     mul-pick
     shared-slice-read-pick

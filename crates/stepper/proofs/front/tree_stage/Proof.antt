@@ -10,6 +10,9 @@ use Rattle.stepper.proofs.front.tree_stage.Tie as tie
 table-at-requires : tie.Need-table-at-requires
 table-at-requires c κs = search needs
 
+levels-at-requires : tie.Need-levels-at-requires
+levels-at-requires c κs = search needs
+
 components-at-requires : tie.Need-components-at-requires
 components-at-requires c κs = search needs
 
@@ -30,10 +33,13 @@ lay-tree-requires c κs = search needs
 
 returns : tie.Need-returns
 returns c =
-    let start = c .before .before .before .before .before .before .before .before .before .before .before .before .before .before .before .before .before .before .before .before .before .before .before in
+    let run = c .before .before .before .before .before .before .before .before in
+    let tree = run .before .before .before .before .before .before .before .before .before .before in
+    let levels = tree .before .before .before .before in
+    let start = levels .before .before .before .before in
     let s = stateOf (start .args .words .now) in
     moved (Rounds.stage s) (start .args .budget) (record { parent = s .tree .parent; dist = s .tree .dist; clock = s .clock; made = 0 }) _ s _ (start .pre) refl refl
-    (rw (c .before .before .before .before .before .before .before .before .before .clock-at .ensures, c .before .before .before .before .before .before .before .before .before .before .before .before .before .before .before .before .before .tree-at .ensures, c .before .before .before .before .before .before .before .before .before .before .before .before .before .before .before .before .before .before .before .components-at .ensures, c .before .before .before .before .before .before .before .before .before .before .before .before .before .before .before .before .before .before .before .before .before .table-at .ensures) at (c .before .before .before .before .before .before .before .before .run .ensures))
+    (rw (run .before .clock-at .ensures, tree .tree-at .ensures, tree .before .before .components-at .ensures, levels .levels-at .ensures, levels .before .before .table-at .ensures) at (run .run .ensures))
     (rw (c .lay-tree .ensures, c .before .before .before .before .before .lay-clock .ensures) refl)
 
 pub tree-stage-spec : {M : Type 1} → statement M
@@ -41,6 +47,7 @@ tree-stage-spec =
     tie.close
     (tie.spec
     table-at-requires
+    levels-at-requires
     components-at-requires
     tree-at-requires
     clock-at-requires
