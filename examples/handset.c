@@ -1,6 +1,6 @@
 /*
- * A handset in small: reads a survey file, makes its survey round by round and shows how it goes, with the foreman's
- * line, then says where the site is weak and prints the report.
+ * A handset in small: reads a survey file, opens it as a stored table, makes its survey round by round and shows how it
+ * goes, with the foreman's line, then says where the site is weak and prints the report.
  *
  *     handset [-v] [FILE]      without FILE: standard input; -v: every round, not only where a stage begins
  *
@@ -146,7 +146,7 @@ static uint32_t handled(size_t length, int every_round)
     refused = link_survey_read(file, length, table, sizeof table / sizeof table[0], levels,
                                sizeof levels / sizeof levels[0], &units, &links);
     if (refused == LINK_SURVEY_DONE)
-        refused = link_survey_load(state, units, table, (size_t)2 * links, levels, links);
+        refused = link_survey_load_stored(state, units, table, (size_t)2 * links, levels, links);
     if (refused != LINK_SURVEY_DONE)
         return refused;
     printf("%u units, %u links\n", (unsigned)units, (unsigned)links);

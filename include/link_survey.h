@@ -36,9 +36,10 @@
 /*
  * The version of these declarations: it grows with each change. 3 has link_survey_read and link_survey_write; 4 has
  * levels: link_survey_load, link_survey_read and link_survey_write take them, and a state has 1,024 words more; 5 has
- * link_survey_foreman_line and link_survey_service_line; 6 has seats: link_survey_seat_load and link_survey_tick.
+ * link_survey_foreman_line and link_survey_service_line; 6 has seats: link_survey_seat_load and link_survey_tick; 7 has
+ * link_survey_load_stored, and link_survey_load, link_survey_seat_load and link_survey_write refuse with 22.
  */
-#define LINK_SURVEY_VERSION 6
+#define LINK_SURVEY_VERSION 7
 
 /*
  * The words of a state, lent by the caller to every call on a state (all but link_survey_report, link_survey_read and
@@ -46,7 +47,7 @@
  * requests; then the tables of the stages, each whole, in the order of crates/words/specs/Layout.antt; last the levels
  * of the links (1,024), each as its 16 bits in two's complement, 0 past the links after a load. Any words are a state.
  * One whose words are out of their bounds is "not kept", and refused with 10 by all calls on a state but
- * link_survey_load. Before the first load the words may hold anything; all zeros are not kept.
+ * link_survey_load and link_survey_load_stored. Before the first load the words may hold anything; all zeros are not kept.
  */
 #define LINK_SURVEY_STATE_WORDS 12038
 
@@ -84,9 +85,9 @@
 #define LINK_SURVEY_ABSENT 65535
 
 /*
- * The customer's numbers of the refusals (15, 16 and 23 are document 02's): 1 to 3, 6 and 16 of reading a file, 4 to 9,
- * 15 and 16 of loading or writing a table, 10 to 13 of the calls on a state, 14 of whatever writes to a slice, 23 of
- * loading a seat. 17 to 22 are free; take any number but 0 for a refusal.
+ * The customer's numbers of the refusals (from 15 on document 02's): 1 to 3, 6 and 16 of reading a file, 4 to 9, 15
+ * and 16 of loading or writing a table, 22 of loading a fresh one or writing it, 10 to 13 of the calls on a state, 14 of
+ * whatever writes to a slice, 23 of loading a seat. 17 to 21 are free; take any number but 0 for a refusal.
  */
 enum link_survey_refusal {
     LINK_SURVEY_DONE = 0,            /* not refused */
@@ -106,6 +107,7 @@ enum link_survey_refusal {
     LINK_SURVEY_TOO_SHORT = 14,      /* the slice for a report, a line, a file, or a file's ends or levels is too short */
     LINK_SURVEY_LEVELS_DIFFER = 15,  /* the levels are not as many as the links */
     LINK_SURVEY_LEVEL_OUTSIDE = 16,  /* a level is below -127 or above 0 */
+    LINK_SURVEY_UNLINKED_UNIT = 22,  /* of two or more units one is the end of no link */
     LINK_SURVEY_NO_SUCH_SEAT = 23    /* the seat is above 7 */
 };
 
@@ -154,7 +156,8 @@ extern "C" {
 
 /*
  * The whole work at once: from the bytes of a survey file to what the program prints for it, the report or only the 1E
- * line of the refusal (1, 2, 3, 6, 16, then 4, 7, 8, 9), line feeds included. No state is used.
+ * line of the refusal (1, 2, 3, 6, 16, then 4, 7, 8, 9), line feeds included. The file is taken for a stored table. No
+ * state is used.
  *
  * in       the file's frames, one a line. More than 65,535 bytes are refusal 1.
  * out      altered: the bytes at its front.
@@ -164,7 +167,7 @@ extern "C" {
 uint32_t link_survey_report(const uint8_t *in, size_t in_len, uint8_t *out, size_t out_len);
 
 /*
- * Read a survey file into words and levels, for link_survey_load. No state is used.
+ * Read a survey file into words and levels, for link_survey_load or link_survey_load_stored. No state is used.
  *
  * in       the file's frames, one a line; of any length. A link of kind 02, which has no level, gets the lowest.
  * table    altered: the two ends of each link, 2 words a link, at its front. 2 * LINK_SURVEY_MAX_LINKS words are always
@@ -178,28 +181,38 @@ uint32_t link_survey_read(const uint8_t *in, size_t in_len, uint16_t *table, siz
                           size_t levels_len, uint16_t *units, uint16_t *links);
 
 /*
- * Write the survey file of a table and its levels, every link as kind 03, line feeds included. No state is used.
+ * Write the survey file of a table and its levels, every link as kind 03, line feeds included. The table is judged as a
+ * fresh one. No state is used.
  *
  * units    the number of units, 1 to 256.
  * table    the two ends of each link, as for link_survey_load.
  * levels   the level of each link, as for link_survey_load.
  * out      altered: LINK_SURVEY_FILE_BYTES(m) bytes at its front, for the m links of the table.
- * returns  4, 5, 6, 15, 16, 7, 8, 9, 14, or 0.
+ * returns  4, 5, 6, 15, 16, 7, 8, 9, 22, 14, or 0.
  */
 uint32_t link_survey_write(uint16_t units, const uint16_t *table, size_t table_len, const int16_t *levels,
                            size_t levels_len, uint8_t *out, size_t out_len);
 
 /*
- * Load a table with its levels and begin its survey: stage 1, no round made.
+ * Load a fresh table with its levels and begin its survey: stage 1, no round made.
  *
  * state    altered: the state loaded. Its old contents play no part.
  * units    the number of units, 1 to 256.
  * table    the two ends of each link, in either order: 2 words a link. A link's position is its number from 0.
  * levels   the level of each link, LINK_SURVEY_LOWEST_LEVEL to LINK_SURVEY_HIGHEST_LEVEL: as many as there are links.
- * returns  4, 5, 6, 15, 16, 7, 8, 9, or 0.
+ * returns  4, 5, 6, 15, 16, 7, 8, 9, 22, or 0.
  */
 uint32_t link_survey_load(uint16_t state[LINK_SURVEY_STATE_WORDS], uint16_t units, const uint16_t *table,
                           size_t table_len, const int16_t *levels, size_t levels_len);
+
+/*
+ * Load a table that was stored: as link_survey_load, but a unit without a link is no refusal. What is surveyed of a
+ * table that both accept is the same.
+ *
+ * returns  4, 5, 6, 15, 16, 7, 8, 9, or 0.
+ */
+uint32_t link_survey_load_stored(uint16_t state[LINK_SURVEY_STATE_WORDS], uint16_t units, const uint16_t *table,
+                                 size_t table_len, const int16_t *levels, size_t levels_len);
 
 /*
  * Make one round.
@@ -286,7 +299,7 @@ uint32_t link_survey_state_report(const uint16_t state[LINK_SURVEY_STATE_WORDS],
  *
  * seats    altered: the words of the one seat. The others stay, and no turn moves.
  * seat     its number, 0 to 7.
- * returns  23, 4, 5, 6, 15, 16, 7, 8, 9, or 0.
+ * returns  23, 4, 5, 6, 15, 16, 7, 8, 9, 22, or 0.
  */
 uint32_t link_survey_seat_load(uint16_t seats[LINK_SURVEY_SEATS][LINK_SURVEY_STATE_WORDS], uint16_t seat, uint16_t units,
                                const uint16_t *table, size_t table_len, const int16_t *levels, size_t levels_len);

@@ -136,7 +136,7 @@ def explain_refusal(number, site_path):
     """The words for a refusal that stands in the place of a report, and the exit code."""
     print(f"the survey refused the file with number {number}: {REFUSALS[number]}")
     try:
-        read(site_path, read_site)
+        site = read(site_path, read_site)
     except Fault as fault:
         if fault.number is None:
             raise
@@ -145,6 +145,11 @@ def explain_refusal(number, site_path):
             return 2
         print(f"but that is not what is wrong with it: {fault}")
         return 1
+    # 22 is none of the program, which opens stored tables: load and writing give it
+    unlinked = set(range(site.units)) - {unit for ends in site.links for unit in ends}
+    if number == 22 and site.units > 1 and unlinked:
+        print(f"{site_path}: no link ends at unit{'' if len(unlinked) == 1 else 's'} {listed(unlinked)}")
+        return 2
     print(f"but nothing is wrong with {site_path}")
     return 1
 

@@ -38,6 +38,7 @@ REFUSALS = {
     14: "the output has too little room",
     15: "the levels are not as many as the links",
     16: "a link has a level below -127 or above 0",
+    22: "a unit has no link; perhaps it was not switched on",
 }
 
 

@@ -160,6 +160,19 @@ class Refusals(Drawn):
         self.assertEqual(code, 1)
         self.assertIn("that is not what is wrong", said)
 
+    def test_units_without_a_link(self):
+        refusal = line(0x1E, 22)
+        for units, links, words in (2, [], "units 0, 1"), (3, [(0, 2)], "unit 1"), (6, [(1, 0)], "units 2 to 5"):
+            site = line(0x01, 0, units) + b"".join(line(0x02, 0, a, 0, b) for a, b in links) + line(0x0F, 0, len(links))
+            code, said, drawing = self.draw(site, refusal)
+            self.assertEqual((code, drawing), (2, None))
+            self.assertIn("a unit has no link", said)
+            self.assertIn(f"no link ends at {words}\n", said)
+        for sound in line(0x01, 0, 1) + line(0x0F, 0, 0), line(0x01, 0, 2) + line(0x02, 0, 1, 0, 0) + line(0x0F, 0, 1):
+            code, said, _ = self.draw(sound, refusal)
+            self.assertEqual(code, 1)
+            self.assertIn("nothing is wrong", said)
+
 
 def line(*body):
     """The line of a frame."""

@@ -25,6 +25,14 @@ unsafe extern "C" {
         out_len: usize,
     ) -> u32;
     fn link_survey_load(state: *mut u16, units: u16, table: *const u16, table_len: usize, levels: *const i16, levels_len: usize) -> u32;
+    fn link_survey_load_stored(
+        state: *mut u16,
+        units: u16,
+        table: *const u16,
+        table_len: usize,
+        levels: *const i16,
+        levels_len: usize,
+    ) -> u32;
     fn link_survey_round(state: *mut u16) -> u32;
     fn link_survey_run(state: *mut u16, budget: u16, made: *mut u16) -> u32;
     fn link_survey_status(state: *const u16, reply: *mut u16) -> u32;
@@ -65,6 +73,10 @@ pub fn load(state: &mut State, units: u16, table: &[u16], levels: &[i16]) -> u32
     unsafe { link_survey_load(state.as_mut_ptr(), units, table.as_ptr(), table.len(), levels.as_ptr(), levels.len()) }
 }
 
+pub fn load_stored(state: &mut State, units: u16, table: &[u16], levels: &[i16]) -> u32 {
+    unsafe { link_survey_load_stored(state.as_mut_ptr(), units, table.as_ptr(), table.len(), levels.as_ptr(), levels.len()) }
+}
+
 pub fn round(state: &mut State) -> u32 {
     unsafe { link_survey_round(state.as_mut_ptr()) }
 }
@@ -97,7 +109,7 @@ pub fn service_line(state: &State, out: &mut [u8]) -> u32 {
     unsafe { link_survey_service_line(state.as_ptr(), out.as_mut_ptr(), out.len()) }
 }
 
-pub const PROVED: Calls = Calls { report, read, write, load, round, run, status, unit, link, state_report, foreman_line, service_line };
+pub const PROVED: Calls = Calls { report, read, write, load, load_stored, round, run, status, unit, link, state_report, foreman_line, service_line };
 
 fn seat_load(seats: &mut Seats, seat: u16, units: u16, table: &[u16], levels: &[i16]) -> u32 {
     unsafe { link_survey_seat_load(seats, seat, units, table.as_ptr(), table.len(), levels.as_ptr(), levels.len()) }

@@ -2,7 +2,7 @@
 
 use crate::frames::{line_length, read_line, write_line};
 use crate::levels::in_range;
-use crate::{LOWEST_LEVEL, MAX_LINKS, Refusal, byte_of_level, check_table, level_of_byte};
+use crate::{LOWEST_LEVEL, MAX_LINKS, Refusal, byte_of_level, check_fresh, level_of_byte};
 
 const UNITS: u8 = 0x01;
 const LINK: u8 = 0x03;
@@ -120,9 +120,9 @@ pub fn file_length(links: usize) -> usize {
     2 * COUNT_LINE + links * LINK_LINE
 }
 
-/// Returns the characters written at the front of the slice. Refused with 4, 5, 6, 15, 16, 7, 8, 9, 14.
+/// Returns the characters written at the front of the slice. Refused with 4, 5, 6, 15, 16, 7, 8, 9, 22, 14.
 pub fn write_file(units: u16, table: &[u16], levels: &[i16], out: &mut [u8]) -> Result<usize, Refusal> {
-    check_table(units, table, levels)?;
+    check_fresh(units, table, levels)?;
     let links = table.len() / 2;
     let length = file_length(links);
     let out = out.get_mut(..length).ok_or(Refusal::TooShort)?;

@@ -41,7 +41,7 @@ pub use levels::{HIGHEST_LEVEL, LOWEST_LEVEL, byte_of_level, level_of_byte, leve
 pub use refusal::Refusal;
 pub use report::{MAX_INPUT, report_length, report_of_file};
 pub use survey::Survey;
-pub use table::check_table;
+pub use table::{check_fresh, check_table};
 
 /// The mark "absent". It compares as this number.
 pub const ABSENT: u16 = 65535;

@@ -18,6 +18,7 @@ pub enum Refusal {
     TooShort = 14,
     LevelsDiffer = 15,
     LevelOutside = 16,
+    UnlinkedUnit = 22,
 }
 
 impl Refusal {

@@ -87,7 +87,7 @@ pub fn report_of_file(input: &[u8], out: &mut [u8]) -> usize {
     }
 }
 
-/// Reads, loads and runs to the end.
+/// Reads, loads as a stored table and runs to the end.
 fn survey_file(input: &[u8], survey: &mut Survey) -> Result<(), Refusal> {
     if input.len() > MAX_INPUT {
         return Err(Refusal::FaultyLine);
@@ -95,7 +95,7 @@ fn survey_file(input: &[u8], survey: &mut Survey) -> Result<(), Refusal> {
     let (mut words, mut levels) = ([0; 2 * MAX_LINKS], [0; MAX_LINKS]);
     let contents = read_file(input, &mut words, &mut levels)?;
     let links = usize::from(contents.links);
-    survey.load(contents.units, &words[..2 * links], &levels[..links])?;
+    survey.load_stored(contents.units, &words[..2 * links], &levels[..links])?;
     survey.run(u16::MAX)?;
     Ok(())
 }

@@ -7,7 +7,7 @@ use crate::{ABSENT, FINISHED, MAX_NUMBER, Survey, ceiling, word_of_level};
 
 pub fn loaded(site: &Site) -> Survey {
     let mut survey = Survey::new();
-    survey.load(site.units, &site.table, &site.levels).expect("a site passes the checks");
+    survey.load_stored(site.units, &site.table, &site.levels).expect("a site passes the checks");
     survey
 }
 

@@ -1,6 +1,6 @@
 //! The state of a survey and its load.
 
-use crate::{ABSENT, HIGHEST_LEVEL, MAX_LINKS, MAX_UNITS, Refusal, check_table, word_of_level};
+use crate::{ABSENT, HIGHEST_LEVEL, MAX_LINKS, MAX_UNITS, Refusal, check_fresh, check_table, word_of_level};
 
 const UNITS: usize = MAX_UNITS;
 /// Directed tree links, document 01's list places: 2v is the one into v, 2v + 1 the one out of v.
@@ -88,9 +88,22 @@ impl Survey {
         }
     }
 
-    /// Refused with 4, 5, 6, 15, 16, 7, 8, 9.
+    /// Of a fresh table. Refused with 4, 5, 6, 15, 16, 7, 8, 9, 22.
     pub fn load(&mut self, units: u16, table: &[u16], levels: &[i16]) -> Result<(), Refusal> {
+        check_fresh(units, table, levels)?;
+        self.begin(units, table, levels);
+        Ok(())
+    }
+
+    /// Of a stored table. Refused with 4, 5, 6, 15, 16, 7, 8, 9.
+    pub fn load_stored(&mut self, units: u16, table: &[u16], levels: &[i16]) -> Result<(), Refusal> {
         check_table(units, table, levels)?;
+        self.begin(units, table, levels);
+        Ok(())
+    }
+
+    /// The survey of a table that passes the checks.
+    fn begin(&mut self, units: u16, table: &[u16], levels: &[i16]) {
         *self = Survey::new();
         self.units = units;
         self.links = (table.len() / 2) as u16;
@@ -98,7 +111,6 @@ impl Survey {
         for (word, &level) in self.levels.iter_mut().zip(levels) {
             *word = word_of_level(level);
         }
-        Ok(())
     }
 
     pub(crate) fn n(&self) -> usize {

@@ -16,13 +16,17 @@ pub type LinkReply = [u16; 3];
 /// From a file to its ends, its levels, its unit count and its number of links.
 pub type ReadCall = fn(&[u8], &mut [u16], &mut [i16], &mut u16, &mut u16) -> u32;
 
+/// A unit count, a table and its levels to the words of a state.
+pub type LoadCall = fn(&mut State, u16, &[u16], &[i16]) -> u32;
+
 /// One side's calls.
 #[derive(Clone, Copy)]
 pub struct Calls {
     pub report: fn(&[u8], &mut [u8]) -> u32,
     pub read: ReadCall,
     pub write: fn(u16, &[u16], &[i16], &mut [u8]) -> u32,
-    pub load: fn(&mut State, u16, &[u16], &[i16]) -> u32,
+    pub load: LoadCall,
+    pub load_stored: LoadCall,
     pub round: fn(&mut State) -> u32,
     pub run: fn(&mut State, u16, &mut u16) -> u32,
     pub status: fn(&State, &mut StatusReply) -> u32,
@@ -33,7 +37,7 @@ pub struct Calls {
     pub service_line: fn(&State, &mut [u8]) -> u32,
 }
 
-pub const PLAIN: Calls = Calls { report, read, write, load, round, run, status, unit, link, state_report, foreman_line, service_line };
+pub const PLAIN: Calls = Calls { report, read, write, load, load_stored, round, run, status, unit, link, state_report, foreman_line, service_line };
 
 fn number(answer: Result<(), Refusal>) -> u32 {
     match answer {
@@ -56,16 +60,26 @@ pub fn read(input: &[u8], table: &mut [u16], levels: &mut [i16], units: &mut u16
     })())
 }
 
-/// Refused with 4, 5, 6, 15, 16, 7, 8, 9, 14.
+/// Refused with 4, 5, 6, 15, 16, 7, 8, 9, 22, 14.
 pub fn write(units: u16, table: &[u16], levels: &[i16], out: &mut [u8]) -> u32 {
     number(write_file(units, table, levels, out).map(|_| ()))
 }
 
-/// Refused with 4, 5, 6, 15, 16, 7, 8, 9.
+/// Of a fresh table. Refused with 4, 5, 6, 15, 16, 7, 8, 9, 22.
 pub fn load(state: &mut State, units: u16, table: &[u16], levels: &[i16]) -> u32 {
     number((|| {
         let mut survey = Survey::new();
         survey.load(units, table, levels)?;
+        survey.write_words(state);
+        Ok(())
+    })())
+}
+
+/// Of a stored table. Refused with 4, 5, 6, 15, 16, 7, 8, 9.
+pub fn load_stored(state: &mut State, units: u16, table: &[u16], levels: &[i16]) -> u32 {
+    number((|| {
+        let mut survey = Survey::new();
+        survey.load_stored(units, table, levels)?;
         survey.write_words(state);
         Ok(())
     })())

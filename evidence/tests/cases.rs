@@ -11,9 +11,13 @@ fn check_table(units: u16, table: &[u16]) -> Result<(), Refusal> {
     plain::check_table(units, table, &levels(table))
 }
 
+fn check_fresh(units: u16, table: &[u16]) -> Result<(), Refusal> {
+    plain::check_fresh(units, table, &levels(table))
+}
+
 fn loaded(units: u16, table: &[u16]) -> Survey {
     let mut survey = Survey::new();
-    survey.load(units, table, &levels(table)).unwrap();
+    survey.load_stored(units, table, &levels(table)).unwrap();
     survey
 }
 
@@ -116,6 +120,29 @@ fn h_list_of_five() {
 fn i_unit_counts() {
     assert_eq!(check_table(257, &[]), Err(Refusal::BadUnitCount));
     assert_eq!(check_table(256, &[]), Ok(()));
+    assert_eq!(first_countdown(256, &[]), 804);
+}
+
+/// 22 (document 02, T-10): two or more units, one of them without a link; last among the checks, and none of a stored table.
+#[test]
+fn units_without_a_link() {
+    for passes in [check_fresh(1, &[]), check_fresh(2, &[1, 0]), check_table(2, &[]), check_table(3, &[2, 0])] {
+        assert_eq!(passes, Ok(()));
+    }
+    for units in [2, 256] {
+        assert_eq!(check_fresh(units, &[]), Err(Refusal::UnlinkedUnit));
+    }
+    for table in [[1, 2], [2, 0], [0, 1]] {
+        assert_eq!(check_fresh(3, &table), Err(Refusal::UnlinkedUnit));
+    }
+    assert_eq!(check_fresh(257, &[]), Err(Refusal::BadUnitCount));
+    assert_eq!(check_fresh(3, &[3, 3]), Err(Refusal::EndMissing));
+    assert_eq!(check_fresh(3, &[0, 1, 1, 0]), Err(Refusal::RepeatedLink));
+    for places in [18, 17] {
+        let mut out = [7; 18];
+        assert_eq!(plain::write_file(2, &[], &[], &mut out[..places]), Err(Refusal::UnlinkedUnit));
+        assert_eq!(out, [7; 18]);
+    }
 }
 
 #[test]

@@ -3,7 +3,7 @@
 use plain::damage::{any_file, spoil_site};
 use plain::random::Random;
 use plain::sites::any_site;
-use plain::{check_table, file_length, read_file, write_file};
+use plain::{check_fresh, check_table, file_length, read_file, write_file};
 
 /// The bytes of a line, if it is whole.
 fn frame(line: &[u8]) -> Option<Vec<u8>> {
@@ -90,6 +90,11 @@ fn check_slowly(units: u16, table: &[u16], levels: &[i16]) -> Result<(), u8> {
     }
 }
 
+/// 22, of a table that passes all else.
+fn check_units_slowly(units: u16, table: &[u16]) -> Result<(), u8> {
+    if units >= 2 && (0..units).any(|unit| !table.contains(&unit)) { Err(22) } else { Ok(()) }
+}
+
 #[test]
 fn read() {
     let mut seen = [0; 17];
@@ -128,15 +133,17 @@ fn read() {
 
 #[test]
 fn check_and_write() {
-    let mut seen = [0; 17];
+    let mut seen = [0; 23];
     for case in 0..10_000 {
         let random = &mut Random::new(12, case);
         let mut site = any_site(random);
         if random.once_in(2) {
             spoil_site(random, &mut site);
         }
-        let ours = check_table(site.units, &site.table, &site.levels).map_err(|refusal| refusal.number());
-        assert_eq!(ours, check_slowly(site.units, &site.table, &site.levels), "case {case}");
+        let stored = check_table(site.units, &site.table, &site.levels).map_err(|refusal| refusal.number());
+        assert_eq!(stored, check_slowly(site.units, &site.table, &site.levels), "case {case}");
+        let ours = check_fresh(site.units, &site.table, &site.levels).map_err(|refusal| refusal.number());
+        assert_eq!(ours, stored.and_then(|()| check_units_slowly(site.units, &site.table)), "case {case}");
         seen[usize::from(ours.err().unwrap_or(0))] += 1;
 
         let length = file_length(site.links());
@@ -158,5 +165,5 @@ fn check_and_write() {
             }
         }
     }
-    assert!([0, 4, 5, 6, 7, 8, 9, 15, 16].iter().all(|&number| seen[number] > 20), "{seen:?}");
+    assert!([0, 4, 5, 6, 7, 8, 9, 15, 16, 22].iter().all(|&number| seen[number] > 20), "{seen:?}");
 }

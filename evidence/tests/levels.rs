@@ -1,4 +1,5 @@
-//! Levels of links (document 02, T-01): two's complement, both kinds of link lines, and vectors of an independent model.
+//! Levels of links (document 02, T-01): two's complement, both kinds of link lines, and vectors of an independent model, those of units without a link (T-10)
+//! among them.
 
 use plain::{
     Refusal, Survey, byte_of_level, check_table, level_of_byte, level_of_word, read_file, report_of_file, word_of_level, write_file,
@@ -74,16 +75,17 @@ fn numbers_in_order() {
     assert_eq!(check(3, &[0, 1, 1, 2], &[-127, 0]), Ok(()));
 }
 
-// ---- vectors: NAME.in and NAME.out, those that begin with t01
+// ---- vectors: NAME.in and NAME.out, those that begin with t01 or t10
 
 /// The vectors of a family, here or under the folder that SURVEY_LEVELS names.
 fn vectors(family: &str) -> Vec<PathBuf> {
     let here = Path::new(env!("CARGO_MANIFEST_DIR")).join("tests/levels");
     let folder = std::env::var_os("SURVEY_LEVELS").map_or(here, PathBuf::from).join(family);
     let entries = std::fs::read_dir(&folder).unwrap_or_else(|e| panic!("{}: {e}", folder.display()));
-    let t01 = |path: &PathBuf| path.file_name().is_some_and(|name| name.to_string_lossy().starts_with("t01_"));
+    let known = |name: &str| name.starts_with("t01_") || name.starts_with("t10_");
+    let ours = |path: &PathBuf| path.file_name().is_some_and(|name| known(&name.to_string_lossy()));
     let mut found: Vec<PathBuf> =
-        entries.map(|entry| entry.unwrap().path()).filter(|path| t01(path) && path.extension().is_some_and(|e| e == "in")).collect();
+        entries.map(|entry| entry.unwrap().path()).filter(|path| ours(path) && path.extension().is_some_and(|e| e == "in")).collect();
     found.sort();
     assert!(!found.is_empty(), "no vectors in {}", folder.display());
     found
@@ -161,7 +163,8 @@ fn loads_and_writes() {
                 write_file(units, &table, &levels, &mut vec![0; places])
             } else {
                 let mut survey = Survey::new();
-                survey.load(units, &table, &levels).map(|()| usize::from(survey.status().unwrap().countdown))
+                let load = if call == 3 { Survey::load_stored } else { Survey::load };
+                load(&mut survey, units, &table, &levels).map(|()| usize::from(survey.status().unwrap().countdown))
             };
             lines += &answer.map_or_else(|refusal| format!("{}\n", refusal.number()), |value| format!("0 {value}\n"));
         }

@@ -21,7 +21,7 @@ fn loaded(input: &[u8]) -> Survey {
     let contents = read_file(input, &mut words, &mut levels).unwrap();
     let links = usize::from(contents.links);
     let mut survey = Survey::new();
-    survey.load(contents.units, &words[..2 * links], &levels[..links]).unwrap();
+    survey.load_stored(contents.units, &words[..2 * links], &levels[..links]).unwrap();
     survey
 }
 

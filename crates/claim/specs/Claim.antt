@@ -1,4 +1,4 @@
--- Demand 3, one claim about a whole list of calls: `Demand3`, at the end. Its only hypothesis is that load accepts. ClaimProof.antt proves it.
+-- Demand 3, one claim about a whole list of calls: `Demand3`, at the end. Its only hypothesis is that some load accepts. ClaimProof.antt proves it.
 use mathlib.Core.Path.{_≡_}
 use mathlib.Core.Logic.{_↔_}
 use mathlib.Core.List.{List, []}
@@ -13,14 +13,14 @@ use Rattle.machine.specs.Load.{Input, linksIn}
 use Rattle.machine.specs.Step.{steps, countdown}
 use Rattle.machine.specs.RunLaws.{Total, total}
 use Rattle.machine.specs.Report.{unitColor, unitParent, unitPlace, unitSingle, linkLabel, linkLone, flag, reportLength}
-use Rattle.machine.specs.Calls.{loadAnswer, statusAnswer, unitAnswer, linkAnswer, reportAnswer, reported}
+use Rattle.machine.specs.Calls.{loadAnswer, storedLoadAnswer, statusAnswer, unitAnswer, linkAnswer, reportAnswer, reported}
 use Rattle.reach.specs.Reach.{SurveyRight}
 use Rattle.claim.specs.Play.{Call, play, used, asked}
 
--- load, called on any state whatever, was not refused and handed back s
-pub record Loaded (input : Input) (s : State) : Type 0 where
-  pub given : State
-  pub answer : loadAnswer input given ≡ record { state = s; reply = Done }
+-- some load, called on any state whatever, was not refused and handed back s: load, or that of a stored table (document 02, T-10)
+pub data Loaded (input : Input) (s : State) : Type 0 where
+  fresh : (given : State) → loadAnswer input given ≡ record { state = s; reply = Done } → Loaded input s
+  stored : (given : State) → storedLoadAnswer input given ≡ record { state = s; reply = Done } → Loaded input s
 
 -- the line of a report that carries an answer
 abbrev pub lineFor : Reply → List ℕ
@@ -67,7 +67,7 @@ pub record Claim (input : Input) (s : State) (calls : List Call) (e : State) (u 
   -- and there the survey is right
   pub right : u ≡ total s → EndRight input e u
 
--- DEMAND 3. For every table that load accepts, on any state whatever, and every list of calls from the state that it handed back.
+-- DEMAND 3. For every table that a load accepts, on any state whatever, and every list of calls from the state that it handed back.
 abbrev pub Demand3 : Type 0
 Demand3 =
     (input : Input) (s : State) → Loaded input s → (calls : List Call)

@@ -12,97 +12,107 @@ use borrow.Author.Tests.{eqb-true, eqb-false, eq-eqb, ne-eqb, lt-ltb, le-ltb}
 use Rattle.lists.specs.Tests.{either, not-both}
 use Rattle.frames.specs.Frame.{lineOf}
 use Rattle.frames.specs.Bodies.{headBody}
-use Rattle.table.specs.Table.{tableRefusal}
-use Rattle.state.specs.declared.reply.Reply.the-variants.{Status, Unit, Link, Written}
+use Rattle.state.specs.declared.reply.Reply.the-variants.{Done, Status, Unit, Link, Written}
 use Rattle.machine.specs.State.{State, units, links, finished, FINISHED}
 use Rattle.machine.specs.WellFormed.{wellFormed}
-use Rattle.machine.specs.Load.{Input, linksIn, loadRefusal, begun, loaded}
+use Rattle.machine.specs.Load.{Input, linksIn, loadRefusal, storedLoadRefusal, tableOf, loaded}
+use Rattle.machine.specs.LoadLaws.{load-accepted}
 use Rattle.machine.specs.Step.{step, steps, countdown}
-use Rattle.machine.specs.StepLaws.{loaded-wellFormed}
 use Rattle.machine.specs.RunLaws.{total, total-least, total-countdown, ended-exact, steps-wellFormed}
 use Rattle.machine.specs.Report.{unitColor, unitParent, unitPlace, unitSingle, linkLabel, linkLone, report, reportLength, headLine, unitLine, linkLine}
 use Rattle.machine.specs.ReportLaws.{head-at, unit-at, link-at}
-use Rattle.machine.specs.Calls.{Answer, numberOf, loadAnswer, statusAnswer, statusRefusal, questionRefusal, unitAnswer, unitRefusal, linkAnswer, linkRefusal, reportAnswer, reportRefusal, reported}
+use Rattle.machine.specs.Calls.{Answer, numberOf, answered, loadAnswer, storedLoadAnswer, statusAnswer, statusRefusal, questionRefusal, unitAnswer, unitRefusal, linkAnswer, linkRefusal, reportAnswer, reportRefusal, reported}
+use Rattle.reach.specs.Started.{Started, loaded-started}
 use Rattle.reach.specs.Reach.{survey-right, table-steps, rounds-steps}
 use Rattle.claim.specs.Play.{Call, play, used, asked}
 use Rattle.claim.specs.PlayLaws.{Spent, play-spent}
-use Rattle.claim.specs.Claim.{Loaded, lineFor, EndRight, Claim, Demand3}
+use Rattle.claim.specs.Claim.{Loaded, fresh, stored, lineFor, EndRight, Claim, Demand3}
 
--- an accepted load hands back the loaded state
-accepted-load : (input : Input) (s : State) → Loaded input s → (loadRefusal input ≡ 0) × (s ≡ loaded input)
-unfolding loadAnswer
-accepted-load input s l = go (either (eqb (loadRefusal input) 0))
+-- ---- every load starts a survey
+
+-- an answer that was not refused is that of the call made
+answer-done : (k : ℕ) (given after s : State) → answered k given after Done ≡ record { state = s; reply = Done } → (k ≡ 0) × (s ≡ after)
+answer-done k given after s a = go (either (eqb k 0))
   where
-    go : (eqb (loadRefusal input) 0 ≡ true) ⊎ (eqb (loadRefusal input) 0 ≡ false) → (loadRefusal input ≡ 0) × (s ≡ loaded input)
-    go (inl e) = (eqb-true (loadRefusal input) 0 e, sym (ap (λ (a : Answer). a .state) (rw e at (l .answer))))
-    go (inr e) = absurd (eqb-false (loadRefusal input) 0 e (ap (λ (a : Answer). numberOf (a .reply)) (rw e at (l .answer))))
+    go : (eqb k 0 ≡ true) ⊎ (eqb k 0 ≡ false) → (k ≡ 0) × (s ≡ after)
+    go (inl e) = (eqb-true k 0 e, sym (ap (λ (x : Answer). x .state) (rw e at a)))
+    go (inr e) = absurd (eqb-false k 0 e (ap (λ (x : Answer). numberOf (x .reply)) (rw e at a)))
 
-module _ (input : Input) (accepted : loadRefusal input ≡ 0) (calls : List Call) where
+started : (input : Input) (s : State) → Loaded input s → Started input s
+unfolding loadAnswer storedLoadAnswer
+started input s (fresh given a) =
+    let (accepted, q) = answer-done (loadRefusal input) given (loaded input) s a in
+    rw q (loaded-started input (load-accepted input accepted))
+started input s (stored given a) =
+    let (accepted, q) = answer-done (storedLoadRefusal input) given (loaded input) s a in
+    rw q (loaded-started input accepted)
+
+-- ---- a list of calls from a start
+
+module _ (input : Input) (s₀ : State) (S : Started input s₀) (calls : List Call) where
   e : State
-  e = play calls (loaded input) .last
+  e = play calls s₀ .last
 
   u : ℕ
-  u = used calls (play calls (loaded input) .replies)
+  u = used calls (play calls s₀ .replies)
 
-  w : wellFormed (loaded input) ≡ true
-  w = loaded-wellFormed input accepted
+  w : wellFormed s₀ ≡ true
+  w = S .kept
 
-  spent : Spent (asked calls) (loaded input) (play calls (loaded input) .last) (used calls (play calls (loaded input) .replies))
-  spent = play-spent calls (loaded input) w
+  spent : Spent (asked calls) s₀ (play calls s₀ .last) (used calls (play calls s₀ .replies))
+  spent = play-spent calls s₀ w
 
   -- no round past the end
-  not-past : u ≤ total (loaded input)
+  not-past : u ≤ total s₀
   unfolding u
-  not-past = go (decLt (total (loaded input)) (used calls (play calls (loaded input) .replies)))
+  not-past = go (decLt (total s₀) (used calls (play calls s₀ .replies)))
     where
-      go : Dec (total (loaded input) < used calls (play calls (loaded input) .replies)) → used calls (play calls (loaded input) .replies) ≤ total (loaded input)
+      go : Dec (total s₀ < used calls (play calls s₀ .replies)) → used calls (play calls s₀ .replies) ≤ total s₀
       go (yes l) =
-          absurd (not-both (finished (steps (total (loaded input)) (loaded input))) (eq-eqb _ FINISHED (total-least (loaded input) w .ends)) (spent .going (total (loaded input)) l))
+          absurd (not-both (finished (steps (total s₀) s₀)) (eq-eqb _ FINISHED (total-least s₀ w .ends)) (spent .going (total s₀) l))
       go (no l) = omega arith
 
   well : wellFormed e ≡ true
   unfolding e
-  well = rw (spent .state) (steps-wellFormed _ (loaded input) w)
+  well = rw (spent .state) (steps-wellFormed _ s₀ w)
 
   rounds-used : e .clock .rounds ≡ u
   unfolding e u
-  rounds-used = rw (spent .state) (rounds-steps input accepted (used calls (play calls (loaded input) .replies)) not-past)
+  rounds-used = rw (spent .state) (rounds-steps S (used calls (play calls s₀ .replies)) not-past)
 
   status-said : statusAnswer e ≡ record { state = e; reply = Status (e .clock .stage) (countdown e) u (e .clock .requests) }
   unfolding statusAnswer statusRefusal
   status-said = rw (well, sym rounds-used) refl
 
-  ended : (u ≡ total (loaded input)) ↔ (e .clock .stage ≡ FINISHED)
+  ended : (u ≡ total s₀) ↔ (e .clock .stage ≡ FINISHED)
   unfolding e u
   ended = (λ q. rw (spent .state) (x .1 (omega arith)), λ q. omega (arith, not-past, x .0 (rw (spent .state) at q)))
     where
-      x : (steps (used calls (play calls (loaded input) .replies)) (loaded input) .clock .stage ≡ FINISHED) ↔ (total (loaded input) ≤ used calls (play calls (loaded input) .replies))
-      x = ended-exact (loaded input) w (used calls (play calls (loaded input) .replies))
+      x : (steps (used calls (play calls s₀ .replies)) s₀ .clock .stage ≡ FINISHED) ↔ (total s₀ ≤ used calls (play calls s₀ .replies))
+      x = ended-exact s₀ w (used calls (play calls s₀ .replies))
 
-  asked-enough : countdown (loaded input) ≤ asked calls → u ≡ total (loaded input)
+  asked-enough : countdown s₀ ≤ asked calls → u ≡ total s₀
   unfolding e u
   asked-enough l = go (spent .stops)
     where
-      go : (used calls (play calls (loaded input) .replies) ≡ asked calls) ⊎ (finished (play calls (loaded input) .last) ≡ true)
-          → used calls (play calls (loaded input) .replies) ≡ total (loaded input)
-      go (inl q) = omega (arith, not-past, total-countdown (loaded input))
-      go (inr f) = ended .1 (eqb-true (play calls (loaded input) .last .clock .stage) FINISHED f)
+      go : (used calls (play calls s₀ .replies) ≡ asked calls) ⊎ (finished (play calls s₀ .last) ≡ true)
+          → used calls (play calls s₀ .replies) ≡ total s₀
+      go (inl q) = omega (arith, not-past, total-countdown s₀)
+      go (inr f) = ended .1 (eqb-true (play calls s₀ .last .clock .stage) FINISHED f)
 
   -- ---- at the end
 
-  table-kept : e .table ≡ loaded input .table
+  table-kept : e .table ≡ tableOf input
   unfolding e
-  table-kept = rw (spent .state) (table-steps input accepted (used calls (play calls (loaded input) .replies)))
+  table-kept = rw (spent .state) (table-steps S (used calls (play calls s₀ .replies)))
 
   site-units : units e ≡ (input .units)
-  unfolding loaded begun
   site-units = rw table-kept refl
 
   site-links : links e ≡ linksIn input
-  unfolding loaded begun
   site-links = rw table-kept refl
 
-  module _ (over : u ≡ total (loaded input)) where
+  module _ (over : u ≡ total s₀) where
     at-end : finished e ≡ true
     at-end = eq-eqb (e .clock .stage) FINISHED (ended .0 over)
 
@@ -161,17 +171,17 @@ module _ (input : Input) (accepted : loadRefusal input ≡ 0) (calls : List Call
           headWritten = head-written;
           unitWritten = unit-written;
           linkWritten = link-written;
-          right = rw (spent .state, over) (survey-right input accepted .3);
+          right = rw (spent .state, over) (survey-right S .3);
         }
 
-  claim-loaded : Claim input (loaded input) calls e u
+  claim-started : Claim input s₀ calls e u
   unfolding e u
-  claim-loaded =
+  claim-started =
       record {
         state = spent .state;
-        within = omega (arith, not-past, total-countdown (loaded input));
+        within = omega (arith, not-past, total-countdown s₀);
         status = status-said;
-        least = total-least (loaded input) w;
+        least = total-least s₀ w;
         enough = asked-enough;
         end = ended;
         right = end-right;
@@ -179,6 +189,4 @@ module _ (input : Input) (accepted : loadRefusal input ≡ 0) (calls : List Call
 
 pub claim : Demand3
 unfolding e u
-claim input s l calls =
-    let (a, q) = accepted-load input s l in
-    rw q (claim-loaded input a calls)
+claim input s l calls = claim-started input s (started input s l) calls

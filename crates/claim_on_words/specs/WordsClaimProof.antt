@@ -10,16 +10,18 @@ use borrow.Author.Tests.{eq-eqb}
 use Rattle.lists.specs.Tests.{either}
 use Rattle.state.specs.declared.reply.Reply.the-variants.{Status}
 use Rattle.machine.specs.State.{State, FINISHED}
-use Rattle.machine.specs.Load.{Input, loadRefusal, loaded}
+use Rattle.machine.specs.Load.{Input, loadRefusal, storedLoadRefusal, loaded}
 use Rattle.machine.specs.Step.{steps, countdown}
 use Rattle.machine.specs.RunLaws.{steps-add, steps-finished}
-use Rattle.machine.specs.Calls.{Answer, roundRefusal, runAnswer, loadAnswer, statusAnswer}
+use Rattle.machine.specs.Calls.{Answer, roundRefusal, runAnswer, loadAnswer, storedLoadAnswer, statusAnswer}
 use Rattle.words.specs.Layout.{stateOf}
-use Rattle.lent.specs.FaceLaws.{load-number}
+use Rattle.lent.specs.FaceLaws.{load-number, stored-load-number}
 use Rattle.claim.specs.Play.{Call, round, run, status, unit, link, report, answerTo, play, usedBy, used}
+use Rattle.claim.specs.Claim as by-value
 use Rattle.claim.specs.Claim.{Loaded, EndRight, Claim}
 use Rattle.claim.specs.ClaimProof.{claim}
 use Rattle.claim_on_words.specs.Exchange.{numberTo, lentAfter, Exchange, CallMade, CallsMade, callsOf, usedIn, usedOf}
+use Rattle.claim_on_words.specs.WordsClaim as on-words
 use Rattle.claim_on_words.specs.WordsClaim.{LoadedWords, Demand3OnWords, ToldAtEnd, InsideOnWords}
 
 -- ---- the list that was played
@@ -59,11 +61,15 @@ played (x ∷ xs) before after made =
 -- ---- the claim
 
 loaded-words : (input : Input) (words : List ℕ) → LoadedWords input words → Loaded input (stateOf words)
-unfolding loadAnswer
-loaded-words input words l =
-    let accepted : loadRefusal input ≡ 0 = sym (load-number input (stateOf (l .given))) ∙ sym (l .number) in
-    let state : stateOf words ≡ loaded input = rw accepted at (l .after) in
-    record { given = stateOf (l .given); answer = rw (accepted, state) refl }
+unfolding loadAnswer storedLoadAnswer
+loaded-words input words (on-words.fresh given d) =
+    let accepted : loadRefusal input ≡ 0 = sym (load-number input (stateOf given)) ∙ sym (d .0) in
+    let state : stateOf words ≡ loaded input = rw accepted at (d .1) in
+    by-value.fresh (stateOf given) (rw (accepted, state) refl)
+loaded-words input words (on-words.stored given d) =
+    let accepted : storedLoadRefusal input ≡ 0 = sym (stored-load-number input (stateOf given)) ∙ sym (d .0) in
+    let state : stateOf words ≡ loaded input = rw accepted at (d .1) in
+    by-value.stored (stateOf given) (rw (accepted, state) refl)
 
 pub claim-on-words : Demand3OnWords
 claim-on-words input first last l xs made =

@@ -8,7 +8,7 @@ use lib.ListN.{length, getD}
 use lib.IntN.{ℤ}
 use Rattle.levels.specs.Level.{LOWEST, levelByte, byteLevel}
 use Rattle.table.specs.Refusals.{firstOf, written}
-use Rattle.table.specs.Table.{linkCount, maxLinks, levelOutside, tableTests}
+use Rattle.table.specs.Table.{linkCount, maxLinks, levelOutside, freshTests}
 use Rattle.frames.specs.Frame.{LF, wordOf, lineOf, allDigits, bytesOf, sumOf}
 use Rattle.frames.specs.Bodies.{unitsBody, linkBody, endBody}
 use Rattle.frames.specs.Kinds.{UNITS, LINK, END, frameBytes, linkKind}
@@ -64,9 +64,9 @@ fileOf n t ls = lineOf (unitsBody n) ++ linkLines t ls ++ lineOf (endBody (linkC
 abbrev pub fileLength : ℕ → ℕ
 fileLength m = 18 + 15 * m
 
--- writing into a slice with this many places: the table's refusals, then 14
+-- writing into a slice with this many places: a fresh table's refusals, 22 among them (document 02, T-10), then 14
 unfoldable pub writeRefusal : ℕ → List ℕ → List ℤ → ℕ → ℕ
-writeRefusal n t ls places = firstOf (tableTests n t ls ++ (14, ltb places (fileLength (linkCount t))) ∷ [])
+writeRefusal n t ls places = firstOf (freshTests n t ls ++ (14, ltb places (fileLength (linkCount t))) ∷ [])
 
 -- the reply, and the slice after the call
 unfoldable pub writeReply : ℕ → List ℕ → List ℤ → ℕ → Writing

@@ -15,7 +15,8 @@ use Rattle.lists.specs.Tests.{either, or-cases, or-left, or-right, or-exact, an
 use Rattle.table.specs.Refusals.{firstOf}
 use Rattle.table.specs.RefusalLaws.{Reason, tests}
 use Rattle.table.specs.Table.{linkCount, maxLinks, levelOutside}
-use Rattle.table.specs.TableCauses.{LevelOutside, levelOutside-exact, tableReasons}
+use Rattle.table.specs.TableCauses.{LevelOutside, levelOutside-exact, storedReasons}
+use Rattle.table.specs.FreshLaws.{freshReasons}
 use Rattle.frames.specs.Frame.{digitValue, allDigits, bytesOf, sumOf}
 use Rattle.frames.specs.FrameLaws.{IsDigit, digit-exact}
 use Rattle.frames.specs.Kinds.{UNITS, BARE-LINK, LINK, END, frameBytes, linkKind}
@@ -279,11 +280,11 @@ pub readRefusal-tests : (ls : List Line) (places spaces : ℕ) → readRefusal l
 unfolding readRefusal readReasons
 readRefusal-tests ls places spaces = refl
 
--- ---- writing: the table's, 14
+-- ---- writing: a fresh table's, 14
 
 unfoldable pub writeReasons : ℕ → List ℕ → List ℤ → ℕ → List Reason
 writeReasons n t ls places =
-    tableReasons n t ls
+    freshReasons n t ls
     ++ record {
       number = 14;
       test = ltb places (fileLength (linkCount t));
@@ -293,5 +294,5 @@ writeReasons n t ls places =
     ∷ []
 
 pub writeRefusal-tests : (n : ℕ) (t : List ℕ) (ls : List ℤ) (places : ℕ) → writeRefusal n t ls places ≡ firstOf (tests (writeReasons n t ls places))
-unfolding writeRefusal writeReasons tableReasons
+unfolding writeRefusal writeReasons freshReasons storedReasons
 writeRefusal-tests n t ls places = refl

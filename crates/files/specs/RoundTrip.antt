@@ -8,7 +8,7 @@ use lib.ListN.{length}
 use lib.IntN.{ℤ}
 use Rattle.levels.specs.Level.{LOWEST, levelByte}
 use Rattle.table.specs.Refusals.{firstOf, written}
-use Rattle.table.specs.Table.{linkCount, tableTests}
+use Rattle.table.specs.Table.{linkCount, freshTests}
 use Rattle.frames.specs.Frame.{LF, lineOf}
 use Rattle.frames.specs.Kinds.{BARE-LINK}
 use Rattle.frames.specs.Bodies.{linkBody}
@@ -18,10 +18,11 @@ use Rattle.files.specs.declared.Writing.{Writing}
 
 -- ---- a table written into a slice of so many characters, and read back into so many places for words and so many for levels
 
--- the table's refusals, and 14 where a slice is too short
+-- a fresh table's refusals, and 14 where a slice is too short: a table of two or more units with one that has no link is not written (document 02, T-10), and so
+-- does not come back
 unfoldable pub copyRefusal : ℕ → List ℕ → List ℤ → ℕ → ℕ → ℕ → ℕ
 copyRefusal n t ls chars places spaces =
-    firstOf (tableTests n t ls ++ (14, ltb chars (fileLength (linkCount t)) || (ltb places (length t) || ltb spaces (length ls))) ∷ [])
+    firstOf (freshTests n t ls ++ (14, ltb chars (fileLength (linkCount t)) || (ltb places (length t) || ltb spaces (length ls))) ∷ [])
 
 unfoldable pub copyReply : ℕ → List ℕ → List ℤ → ℕ → ℕ → ℕ → Reading
 copyReply n t ls chars places spaces = readingOf (copyRefusal n t ls chars places spaces) n (linkCount t)

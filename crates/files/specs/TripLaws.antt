@@ -11,13 +11,13 @@ use lib.IntN.{ℤ}
 use lib.Seq.{take-at}
 use borrow.Author.Tests.{eqb-true, eqb-false, ne-eqb, lt-ltb, le-ltb}
 use Rattle.table.specs.RefusalLaws.{first-some, first-none}
-use Rattle.table.specs.Table.{linkCount, tableTests, tableRefusal}
+use Rattle.table.specs.Table.{linkCount, freshTests, freshRefusal}
 use Rattle.files.specs.File.{linesOf, unitsIn, endsIn, levelsIn, linkFrames, fileOf, fileLength, readRefusal, readReply, readWords, readLevels, writeRefusal, writeReply, writtenFile}
 use Rattle.files.specs.RoundTrip.{copyRefusal, copyReply, copiedWords, copiedLevels, rewriteRefusal, rewriteReply, rewrittenFile}
 use Rattle.files.specs.LineSteps.{length-ends, length-levels}
 use Rattle.files.specs.ReadLaws.{accepted-sound}
-use Rattle.files.specs.WriteLaws.{write-table, write-14, write-0, length-file, written-table, written-one, written-fits}
-use Rattle.files.specs.WrittenLaws.{written-read}
+use Rattle.files.specs.WriteLaws.{write-table, write-14, write-0, length-file, written-table, written-stored, written-one, written-fits}
+use Rattle.files.specs.WrittenLaws.{ReadBack, written-read}
 use Rattle.files.specs.RewrittenLaws.{read-written}
 use Rattle.files.specs.declared.Reading.{Reading}
 use Rattle.files.specs.declared.Reading.the-variants.{Read}
@@ -48,13 +48,13 @@ module _ (n : ℕ) (t : List ℕ) (ls : List ℤ) (chars places spaces : ℕ) wh
   short : Bool
   short = ltb chars (fileLength (linkCount t)) || (ltb places (length t) || ltb spaces (length ls))
 
-  copy-table : (tableRefusal n t ls ≡ 0 → ⊥) → copyRefusal n t ls chars places spaces ≡ tableRefusal n t ls
-  unfolding copyRefusal tableRefusal short
-  copy-table h = first-some (tableTests n t ls) ((14, short) ∷ []) h
+  copy-table : (freshRefusal n t ls ≡ 0 → ⊥) → copyRefusal n t ls chars places spaces ≡ freshRefusal n t ls
+  unfolding copyRefusal freshRefusal short
+  copy-table h = first-some (freshTests n t ls) ((14, short) ∷ []) h
 
-  copy-last : tableRefusal n t ls ≡ 0 → copyRefusal n t ls chars places spaces ≡ cond short 14 0
-  unfolding copyRefusal tableRefusal short
-  copy-last e = first-none (tableTests n t ls) ((14, short) ∷ []) (omega arith) e
+  copy-last : freshRefusal n t ls ≡ 0 → copyRefusal n t ls chars places spaces ≡ cond short 14 0
+  unfolding copyRefusal freshRefusal short
+  copy-last e = first-none (freshTests n t ls) ((14, short) ∷ []) (omega arith) e
 
 module _ (n : ℕ) (t : List ℕ) (ls : List ℤ) (chars : ℕ) where
   -- the writing was refused
@@ -67,9 +67,9 @@ module _ (n : ℕ) (t : List ℕ) (ls : List ℤ) (chars : ℕ) where
 
     same-refusal : (places spaces : ℕ) → copyRefusal n t ls chars places spaces ≡ writeRefusal n t ls chars
     unfolding short
-    same-refusal places spaces = go (ℕ-discrete (tableRefusal n t ls) 0)
+    same-refusal places spaces = go (ℕ-discrete (freshRefusal n t ls) 0)
       where
-        go : Dec (tableRefusal n t ls ≡ 0) → copyRefusal n t ls chars places spaces ≡ writeRefusal n t ls chars
+        go : Dec (freshRefusal n t ls ≡ 0) → copyRefusal n t ls chars places spaces ≡ writeRefusal n t ls chars
         go (yes z) = at (decLt chars (fileLength (linkCount t)))
           where
             at : Dec (chars < fileLength (linkCount t)) → copyRefusal n t ls chars places spaces ≡ writeRefusal n t ls chars
@@ -98,8 +98,12 @@ module _ (n : ℕ) (t : List ℕ) (ls : List ℤ) (chars : ℕ) where
         let s = written-says (eqb (writeRefusal n t ls chars) 0) (fileLength (linkCount t)) (writeRefusal n t ls chars) m e in
         (eqb-true (writeRefusal n t ls chars) 0 (s .0), s .1)
 
-    table-passes : tableRefusal n t ls ≡ 0
+    table-passes : freshRefusal n t ls ≡ 0
     table-passes = written-table n t ls chars (unrefused .0)
+
+    -- what reading the file finds
+    found : ReadBack n t ls
+    found = written-read n t ls (written-stored n t ls chars (unrefused .0))
 
     -- the first m bytes are the file
     pub written-front : (file : List ℕ) → chars ≡ length file → take m (writtenFile n t ls file) ≡ fileOf n t ls
@@ -115,21 +119,21 @@ module _ (n : ℕ) (t : List ℕ) (ls : List ℤ) (chars : ℕ) where
     unfolding short
     same-reading places spaces =
         let fits = le-ltb chars (fileLength (linkCount t)) (written-fits n t ls chars (unrefused .0)) in
-        written-read n t ls table-passes .refusal places spaces ∙ sym (copy-last n t ls chars places spaces table-passes ∙ rw fits)
+        found .refusal places spaces ∙ sym (copy-last n t ls chars places spaces table-passes ∙ rw fits)
 
     pub copy-read : (places spaces : ℕ) → readReply (fileOf n t ls) places spaces ≡ copyReply n t ls chars places spaces
     unfolding readReply copyReply
     copy-read places spaces =
-        let b = written-read n t ls table-passes in
+        let b = found in
         rw (same-reading places spaces, b .units, b .links)
 
     pub copy-words : (words : List ℕ) (spaces : ℕ) → readWords (fileOf n t ls) words spaces ≡ copiedWords n t ls chars words spaces
     unfolding readWords copiedWords
-    copy-words words spaces = rw (same-reading (length words) spaces, written-read n t ls table-passes .ends)
+    copy-words words spaces = rw (same-reading (length words) spaces, found .ends)
 
     pub copy-levels : (places : ℕ) (levels : List ℤ) → readLevels (fileOf n t ls) places levels ≡ copiedLevels n t ls chars places levels
     unfolding readLevels copiedLevels
-    copy-levels places levels = rw (same-reading places (length levels), written-read n t ls table-passes .levels)
+    copy-levels places levels = rw (same-reading places (length levels), found .levels)
 
 -- ---- a file read, then written
 

@@ -13,8 +13,9 @@ use lib.Seq.{length-take-le}
 use Rattle.lists.specs.Lent.{lent, back, back-next}
 use Rattle.table.specs.Refusals.{firstOf}
 use Rattle.table.specs.RefusalLaws.{first-some, first-none}
-use Rattle.table.specs.Table.{linkCount, maxLinks, endA, endB, tableTests, tableRefusal}
+use Rattle.table.specs.Table.{linkCount, maxLinks, endA, endB, freshTests, storedRefusal, freshRefusal}
 use Rattle.table.specs.Passes.{table-levelled}
+use Rattle.table.specs.FreshLaws.{fresh-accepted}
 use Rattle.table.specs.TableLaws.{endA-later, endB-later}
 use Rattle.frames.specs.Frame.{lineOf, lineOver}
 use Rattle.frames.specs.FrameLaws.{length-line}
@@ -27,18 +28,18 @@ use Rattle.files.specs.declared.Writing.the-variants.{Written}
 -- ---- the reply
 
 module _ (n : ℕ) (t : List ℕ) (ls : List ℤ) (places : ℕ) where
-  pub write-table : (tableRefusal n t ls ≡ 0 → ⊥) → tableRefusal n t ls ≡ writeRefusal n t ls places
-  unfolding writeRefusal tableRefusal
-  write-table h = sym (first-some (tableTests n t ls) ((14, ltb places (fileLength (linkCount t))) ∷ []) h)
+  pub write-table : (freshRefusal n t ls ≡ 0 → ⊥) → freshRefusal n t ls ≡ writeRefusal n t ls places
+  unfolding writeRefusal freshRefusal
+  write-table h = sym (first-some (freshTests n t ls) ((14, ltb places (fileLength (linkCount t))) ∷ []) h)
 
-  write-last : tableRefusal n t ls ≡ 0 → writeRefusal n t ls places ≡ firstOf ((14, ltb places (fileLength (linkCount t))) ∷ [])
-  unfolding writeRefusal tableRefusal
-  write-last e = first-none (tableTests n t ls) ((14, ltb places (fileLength (linkCount t))) ∷ []) (omega arith) e
+  write-last : freshRefusal n t ls ≡ 0 → writeRefusal n t ls places ≡ firstOf ((14, ltb places (fileLength (linkCount t))) ∷ [])
+  unfolding writeRefusal freshRefusal
+  write-last e = first-none (freshTests n t ls) ((14, ltb places (fileLength (linkCount t))) ∷ []) (omega arith) e
 
-  pub write-14 : tableRefusal n t ls ≡ 0 → places < fileLength (linkCount t) → 14 ≡ writeRefusal n t ls places
+  pub write-14 : freshRefusal n t ls ≡ 0 → places < fileLength (linkCount t) → 14 ≡ writeRefusal n t ls places
   write-14 e h = sym (write-last e ∙ rw (lt-ltb places (fileLength (linkCount t)) h))
 
-  pub write-0 : tableRefusal n t ls ≡ 0 → fileLength (linkCount t) ≤ places → 0 ≡ writeRefusal n t ls places
+  pub write-0 : freshRefusal n t ls ≡ 0 → fileLength (linkCount t) ≤ places → 0 ≡ writeRefusal n t ls places
   write-0 e h = sym (write-last e ∙ rw (le-ltb places (fileLength (linkCount t)) h))
 
 -- ---- the lines of the links
@@ -159,13 +160,16 @@ length-file n t ls one =
     (omega (arith, length-line (unitsBody n), length-linkLines t ls one, length-line (endBody (linkCount t))))
 
 module _ (n : ℕ) (t : List ℕ) (ls : List ℤ) (places : ℕ) (e : writeRefusal n t ls places ≡ 0) where
-  -- the table passes the checks, and the file fits
-  pub written-table : tableRefusal n t ls ≡ 0
-  written-table = go (ℕ-discrete (tableRefusal n t ls) 0)
+  -- the table passes the checks of a fresh one, and so those of a stored one, and the file fits
+  pub written-table : freshRefusal n t ls ≡ 0
+  written-table = go (ℕ-discrete (freshRefusal n t ls) 0)
     where
-      go : Dec (tableRefusal n t ls ≡ 0) → tableRefusal n t ls ≡ 0
+      go : Dec (freshRefusal n t ls ≡ 0) → freshRefusal n t ls ≡ 0
       go (yes z) = z
       go (no z) = write-table n t ls places z ∙ e
+
+  pub written-stored : storedRefusal n t ls ≡ 0
+  written-stored = fresh-accepted n t ls written-table
 
   pub written-fits : fileLength (linkCount t) ≤ places
   written-fits = go (decLt places (fileLength (linkCount t)))
@@ -175,7 +179,7 @@ module _ (n : ℕ) (t : List ℕ) (ls : List ℤ) (places : ℕ) (e : writeRefus
       go (no h) = omega arith
 
   pub written-one : length ls ≡ linkCount t
-  written-one = table-levelled n t ls written-table
+  written-one = table-levelled n t ls written-stored
 
   pub write-accepted : Written (18 + 15 * (length t / 2)) ≡ writeReply n t ls places
   unfolding writeReply

@@ -13,7 +13,7 @@ use Rattle.lists.specs.Folds.{every}
 use Rattle.lists.specs.Tests.{and-left, and-right}
 use Rattle.levels.specs.Level.{inRange, levelByte}
 use Rattle.levels.specs.LevelLaws.{byte-below, byte-back}
-use Rattle.table.specs.Table.{linkCount, maxLinks, tableRefusal}
+use Rattle.table.specs.Table.{linkCount, maxLinks, storedRefusal}
 use Rattle.table.specs.Passes.{Passes, passes, table-alone, table-levelled, table-range}
 use Rattle.frames.specs.Frame.{LF, wordBytes, hexesOf, checkByte, lineOf, bytesOf}
 use Rattle.frames.specs.FrameLaws.{Bytes, line-hexes, hexes-digits, bytes-hexes, length-hexes, check-below, check-sum}
@@ -265,7 +265,7 @@ pub record ReadBack (n : ℕ) (t : List ℕ) (ls : List ℤ) : Type 0 where
   pub levels : levelsIn (linesOf (fileOf n t ls)) ≡ ls
 
 -- every table that passes the checks is read back from its file
-pub written-read : (n : ℕ) (t : List ℕ) (ls : List ℤ) → tableRefusal n t ls ≡ 0 → ReadBack n t ls
+pub written-read : (n : ℕ) (t : List ℕ) (ls : List ℤ) → storedRefusal n t ls ≡ 0 → ReadBack n t ls
 unfolding laterRefusal
 written-read n t ls h =
     let p = passes n t (table-alone n t ls h) in

@@ -44,7 +44,7 @@ pub fn read(file: &[u8], words: &mut [u16], levels: &mut [i16]) -> Reading
     }
 }
 
-// The file of a unit count, a table and its levels: the table's refusals, 14. On a refusal no byte changes; bytes past the file stay.
+// The file of a unit count, a table and its levels: a fresh table's refusals, 14. On a refusal no byte changes; bytes past the file stay.
 pub fn write(units: u16, words: &[u16], levels: &[i16], out: &mut [u8]) -> Writing
     ensures reply { λ r. ⌜ r ≡ writeReply units (now (words .entry)) (now (levels .entry)) (length (now (out .entry))) ⌝ }
     ensures lent { λ _. ⌜ now (out .exit) ≡ writtenFile units (now (words .entry)) (now (levels .entry)) (now (out .entry)) ⌝ }

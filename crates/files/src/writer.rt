@@ -9,11 +9,11 @@ ghost use Rattle.files.specs.WriteLaws.{Levelled};
 use frames::kinds;
 use frames::line;
 
-// The number of the first cause, of the table's and 14; 0 where there is none.
+// The number of the first cause, of a fresh table's and 14; 0 where there is none.
 pub(crate) fn refusal(units: u16, words: &[u16], levels: &[i16], places: usize) -> u8
     ensures { λ r. ⌜ r ≡ writeRefusal units (now (words .entry)) (now (levels .entry)) places ⌝ }
 {
-    let refused = table::refusal(units, words, levels);
+    let refused = table::refusal(true, units, words, levels);
     if refused != 0 {
         return refused;
     }

@@ -2,26 +2,44 @@
 use mathlib.Core.Path.{_≡_, refl, sym}
 use mathlib.Core.Bool.{true, false, cond}
 use mathlib.Core.Logic.{_⊎_, inl, inr}
+use Prim.Native.Nat.{ℕ}
 use lib.Dec.{eqb}
 use borrow.Author.Tests.{eqb-true}
 use Rattle.lists.specs.Tests.{either}
+use Rattle.state.specs.declared.reply.Reply.the-variants.{Done}
 use Rattle.machine.specs.State.{State}
-use Rattle.machine.specs.Load.{Input, loadRefusal, loaded}
-use Rattle.machine.specs.Calls.{numberOf, loadAnswer}
+use Rattle.machine.specs.Load.{Input, loadRefusal, storedLoadRefusal, loaded}
+use Rattle.machine.specs.Calls.{numberOf, answered, loadAnswer, storedLoadAnswer}
+
+-- of any load
+module _ (k : ℕ) (s after : State) where
+  done-number : numberOf (answered k s after Done .reply) ≡ k
+  done-number = go (either (eqb k 0))
+    where
+      go : (eqb k 0 ≡ true) ⊎ (eqb k 0 ≡ false) → numberOf (answered k s after Done .reply) ≡ k
+      go (inl q) = rw q (sym (eqb-true k 0 q))
+      go (inr q) = rw q refl
+
+  done-state : answered k s after Done .state ≡ cond (eqb k 0) after s
+  done-state = go (either (eqb k 0))
+    where
+      go : (eqb k 0 ≡ true) ⊎ (eqb k 0 ≡ false) → answered k s after Done .state ≡ cond (eqb k 0) after s
+      go (inl q) = rw q refl
+      go (inr q) = rw q refl
 
 module _ (input : Input) (s : State) where
   pub load-number : numberOf (loadAnswer input s .reply) ≡ loadRefusal input
   unfolding loadAnswer
-  load-number = go (either (eqb (loadRefusal input) 0))
-    where
-      go : (eqb (loadRefusal input) 0 ≡ true) ⊎ (eqb (loadRefusal input) 0 ≡ false) → numberOf (loadAnswer input s .reply) ≡ loadRefusal input
-      go (inl q) = rw q (sym (eqb-true (loadRefusal input) 0 q))
-      go (inr q) = rw q refl
+  load-number = done-number (loadRefusal input) s (loaded input)
 
   pub load-state : loadAnswer input s .state ≡ cond (eqb (loadRefusal input) 0) (loaded input) s
   unfolding loadAnswer
-  load-state = go (either (eqb (loadRefusal input) 0))
-    where
-      go : (eqb (loadRefusal input) 0 ≡ true) ⊎ (eqb (loadRefusal input) 0 ≡ false) → loadAnswer input s .state ≡ cond (eqb (loadRefusal input) 0) (loaded input) s
-      go (inl q) = rw q refl
-      go (inr q) = rw q refl
+  load-state = done-state (loadRefusal input) s (loaded input)
+
+  pub stored-load-number : numberOf (storedLoadAnswer input s .reply) ≡ storedLoadRefusal input
+  unfolding storedLoadAnswer
+  stored-load-number = done-number (storedLoadRefusal input) s (loaded input)
+
+  pub stored-load-state : storedLoadAnswer input s .state ≡ cond (eqb (storedLoadRefusal input) 0) (loaded input) s
+  unfolding storedLoadAnswer
+  stored-load-state = done-state (storedLoadRefusal input) s (loaded input)

@@ -35,7 +35,7 @@ pub fn read(
     }
 }
 
-// The file of a unit count, a table and its levels at the front of `out`: 4 to 6, 15, 16, 7 to 9, 14. Bytes past it stay.
+// The file of a unit count, a table and its levels at the front of `out`: 4 to 6, 15, 16, 7 to 9, 22, 14. Bytes past it stay.
 pub fn write(units: u16, words: &[u16], levels: &[i16], out: &mut [u8]) -> u32
     ensures number { λ r. ⌜ r ≡ writeRefusal units (now (words .entry)) (now (levels .entry)) (length (now (out .entry))) ⌝ }
     ensures bytes { λ _. ⌜ now (out .exit) ≡ writtenFile units (now (words .entry)) (now (levels .entry)) (now (out .entry)) ⌝ }

@@ -5,13 +5,16 @@ use libc::STDOUT_FILENO;
 use streams::Cursor;
 use streams::Level;
 use streams::text;
+use survey::Answer;
 use survey::Reply;
 use survey::Survey;
 
 // What every lent byte holds before the call; no file has it.
 const MARK: u8 = 171;
 
-// The call that writes; the other one loads.
+// The calls that load a stored table and that write; any other loads a fresh table.
+const STORED: u32 = 3;
+
 const WRITE: u32 = 4;
 
 // The next words, as many as `count`; those that have no room are left out.
@@ -133,8 +136,15 @@ fn counted(survey: Survey) {
     }
 }
 
-fn loaded(units: u16, words: &[u16], levels: &[i16]) {
-    let answer = Survey::new().load(units, words, levels);
+fn opened(call: u32, units: u16, words: &[u16], levels: &[i16]) -> Answer {
+    if call == STORED {
+        return Survey::new().load_stored(units, words, levels);
+    }
+    Survey::new().load(units, words, levels)
+}
+
+fn loaded(call: u32, units: u16, words: &[u16], levels: &[i16]) {
+    let answer = opened(call, units, words, levels);
     let number = answer.number();
     if number == 0 {
         counted(answer.survey);
@@ -164,7 +174,7 @@ fn called(call: u32, units: u16, words: &[u16], levels: &[i16], places: usize) {
     if call == WRITE {
         lend(units, words, levels, places);
     } else {
-        loaded(units, words, levels);
+        loaded(call, units, words, levels);
     }
 }
 

@@ -11,8 +11,9 @@ use borrow.Author.Tests.{eqb-true, eqb-false, eq-eqb, ltb-true, lt-ltb}
 use Rattle.lists.specs.Tests.{either, not-exact, cond-true, cond-false}
 use Rattle.table.specs.Refusals.{firstOf}
 use Rattle.table.specs.RefusalLaws.{Reason, FirstCause, SomeCause, Numbered, tests, first-cause, some-cause}
-use Rattle.table.specs.Table.{tableRefusal}
-use Rattle.table.specs.TableCauses.{tableReasons, table-first-cause, table-some-cause}
+use Rattle.table.specs.Table.{storedRefusal}
+use Rattle.table.specs.TableCauses.{storedReasons}
+use Rattle.table.specs.FreshLaws.{freshReasons, freshRefusal-tests}
 use Rattle.files.specs.File.{linesOf, readRefusal, writeRefusal}
 use Rattle.files.specs.FileCauses.{readReasons, writeReasons, readRefusal-tests, writeRefusal-tests}
 use Rattle.rules.specs.BoundLaws.{eq-exact}
@@ -23,7 +24,7 @@ use Rattle.machine.specs.State.{units, links, finished, FINISHED}
 use Rattle.machine.specs.Kept.{Kept, kept-exact}
 use Rattle.machine.specs.WellFormed.{wellFormed}
 use Rattle.machine.specs.Report.{reportLength}
-use Rattle.machine.specs.Load.{Input, loadRefusal}
+use Rattle.machine.specs.Load.{Input, storedLoadRefusal, loadRefusal}
 use Rattle.machine.specs.Calls
 
 -- ---- the reasons
@@ -91,9 +92,17 @@ bound reasons p k e s after reply z =
 
 -- ---- the calls
 
-pub load-bound : (input : Input) (s : State) → Bound (tableReasons (input .units) (input .words) (input .levels)) s (Calls.loadAnswer input s)
-unfolding Calls.loadAnswer tableRefusal tableReasons
-load-bound input s = bound (tableReasons (input .units) (input .words) (input .levels)) (omega arith) (loadRefusal input) refl s _ _ refl
+pub load-bound : (input : Input) (s : State) → Bound (freshReasons (input .units) (input .words) (input .levels)) s (Calls.loadAnswer input s)
+unfolding Calls.loadAnswer freshReasons storedReasons
+load-bound input s =
+    let n = input .units in
+    let t = input .words in
+    let ls = input .levels in
+    bound (freshReasons n t ls) (omega arith) (loadRefusal input) (freshRefusal-tests n t ls) s _ _ refl
+
+pub stored-load-bound : (input : Input) (s : State) → Bound (storedReasons (input .units) (input .words) (input .levels)) s (Calls.storedLoadAnswer input s)
+unfolding Calls.storedLoadAnswer storedRefusal storedReasons
+stored-load-bound input s = bound (storedReasons (input .units) (input .words) (input .levels)) (omega arith) (storedLoadRefusal input) refl s _ _ refl
 
 abbrev pub roundReasons : State → List Reason
 roundReasons s = notKept s ∷ atEnd s ∷ []
@@ -137,7 +146,7 @@ read-bound input places spaces s =
 
 pub write-bound : (input : Input) (places : ℕ) (s : State)
     → Bound (writeReasons (input .units) (input .words) (input .levels) places) s (Calls.writeAnswer input places s)
-unfolding Calls.writeAnswer writeReasons tableReasons
+unfolding Calls.writeAnswer writeReasons freshReasons storedReasons
 write-bound input places s =
     let n = input .units in
     let t = input .words in

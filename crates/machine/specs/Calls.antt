@@ -10,7 +10,7 @@ use Rattle.machine.specs.State.{State}
 use Rattle.state.specs.declared.reply.Reply.{Reply}
 use Rattle.state.specs.declared.reply.Reply.the-variants.{Refused, Done, Made, Status, Unit, Link, Read, Written}
 use Rattle.machine.specs.State.{units, links, finished}
-use Rattle.machine.specs.Load.{Input, linksIn, loadRefusal, loaded}
+use Rattle.machine.specs.Load.{Input, linksIn, storedLoadRefusal, loadRefusal, loaded}
 use Rattle.machine.specs.WellFormed.{wellFormed}
 use Rattle.machine.specs.Step.{step, countdown}
 use Rattle.machine.specs.Run.{ran}
@@ -47,10 +47,13 @@ valuesOf (Link position label lone) = position ∷ label ∷ flag lone ∷ []
 valuesOf (Read units links) = units ∷ links ∷ []
 valuesOf (Written k) = k ∷ []
 
--- ---- load: 4 to 6, 15, 16, 7 to 9
+-- ---- load: 4 to 6, 15, 16, 7 to 9, 22; of a stored table (document 02, T-10) without 22
 
 unfoldable pub loadAnswer : Input → State → Answer
 loadAnswer input s = answered (loadRefusal input) s (loaded input) Done
+
+unfoldable pub storedLoadAnswer : Input → State → Answer
+storedLoadAnswer input s = answered (storedLoadRefusal input) s (loaded input) Done
 
 -- ---- round and run: 10, 11
 
@@ -109,7 +112,7 @@ unfoldable pub readAnswer : List ℕ → ℕ → ℕ → State → Answer
 readAnswer input places spaces s =
     answered (readRefusal (linesOf input) places spaces) s s (Read (unitsIn (linesOf input)) (linkFrames (linesOf input)))
 
--- writing a file from words and levels: 4 to 6, 15, 16, 7 to 9, 14
+-- writing a file from words and levels: 4 to 6, 15, 16, 7 to 9, 22, 14
 unfoldable pub writeAnswer : Input → ℕ → State → Answer
 writeAnswer input places s =
     answered (writeRefusal (input .units) (input .words) (input .levels) places) s s (Written (fileLength (linksIn input)))

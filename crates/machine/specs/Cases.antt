@@ -1,4 +1,4 @@
--- The proved cases A to K of document 01: rows of one table, held by one theorem. Every figure stands here once, and is compared with what the
+-- The proved cases A to K of document 01 and those of document 02's T-10: rows of one table, held by one theorem. Every figure stands here once, and is compared with what the
 -- definitions compute.
 use mathlib.Core.Path.{_≡_, refl, ap₂}
 use mathlib.Core.Bool.{Bool, true, false, cond, _&&_, false≢true}
@@ -10,7 +10,7 @@ use borrow.Author.Tests.{eqb-true}
 use Rattle.lists.specs.Tests.{and-left, and-right}
 use Rattle.lists.specs.Text.{characters}
 use Rattle.levels.specs.Level.{inRange}
-use Rattle.table.specs.Table.{tableRefusal, endMissing, equalEnds, joinedIn, repeatedLink}
+use Rattle.table.specs.Table.{storedRefusal, freshRefusal, endMissing, equalEnds, joinedIn, repeatedLink, isEnd, unlinkedBelow}
 use Rattle.numbers.specs.Lg.{lg, lgFrom}
 use Rattle.frames.specs.Frame.{lineOf, hexesOf, sumOf, checkByte}
 use Rattle.files.specs.Example.{caseB}
@@ -27,7 +27,7 @@ use Rattle.rules.specs.Aux.{linkJoinsRound, joinsParent, parentJoinsRound, leas
 use Rattle.rules.specs.Labels.{namingUnit, classRound, labelOf, labelRound, lone, single}
 use Rattle.machine.specs.State.{State}
 use Rattle.machine.specs.State.{units, links, finished}
-use Rattle.machine.specs.Load.{Input, bare, loadRefusal, loaded, begun, absents, zeros, silences}
+use Rattle.machine.specs.Load.{Input, bare, storedLoadRefusal, loadRefusal, loaded, begun, absents, zeros, silences}
 use Rattle.machine.specs.Step
 use Rattle.machine.specs.Run.{ran}
 use Rattle.machine.specs.Report.{unitSingle, linkLone, report, headLine, unitLine, linkLine, tailLine}
@@ -46,10 +46,12 @@ pub data Figure : Type 0 where
   Report : List ℕ → Figure
 
 pub data Case : Type 0 where
-  -- a site of n units with a table of links without levels, and its figures
+  -- a site of n units with a table of links without levels, opened as a stored table, and its figures
   site : ℕ → List ℕ → List Figure → Case
-  -- a table, and the number that its checks give (0: it passes)
-  checks : ℕ → List ℕ → ℕ → Case
+  -- a table, and the numbers that the load of a stored table and load give (0: it passes)
+  checks : ℕ → List ℕ → ℕ → ℕ → Case
+  -- a table that the load of a stored table accepts, and the countdown first shown
+  opens : ℕ → List ℕ → ℕ → Case
   -- a list of objects to rank, and its rounds and requests
   ranks : ℕ → ℕ → ℕ → Case
 
@@ -102,8 +104,9 @@ abbrev holds : Case → Bool
 holds (site n t figures) =
     let s = loaded (bare n t) in
     let r = surveyed s in
-    eqb (loadRefusal (bare n t)) 0 && finished (r .0) && showsAll s (r .0) (r .1) figures
-holds (checks n t k) = eqb (loadRefusal (bare n t)) k
+    eqb (storedLoadRefusal (bare n t)) 0 && finished (r .0) && showsAll s (r .0) (r .1) figures
+holds (checks n t stored fresh) = eqb (storedLoadRefusal (bare n t)) stored && eqb (loadRefusal (bare n t)) fresh
+holds (opens n t countdown) = eqb (storedLoadRefusal (bare n t)) 0 && eqb (Step.countdown (loaded (bare n t))) countdown
 holds (ranks k rounds requests) =
     let r = ranked k k (chain k) (replicate k 1) in
     eqb (r .0) rounds && eqb (r .1) requests
@@ -154,17 +157,24 @@ cases =
     ∷ site 5 (0 ∷ 3 ∷ 3 ∷ 1 ∷ 1 ∷ 2 ∷ 1 ∷ 4 ∷ []) (Places (0 ∷ 2 ∷ 4 ∷ 1 ∷ 3 ∷ []) ∷ [])
     -- H
     ∷ ranks 5 4 8
-    -- I
-    ∷ checks 257 [] 4
-    ∷ checks 256 [] 0
+    -- I: opened by the load of a stored table
+    ∷ checks 257 [] 4 4
+    ∷ checks 256 [] 0 22
+    ∷ opens 256 [] 804
     -- J
-    ∷ checks 2 (0 ∷ 1 ∷ 1 ∷ 0 ∷ []) 9
+    ∷ checks 2 (0 ∷ 1 ∷ 1 ∷ 0 ∷ []) 9 9
     -- K
-    ∷ checks 3 (3 ∷ 3 ∷ []) 7
+    ∷ checks 3 (3 ∷ 3 ∷ []) 7 7
+    -- T-10: a single unit passes; of two or more one without a link does not, unless it was stored; 22 comes last
+    ∷ checks 1 [] 0 0
+    ∷ checks 2 (0 ∷ 1 ∷ []) 0 0
+    ∷ checks 2 [] 0 22
+    ∷ checks 3 (2 ∷ 0 ∷ []) 0 22
+    ∷ checks 3 (0 ∷ 1 ∷ 1 ∷ 0 ∷ []) 9 9
     ∷ []
 
 pub cases-hold : holdAll cases ≡ true
-unfolding caseB inRange tableRefusal endMissing equalEnds joinedIn repeatedLink lg lgFrom lineOf hexesOf sumOf checkByte Ceilings.countdown leastHeard colorRound colorEnds loss bestKey chosenParent visits parentRound distRound treeEnds leastNeighbor greaterNeighbor neighborAfter follower isStart predecessor nextRound predRound firstSums firstJumps sumRound jumpRound requestsOf rankingEnds forwardRound descendants ndRound secondSums secondJumps placeOf preRound localOf unitAt localAt globalFirst rangeFirst littleFirst bigFirst withLittle withBig rangeLater littleLater bigLater globalLater rangeEnds linkJoinsRound joinsParent parentJoinsRound leastJoined auxRound auxEnds namingUnit classRound labelOf labelRound lone single loaded begun absents zeros silences Step.components Step.tree Step.tourNext Step.tourPred Step.tour Step.ranking Step.marksForward Step.marksDescendants Step.marks Step.places Step.rangeBegun Step.rangeDoubled Step.range Step.auxEdges Step.auxComponents Step.labelClasses Step.labelPositions Step.labels Step.ruleEnds Step.lastRound Step.roundTables Step.roundRequests Step.nextClock Step.step ran report headLine unitLine linkLine tailLine
+unfolding caseB inRange storedRefusal freshRefusal endMissing equalEnds joinedIn repeatedLink isEnd unlinkedBelow lg lgFrom lineOf hexesOf sumOf checkByte Ceilings.countdown leastHeard colorRound colorEnds loss bestKey chosenParent visits parentRound distRound treeEnds leastNeighbor greaterNeighbor neighborAfter follower isStart predecessor nextRound predRound firstSums firstJumps sumRound jumpRound requestsOf rankingEnds forwardRound descendants ndRound secondSums secondJumps placeOf preRound localOf unitAt localAt globalFirst rangeFirst littleFirst bigFirst withLittle withBig rangeLater littleLater bigLater globalLater rangeEnds linkJoinsRound joinsParent parentJoinsRound leastJoined auxRound auxEnds namingUnit classRound labelOf labelRound lone single loaded begun absents zeros silences Step.components Step.tree Step.tourNext Step.tourPred Step.tour Step.ranking Step.marksForward Step.marksDescendants Step.marks Step.places Step.rangeBegun Step.rangeDoubled Step.range Step.auxEdges Step.auxComponents Step.labelClasses Step.labelPositions Step.labels Step.ruleEnds Step.lastRound Step.roundTables Step.roundRequests Step.nextClock Step.step ran report headLine unitLine linkLine tailLine
 cases-hold = refl
 
 -- ---- a row out of the table
@@ -185,20 +195,20 @@ figure-shown s e k [] f back h = and-left (shows s e k f) (showsAll s e k back) 
 figure-shown s e k (g ∷ front) f back h = figure-shown s e k front f back (and-right (shows s e k g) (showsAll s e k (front ++ f ∷ back)) h)
 
 -- case B: its table passes, and what the definitions report of it, run with the first countdown as its budget
-parts-B : (loadRefusal siteB ≡ 0) × (report (ran (Step.countdown (loaded siteB)) 0 (loaded siteB) .0) ≡ reportB)
+parts-B : (storedLoadRefusal siteB ≡ 0) × (report (ran (Step.countdown (loaded siteB)) 0 (loaded siteB) .0) ≡ reportB)
 parts-B =
     let s = loaded siteB in
     let e = surveyed s .0 in
     let k = surveyed s .1 in
     let figures = Rounds 27 ∷ Countdown 30 ∷ Report reportB ∷ [] in
-    let passes = eqb (loadRefusal siteB) 0 in
+    let passes = eqb (storedLoadRefusal siteB) 0 in
     let row : holds rowB ≡ true = row-holds (take 1 cases) rowB (drop 2 cases) cases-hold in
     let all : showsAll s e k figures ≡ true = and-right (passes && finished e) (showsAll s e k figures) row in (
-      eqb-true (loadRefusal siteB) 0 (and-left passes (finished e) (and-left (passes && finished e) (showsAll s e k figures) row)),
+      eqb-true (storedLoadRefusal siteB) 0 (and-left passes (finished e) (and-left (passes && finished e) (showsAll s e k figures) row)),
       equal-exact (report e) reportB (figure-shown s e k (Rounds 27 ∷ Countdown 30 ∷ []) (Report reportB) [] all),
     )
 
-pub accepted-B : loadRefusal siteB ≡ 0
+pub accepted-B : storedLoadRefusal siteB ≡ 0
 accepted-B = parts-B .0
 
 pub report-B : report (ran (Step.countdown (loaded siteB)) 0 (loaded siteB) .0) ≡ reportB

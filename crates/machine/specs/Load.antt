@@ -4,7 +4,7 @@ use Prim.Native.Nat.{ℕ}
 use lib.ListN.{length, drop, replicate}
 use lib.IntN.{ℤ, pos}
 use Rattle.levels.specs.Level.{LOWEST}
-use Rattle.table.specs.Table.{linkCount, tableRefusal}
+use Rattle.table.specs.Table.{linkCount, storedRefusal, freshRefusal}
 use Rattle.rules.specs.Basics.{ABSENT}
 use Rattle.machine.specs.State.{State}
 use Rattle.state.specs.declared.groups.Table.{Table}
@@ -99,9 +99,13 @@ bare n t = record { units = n; words = t; levels = replicate (linkCount t) LOWES
 abbrev pub linksIn : Input → ℕ
 linksIn input = linkCount (input .words)
 
--- load's checks, 4 to 6, 15, 16, 7 to 9: the number of the first that fails, else 0
+-- why a load is refused: the number of the first check that fails, else 0. Of a stored table 4 to 6, 15, 16, 7 to 9,
+abbrev pub storedLoadRefusal : Input → ℕ
+storedLoadRefusal input = storedRefusal (input .units) (input .words) (input .levels)
+
+-- and of a fresh one last 22 (document 02, T-10)
 abbrev pub loadRefusal : Input → ℕ
-loadRefusal input = tableRefusal (input .units) (input .words) (input .levels)
+loadRefusal input = freshRefusal (input .units) (input .words) (input .levels)
 
 -- the table of links that a load makes
 abbrev pub tableOf : Input → Table

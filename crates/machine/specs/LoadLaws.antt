@@ -11,10 +11,11 @@ use lib.IntN.{ℤ}
 use lib.Seq.{length-take-le, take-suc, take-all}
 use Rattle.lists.specs.Puts.{put-one}
 use Rattle.lists.specs.Tests.{refuted}
-use Rattle.table.specs.Table.{tableRefusal}
+use Rattle.table.specs.Table.{storedRefusal}
 use Rattle.table.specs.Passes.{passes, table-alone, table-levelled}
+use Rattle.table.specs.FreshLaws.{fresh-accepted}
 use Rattle.machine.specs.State.{units, words}
-use Rattle.machine.specs.Load.{absents, silences, begun, unloaded}
+use Rattle.machine.specs.Load.{Input, loadRefusal, storedLoadRefusal, absents, silences, begun, unloaded}
 use Rattle.machine.specs.Kept.{kept-exact}
 use Rattle.machine.specs.WellFormed.{wellFormed}
 
@@ -34,10 +35,14 @@ module _ {A : Type 0} where
       go (no l) = let all : count ≡ size = omega (arith, e) in rw all refl
 
 -- a table that passes fits the array
-pub passed-fits : (n : ℕ) (t : List ℕ) (ls : List ℤ) → tableRefusal n t ls ≡ 0 → (length t ≤ 2048) × (length ls ≤ 1024)
+pub passed-fits : (n : ℕ) (t : List ℕ) (ls : List ℤ) → storedRefusal n t ls ≡ 0 → (length t ≤ 2048) × (length ls ≤ 1024)
 passed-fits n t ls e =
     let p = passes n t (table-alone n t ls e) in
     (omega (arith, p .pairs, p .fewLinks), omega (arith, table-levelled n t ls e, p .fewLinks))
+
+-- a table that load accepts is accepted by the load of a stored one
+pub load-accepted : (input : Input) → loadRefusal input ≡ 0 → storedLoadRefusal input ≡ 0
+load-accepted input e = fresh-accepted (input .units) (input .words) (input .levels) e
 
 pub length-absents : (k : ℕ) → length (absents k) ≡ k
 unfolding absents

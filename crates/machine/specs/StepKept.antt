@@ -11,7 +11,7 @@ use lib.ListN.{take}
 use borrow.Author.Tests.{eqb-true, eqb-false, ne-eqb, leb-false}
 use Rattle.lists.specs.All.{All}
 use Rattle.lists.specs.Tests.{either, or-false-right}
-use Rattle.table.specs.Table.{tableRefusal}
+use Rattle.table.specs.Table.{storedRefusal}
 use Rattle.table.specs.Passes.{Passes, passes}
 use Rattle.rules.specs.Basics.{ABSENT, MAX-NUMBER}
 use Rattle.rules.specs.BoundLaws.{Names, Number, Distance}

@@ -22,7 +22,7 @@ use Rattle.rules.specs.Ceilings.{ceilings, ceiling, total}
 use Rattle.rules.specs.CeilingLaws.{ceiling-positive, countdown-round, countdown-stage, countdown-positive, countdown-finished, total-small}
 use Rattle.machine.specs.State.{State}
 use Rattle.machine.specs.State.{units, links, words, finished, FINISHED}
-use Rattle.machine.specs.Load.{Input, loadRefusal, absents, zeros, silences, endsOf, begun, loaded}
+use Rattle.machine.specs.Load.{Input, storedLoadRefusal, absents, zeros, silences, endsOf, begun, loaded}
 use Rattle.machine.specs.WellFormed.{wellFormed}
 use Rattle.machine.specs.Kept.{Kept, MadeOk, kept-exact}
 use Rattle.machine.specs.Step
@@ -47,11 +47,11 @@ unfolding silences
 silent-levels = all-replicate InRange 1024 HIGHEST (range-exact HIGHEST .0 zero-range)
 
 -- the words of a loaded state are the table
-pub loaded-words : (input : Input) → loadRefusal input ≡ 0 → words (loaded input) ≡ (input .words)
+pub loaded-words : (input : Input) → storedLoadRefusal input ≡ 0 → words (loaded input) ≡ (input .words)
 unfolding loaded begun
 loaded-words input e = take-at (input .words) (drop (length (input .words)) (absents 2048)) (2 * linkCount (input .words)) (passes (input .units) (input .words) (table-alone (input .units) (input .words) (input .levels) e) .pairs)
 
-pub loaded-kept : (input : Input) → loadRefusal input ≡ 0 → Kept (loaded input)
+pub loaded-kept : (input : Input) → storedLoadRefusal input ≡ 0 → Kept (loaded input)
 unfolding loaded begun
 loaded-kept input e =
     record {
@@ -76,7 +76,7 @@ loaded-kept input e =
     site : Passes (input .units) (input .words)
     site = passes (input .units) (input .words) alone
 
-pub loaded-wellFormed : (input : Input) → loadRefusal input ≡ 0 → wellFormed (loaded input) ≡ true
+pub loaded-wellFormed : (input : Input) → storedLoadRefusal input ≡ 0 → wellFormed (loaded input) ≡ true
 loaded-wellFormed input e = kept-exact (loaded input) .1 (loaded-kept input e)
 
 -- ---- a step of a well-formed unfinished state is well formed
@@ -112,6 +112,6 @@ countdown-zero s w = (λ (z : Step.countdown s ≡ 0). ended z (either (finished
         absurd (omega (arith, countdown-positive (units s) (s .clock .stage) (s .clock .made) (k .from) (stage-small s k open′) (made-below s k open′)))
 
 -- the first countdown of an accepted table is at most 804
-pub first-countdown : (input : Input) → loadRefusal input ≡ 0 → Step.countdown (loaded input) ≤ 804
+pub first-countdown : (input : Input) → storedLoadRefusal input ≡ 0 → Step.countdown (loaded input) ≤ 804
 unfolding loaded begun Ceilings.countdown
 first-countdown input e = omega (arith, total-small (input .units) (passes (input .units) (input .words) (table-alone (input .units) (input .words) (input .levels) e) .fewUnits))

@@ -10,12 +10,13 @@ use Rattle.lists.specs.Tests.{not-both}
 use Rattle.state.specs.declared.reply.Reply.the-variants.{Done}
 use Rattle.machine.specs.State.{State, finished}
 use Rattle.machine.specs.Load.{Input, loadRefusal, loaded}
+use Rattle.machine.specs.LoadLaws.{load-accepted}
 use Rattle.machine.specs.WellFormed.{wellFormed}
 use Rattle.machine.specs.Step.{step}
 use Rattle.machine.specs.StepLaws.{loaded-wellFormed, step-wellFormed}
 use Rattle.machine.specs.Calls.{Answer, roundAnswer, roundRefusal, loadAnswer}
 use Rattle.claim.specs.Play.{Call, round, play, usedBy, used}
-use Rattle.claim.specs.Claim.{Claim}
+use Rattle.claim.specs.Claim.{Claim, fresh}
 use Rattle.claim.specs.ClaimProof.{claim}
 use Rattle.office.specs.Office
 use Rattle.office.specs.OfficeLaws.{Rounds, none, one, waiting-parts, rounds-made}
@@ -61,8 +62,8 @@ load-done input s e = rw e refl
 rounds-claim : (input : Input) (k : ℕ) (e : State) → loadRefusal input ≡ 0 → Rounds k (loaded input) e
     → Claim input (loaded input) (replicate k round) e k
 rounds-claim input k e a r =
-    let (p, q) = rounds-played k (loaded input) e (loaded-wellFormed input a) r in
-    let c = claim input (loaded input) (record { given = loaded input; answer = load-done input (loaded input) a }) (replicate k round) in
+    let (p, q) = rounds-played k (loaded input) e (loaded-wellFormed input (load-accepted input a)) r in
+    let c = claim input (loaded input) (fresh (loaded input) (load-done input (loaded input) a)) (replicate k round) in
     rw (p, q) at c
 
 -- ---- a seat that does not wait

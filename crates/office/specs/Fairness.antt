@@ -14,6 +14,7 @@ use Rattle.lists.specs.Some.{some-exact}
 use Rattle.lists.specs.Tests.{and-left, and-right, refuted, not-both}
 use Rattle.machine.specs.State.{State}
 use Rattle.machine.specs.Load.{Input, loaded}
+use Rattle.machine.specs.LoadLaws.{load-accepted}
 use Rattle.machine.specs.WellFormed.{wellFormed}
 use Rattle.machine.specs.Step.{step}
 use Rattle.machine.specs.StepLaws.{loaded-wellFormed, step-wellFormed}
@@ -70,7 +71,7 @@ load-order i input o I =
         → (Office.empty (Office.seat j (Office.loadSeat i input o)) ≡ true) ⊎ (wellFormed (Office.seat j (Office.loadSeat i input o)) ≡ true)
     go j h (yes q) (yes e) =
         let s : Office.seat j (Office.loadSeat i input o) ≡ loaded input = rw (sym q) (OfficeLaws.load-same i input o (I .eight) e) in
-        inr (rw s (loaded-wellFormed input (OfficeLaws.seat-accepted i input e .1)))
+        inr (rw s (loaded-wellFormed input (load-accepted input (OfficeLaws.seat-accepted i input e .1))))
     go j h (no q) d = rw (OfficeLaws.load-other i input o j (λ p _. q p)) (I .sound j h)
     go j h (yes q) (no e) = rw (OfficeLaws.load-other i input o j (λ _ p. e p)) (I .sound j h)
 

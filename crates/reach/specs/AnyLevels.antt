@@ -6,7 +6,7 @@ use Prim.Native.Nat.{ℕ, _<_}
 use lib.IntN.{ℤ}
 use Rattle.table.specs.Table.{linkCount}
 use Rattle.machine.specs.State.{State, FINISHED}
-use Rattle.machine.specs.Load.{Input, bare, loadRefusal, loaded}
+use Rattle.machine.specs.Load.{Input, bare, storedLoadRefusal, loaded}
 use Rattle.machine.specs.Step.{steps, countdown}
 use Rattle.machine.specs.Report.{unitSingle, linkLabel, linkLone}
 
@@ -28,11 +28,11 @@ pub record SameSurvey (n : ℕ) (words : List ℕ) (one two : List ℤ) : Type 0
 
 abbrev pub AnyLevels : Type 0
 AnyLevels =
-    (n : ℕ) (words : List ℕ) (one two : List ℤ) → loadRefusal (withLevels n words one) ≡ 0 → loadRefusal (withLevels n words two) ≡ 0
+    (n : ℕ) (words : List ℕ) (one two : List ℤ) → storedLoadRefusal (withLevels n words one) ≡ 0 → storedLoadRefusal (withLevels n words two) ≡ 0
     → SameSurvey n words one two
 
 -- the same table without levels, which is loaded with the lowest for each link: it is accepted where the table is, and the survey is the same
 abbrev pub WithoutLevels : Type 0
 WithoutLevels =
-    (n : ℕ) (words : List ℕ) (levels : List ℤ) → loadRefusal (withLevels n words levels) ≡ 0
-    → (loadRefusal (bare n words) ≡ 0) × SameSurvey n words levels (bare n words .levels)
+    (n : ℕ) (words : List ℕ) (levels : List ℤ) → storedLoadRefusal (withLevels n words levels) ≡ 0
+    → (storedLoadRefusal (bare n words) ≡ 0) × SameSurvey n words levels (bare n words .levels)

@@ -16,8 +16,9 @@ use Rattle.table.specs.Table.{linkCount, levelsDiffer, countRefusal, levelRefus
 use Rattle.table.specs.TableLaws.{levels-passed, table-counts, table-ends}
 use Rattle.table.specs.Passes.{table-levelled, table-range}
 use Rattle.machine.specs.State.{State}
-use Rattle.machine.specs.Load.{bare, loadRefusal, begun, loaded}
+use Rattle.machine.specs.Load.{bare, storedLoadRefusal, begun, loaded}
 use Rattle.machine.specs.Report.{linkLabel}
+use Rattle.reach.specs.Started.{loaded-started}
 use Rattle.reach.specs.Reach.{SurveyRight, end-right}
 use Rattle.reach.specs.AnyLevels.{withLevels, Alike, AnyLevels, WithoutLevels}
 
@@ -55,7 +56,7 @@ unfolding loaded begun
 any-levels n words one two a b =
     record {
       countdowns = refl;
-      ends = λ k l x y. both-alike n words one two _ _ (end-right (withLevels n words one) a k x) (end-right (withLevels n words two) b l y);
+      ends = λ k l x y. both-alike n words one two _ _ (end-right (loaded-started (withLevels n words one) a) k x) (end-right (loaded-started (withLevels n words two) b) l y);
     }
 
 -- ---- without levels
@@ -65,7 +66,7 @@ unfolding inRange
 lowest-range zero = refl
 lowest-range (suc k) = lowest-range k
 
-module _ (n : ℕ) (words : List ℕ) (levels : List ℤ) (e : loadRefusal (withLevels n words levels) ≡ 0) where
+module _ (n : ℕ) (words : List ℕ) (levels : List ℤ) (e : storedLoadRefusal (withLevels n words levels) ≡ 0) where
   counts : countRefusal n words ≡ 0
   counts = go (ℕ-discrete (countRefusal n words) 0)
     where
@@ -79,7 +80,7 @@ module _ (n : ℕ) (words : List ℕ) (levels : List ℤ) (e : loadRefusal (with
       let d : levelsDiffer words ls ≡ false = rw (eq-eqb (length ls) (linkCount words) h) refl in
       sym (levels-passed words ls d r)
 
-  bare-accepted : loadRefusal (bare n words) ≡ 0
+  bare-accepted : storedLoadRefusal (bare n words) ≡ 0
   bare-accepted =
       sym (table-ends n words (replicate (linkCount words) LOWEST) counts (pass (replicate (linkCount words) LOWEST) (length-replicate (linkCount words) LOWEST) (lowest-range (linkCount words))))
       ∙ table-ends n words levels counts (pass levels (table-levelled n words levels e) (table-range n words levels e))

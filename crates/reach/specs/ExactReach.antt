@@ -7,18 +7,18 @@ use Prim.Native.Nat.{ℕ, zero, suc, _+_, _≤_, _<_, min}
 use native.Mathlib.Decide.{decLt}
 use native.Mathlib.Omega.{arith}
 use borrow.Author.Tests.{eq-eqb, ne-eqb}
-use Rattle.table.specs.Table.{tableRefusal}
+use Rattle.table.specs.Table.{storedRefusal}
 use Rattle.machine.specs.State.{State}
 use Rattle.state.specs.declared.groups.Clock.{Clock}
 use Rattle.machine.specs.State.{finished, FINISHED, MAX-ROUNDS, MAX-REQUESTS}
-use Rattle.machine.specs.Load.{Input, loadRefusal, loaded}
+use Rattle.machine.specs.Load.{Input}
 use Rattle.machine.specs.Step
 use Rattle.machine.specs.StageLaws.{ticked, step-at, ends-at}
-use Rattle.machine.specs.StepLaws.{loaded-wellFormed, first-countdown}
 use Rattle.machine.specs.RunLaws.{steps-suc, step-finished, ended-exact, total, total-least, total-countdown}
 use Rattle.reach.specs.Invariant.{Base, In6, Reached, in1, in2, in3, in4, in5, in6, in7, in8, in9, in10, in11}
 use Rattle.reach.specs.RankingOf.{first-potential, second-potential}
 use Rattle.reach.specs.Ticks.{Goes}
+use Rattle.reach.specs.Started.{Started}
 use Rattle.reach.specs.Reach.{base-steps, reached-steps, goes-on, rounds-steps}
 use Rattle.reach.specs.Partial.{conds}
 use Rattle.reach.specs.ExactStep
@@ -103,36 +103,36 @@ round-exact s h x g l =
     rw (g .uncut) (clock-exact (Step.ruleEnds s) (Step.roundRequests s) (s .clock) l (g .unclamped)) in
     rw (ne-eqb (s .clock .stage) FINISHED h, x .ends, requests-exact s, x .exact, x .plain, clock) refl
 
--- ---- every round from a load
+-- ---- every round from a start
 
-module _ (input : Input) (accepted : loadRefusal input ≡ 0) where
+module _ {input : Input} {s₀ : State} (S : Started input s₀) where
   -- the exact round of every state before the end is defined, and is the round
-  step-exact : (k : ℕ) → k < total (loaded input) → stepExact (Step.steps k (loaded input)) ≡ some (Step.step (Step.steps k (loaded input)))
+  step-exact : (k : ℕ) → k < total s₀ → stepExact (Step.steps k s₀) ≡ some (Step.step (Step.steps k s₀))
   step-exact k l =
-      let goes : Goes (Step.steps k (loaded input)) = goes-on input accepted k l in
-      let going : Step.steps k (loaded input) .clock .stage ≡ FINISHED → ⊥ = total-least (loaded input) (loaded-wellFormed input accepted) .least k l in
-      round-exact (Step.steps k (loaded input)) going
-      (exact (Step.steps k (loaded input)) (base-steps input accepted k) (reached-steps input accepted k) (goes .uncut) going) goes
-      (omega (arith, rounds-steps input accepted k (omega arith), total-countdown (loaded input), first-countdown input accepted))
+      let goes : Goes (Step.steps k s₀) = goes-on S k l in
+      let going : Step.steps k s₀ .clock .stage ≡ FINISHED → ⊥ = total-least s₀ (S .kept) .least k l in
+      round-exact (Step.steps k s₀) going
+      (exact (Step.steps k s₀) (base-steps S k) (reached-steps S k) (goes .uncut) going) goes
+      (omega (arith, rounds-steps S k (omega arith), total-countdown s₀, S .shown))
 
   -- a finished survey stays as it is either way
-  step-exact-after : (k : ℕ) → total (loaded input) ≤ k → stepExact (Step.steps k (loaded input)) ≡ some (Step.step (Step.steps k (loaded input)))
+  step-exact-after : (k : ℕ) → total s₀ ≤ k → stepExact (Step.steps k s₀) ≡ some (Step.step (Step.steps k s₀))
   unfolding stepExact
   step-exact-after k l =
-      let over : finished (Step.steps k (loaded input)) ≡ true =
-      eq-eqb (Step.steps k (loaded input) .clock .stage) FINISHED (ended-exact (loaded input) (loaded-wellFormed input accepted) k .1 l) in
-      rw (step-finished (Step.steps k (loaded input)) over, over) refl
+      let over : finished (Step.steps k s₀) ≡ true =
+      eq-eqb (Step.steps k s₀ .clock .stage) FINISHED (ended-exact s₀ (S .kept) k .1 l) in
+      rw (step-finished (Step.steps k s₀) over, over) refl
 
   -- so the exact round of every state that a load reaches is the round,
-  pub every-step-exact : (k : ℕ) → stepExact (Step.steps k (loaded input)) ≡ some (Step.step (Step.steps k (loaded input)))
-  every-step-exact k = go (decLt k (total (loaded input)))
+  pub every-step-exact : (k : ℕ) → stepExact (Step.steps k s₀) ≡ some (Step.step (Step.steps k s₀))
+  every-step-exact k = go (decLt k (total s₀))
     where
-      go : Dec (k < total (loaded input)) → stepExact (Step.steps k (loaded input)) ≡ some (Step.step (Step.steps k (loaded input)))
+      go : Dec (k < total s₀) → stepExact (Step.steps k s₀) ≡ some (Step.step (Step.steps k s₀))
       go (yes l) = step-exact k l
       go (no l) = step-exact-after k (omega arith)
 
   -- and any number of exact rounds lead where the rounds do
-  pub steps-exact : (k : ℕ) → stepsExact k (loaded input) ≡ some (Step.steps k (loaded input))
+  pub steps-exact : (k : ℕ) → stepsExact k s₀ ≡ some (Step.steps k s₀)
   unfolding stepsExact Step.steps
   steps-exact zero = refl
-  steps-exact (suc k) = rw (steps-exact k, steps-suc k (loaded input)) (every-step-exact k)
+  steps-exact (suc k) = rw (steps-exact k, steps-suc k s₀) (every-step-exact k)

@@ -23,6 +23,7 @@ pub mod Rounds5and6
 pub mod Rounds7and8
 pub mod Rounds9and10
 pub mod Loaded
+pub mod Started
 pub mod Reach
 pub mod AnyLevels
 pub mod AnyLevelsProof

@@ -5,19 +5,19 @@ use mathlib.Core.List.{List, _++_}
 use Prim.Native.Nat.{ℕ, _+_, _*_, _≤_, _<_}
 use native.Mathlib.Omega.{arith}
 use lib.ListN.{length, drop, getD-replicate, List·getD-append}
-use Rattle.table.specs.Table.{linkCount, endA, endB, tableRefusal}
+use Rattle.table.specs.Table.{linkCount, endA, endB, storedRefusal}
 use Rattle.table.specs.Passes.{Passes, passes, table-alone}
 use Rattle.rules.specs.Basics.{ABSENT, at}
 use Rattle.graph.specs.Rings.{SameLink}
 use Rattle.machine.specs.State.{State}
 use Rattle.machine.specs.State.{units, links}
-use Rattle.machine.specs.Load.{Input, loadRefusal, absents, zeros, endsOf, begun, loaded}
+use Rattle.machine.specs.Load.{Input, storedLoadRefusal, absents, zeros, endsOf, begun, loaded}
 use Rattle.machine.specs.StepLaws.{loaded-kept}
 use Rattle.reach.specs.Site.{Site, Link}
 use Rattle.reach.specs.Sized.{loaded-sized}
 use Rattle.reach.specs.Invariant.{Base, Fresh, In1, Reached, in1}
 
-module _ (input : Input) (e : loadRefusal input ≡ 0) where
+module _ (input : Input) (e : storedLoadRefusal input ≡ 0) where
   p : Passes (input .units) (input .words)
   p = passes (input .units) (input .words) (table-alone (input .units) (input .words) (input .levels) e)
 

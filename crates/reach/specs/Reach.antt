@@ -1,4 +1,4 @@
--- Every state that a load reaches, and what the finished one says: the last theorem of this crate is `survey-right`.
+-- Every state that a load reaches, from what it starts with, and what the finished one says: the last theorem of this crate is `survey-right`.
 use mathlib.Core.Path.{_≡_, refl, sym, ap, _∙_}
 use mathlib.Core.Bool.{Bool, true, false, cond}
 use mathlib.Core.Logic.{_⊎_, inl, inr, _↔_}
@@ -8,7 +8,7 @@ use native.Mathlib.Decide.{decLt, ℕ-discrete}
 use native.Mathlib.Numerals.{add-one}
 use native.Mathlib.Omega.{arith}
 use borrow.Author.Tests.{eq-eqb, ne-eqb}
-use Rattle.table.specs.Table.{endA, endB, tableRefusal}
+use Rattle.table.specs.Table.{endA, endB, storedRefusal}
 use Rattle.rules.specs.Basics.{at}
 use Rattle.rules.specs.Labels.{lone, single}
 use Rattle.graph.specs.Rings.{Ring, Holds, OnRing, Articulation}
@@ -16,10 +16,9 @@ use Rattle.graph.specs.Same.{onRing-same, no-ring-same, articulation-same}
 use Rattle.machine.specs.State.{State}
 use Rattle.machine.specs.State.{units, links, finished, FINISHED, MAX-ROUNDS, MAX-REQUESTS}
 use Rattle.machine.specs.WellFormed.{wellFormed}
-use Rattle.machine.specs.Load.{Input, linksIn, loadRefusal, endsOf, begun, loaded}
+use Rattle.machine.specs.Load.{Input, linksIn, tableOf, endsOf}
 use Rattle.machine.specs.Step
 use Rattle.machine.specs.StageLaws.{step-table, step-going}
-use Rattle.machine.specs.StepLaws.{loaded-wellFormed, first-countdown}
 use Rattle.machine.specs.Report.{unitSingle, linkLabel, linkLone}
 use Rattle.machine.specs.RunLaws.{steps-suc, step-finished, Total, total, total-least, total-countdown, ended-exact, steps-wellFormed}
 use Rattle.reach.specs.Site.{Link}
@@ -33,7 +32,8 @@ use Rattle.reach.specs.Rounds3and4.{goes-3, goes-4}
 use Rattle.reach.specs.Rounds5and6.{goes-5, goes-6}
 use Rattle.reach.specs.Rounds7and8.{goes-7, goes-8}
 use Rattle.reach.specs.Rounds9and10.{goes-9, goes-10}
-use Rattle.reach.specs.Loaded.{end-a, end-b, same-links, base-loaded, reached-loaded}
+use Rattle.reach.specs.Loaded.{end-a, end-b, same-links}
+use Rattle.reach.specs.Started.{Started}
 
 -- ---- a step of a reached state
 
@@ -57,48 +57,45 @@ reached-step : (s : State) → Base s → Reached s → Dec (s .clock .stage ≡
 reached-step s b r (yes e) = rw (step-finished s (eq-eqb (s .clock .stage) FINISHED e)) r
 reached-step s b r (no h) = goes s b r h .after
 
--- ---- every state from a load
+-- ---- every state from a start
 
-module _ (input : Input) (accepted : loadRefusal input ≡ 0) where
-  pub base-steps : (k : ℕ) → Base (Step.steps k (loaded input))
+module _ {input : Input} {s₀ : State} (S : Started input s₀) where
+  pub base-steps : (k : ℕ) → Base (Step.steps k s₀)
   unfolding Step.steps
-  base-steps zero = base-loaded input accepted
-  base-steps (suc k) = rw (steps-suc k (loaded input)) (base-step (Step.steps k (loaded input)) (base-steps k))
+  base-steps zero = S .base
+  base-steps (suc k) = rw (steps-suc k s₀) (base-step (Step.steps k s₀) (base-steps k))
 
-  pub reached-steps : (k : ℕ) → Reached (Step.steps k (loaded input))
+  pub reached-steps : (k : ℕ) → Reached (Step.steps k s₀)
   unfolding Step.steps
-  reached-steps zero = reached-loaded input accepted
+  reached-steps zero = S .reached
   reached-steps (suc k) =
-      rw (steps-suc k (loaded input))
-      (reached-step (Step.steps k (loaded input)) (base-steps k) (reached-steps k) (ℕ-discrete (Step.steps k (loaded input) .clock .stage) FINISHED))
+      rw (steps-suc k s₀)
+      (reached-step (Step.steps k s₀) (base-steps k) (reached-steps k) (ℕ-discrete (Step.steps k s₀ .clock .stage) FINISHED))
 
-  pub table-steps : (k : ℕ) → Step.steps k (loaded input) .table ≡ loaded input .table
+  pub table-steps : (k : ℕ) → Step.steps k s₀ .table ≡ tableOf input
   unfolding Step.steps
-  table-steps zero = refl
-  table-steps (suc k) = rw (steps-suc k (loaded input)) (step-table (Step.steps k (loaded input)) ∙ table-steps k)
-
-  well-formed : wellFormed (loaded input) ≡ true
-  well-formed = loaded-wellFormed input accepted
+  table-steps zero = S .table
+  table-steps (suc k) = rw (steps-suc k s₀) (step-table (Step.steps k s₀) ∙ table-steps k)
 
   -- before the end each round is not cut short, and no number leaves its bound
-  pub goes-on : (k : ℕ) → k < total (loaded input) → Goes (Step.steps k (loaded input))
+  pub goes-on : (k : ℕ) → k < total s₀ → Goes (Step.steps k s₀)
   goes-on k l =
-      goes (Step.steps k (loaded input)) (base-steps k) (reached-steps k) (total-least (loaded input) well-formed .least k l)
+      goes (Step.steps k s₀) (base-steps k) (reached-steps k) (total-least s₀ (S .kept) .least k l)
 
   -- all rounds are the steps made, and within their limit
-  pub rounds-steps : (k : ℕ) → k ≤ total (loaded input) → Step.steps k (loaded input) .clock .rounds ≡ k
-  unfolding Step.steps Step.nextClock loaded begun
-  rounds-steps zero l = refl
+  pub rounds-steps : (k : ℕ) → k ≤ total s₀ → Step.steps k s₀ .clock .rounds ≡ k
+  unfolding Step.steps Step.nextClock
+  rounds-steps zero l = S .unmade
   rounds-steps (suc k) l =
-      rw (steps-suc k (loaded input), step-going (Step.steps k (loaded input)) (total-least (loaded input) well-formed .least k l))
-      (omega (arith, rounds-steps k (omega arith), total-countdown (loaded input), first-countdown input accepted))
+      rw (steps-suc k s₀, step-going (Step.steps k s₀) (total-least s₀ (S .kept) .least k l))
+      (omega (arith, rounds-steps k (omega arith), total-countdown s₀, S .shown))
 
   -- requests are added up and never clamped
-  pub requests-steps : (k : ℕ) → k < total (loaded input)
-      → Step.steps (suc k) (loaded input) .clock .requests ≡ Step.steps k (loaded input) .clock .requests + Step.roundRequests (Step.steps k (loaded input))
+  pub requests-steps : (k : ℕ) → k < total s₀
+      → Step.steps (suc k) s₀ .clock .requests ≡ Step.steps k s₀ .clock .requests + Step.roundRequests (Step.steps k s₀)
   unfolding Step.nextClock
   requests-steps k l =
-      rw (steps-suc k (loaded input), step-going (Step.steps k (loaded input)) (total-least (loaded input) well-formed .least k l))
+      rw (steps-suc k s₀, step-going (Step.steps k s₀) (total-least s₀ (S .kept) .least k l))
       (omega (arith, goes-on k l .unclamped))
 
 -- ---- what the finished survey says
@@ -118,11 +115,10 @@ pub record SurveyRight (input : Input) (e : State) : Type 0 where
   -- a unit is a single point exactly when two other units that are linked up with each other have no route that avoids it
   pub singles : (u : ℕ) → u < input .units → (unitSingle e u ≡ true) ↔ Articulation (Link (linksIn input) (input .words)) u
 
-module _ (input : Input) (accepted : loadRefusal input ≡ 0) where
+module _ {input : Input} {s₀ : State} (S : Started input s₀) where
   -- over the state's own array
-  finished-right : (s : State) → s .table ≡ loaded input .table → Reached s → s .clock .stage ≡ FINISHED
+  finished-right : (s : State) → s .table ≡ tableOf input → Reached s → s .clock .stage ≡ FINISHED
       → LabelsRight.Right (input .units) (linksIn input) (endsOf (input .words)) (s .labels .label)
-  unfolding loaded begun
   finished-right s e (in1 i) f = absurd (omega (arith, i .stage))
   finished-right s e (in2 i) f = absurd (omega (arith, i .stage))
   finished-right s e (in3 i) f = absurd (omega (arith, i .stage))
@@ -136,45 +132,43 @@ module _ (input : Input) (accepted : loadRefusal input ≡ 0) where
   finished-right s e (in11 i) f = rw e at (i .right)
 
   -- in the words of the table
-  right-words : (s : State) → s .table ≡ loaded input .table → LabelsRight.Right (input .units) (linksIn input) (endsOf (input .words)) (s .labels .label) → SurveyRight input s
-  unfolding loaded begun
+  right-words : (s : State) → s .table ≡ tableOf input → LabelsRight.Right (input .units) (linksIn input) (endsOf (input .words)) (s .labels .label) → SurveyRight input s
   right-words s e r =
       record {
         labels =
             λ j k lj lk d.
             let w = r .together j k lj lk d in
-            let o = onRing-same (Link (linksIn input) (endsOf (input .words))) (Link (linksIn input) (input .words)) (same-links input accepted) (endA (input .words) j) (endB (input .words) j) (endA (input .words) k) (endB (input .words) k) in
+            let o = onRing-same (Link (linksIn input) (endsOf (input .words))) (Link (linksIn input) (input .words)) (same-links input (S .accepted)) (endA (input .words) j) (endB (input .words) j) (endA (input .words) k) (endB (input .words) k) in
             let q : (at (s .labels .label) j ≡ at (s .labels .label) k) ↔ OnRing (Link (linksIn input) (endsOf (input .words))) (endA (input .words) j) (endB (input .words) j) (endA (input .words) k) (endB (input .words) k) =
-            rw (end-a input accepted j lj, end-b input accepted j lj, end-a input accepted k lk, end-b input accepted k lk) at w in
+            rw (end-a input (S .accepted) j lj, end-b input (S .accepted) j lj, end-a input (S .accepted) k lk, end-b input (S .accepted) k lk) at w in
             (λ x. o .0 (q .0 x), λ x. q .1 (o .1 x));
         firsts = r .firsts;
         lones =
             λ j l.
-            let o = no-ring-same (Link (linksIn input) (endsOf (input .words))) (Link (linksIn input) (input .words)) (same-links input accepted) (endA (input .words) j) (endB (input .words) j) in
+            let o = no-ring-same (Link (linksIn input) (endsOf (input .words))) (Link (linksIn input) (input .words)) (same-links input (S .accepted)) (endA (input .words) j) (endB (input .words) j) in
             let q : (lone (linksIn input) (s .labels .label) j ≡ true) ↔ ((c : List ℕ) → Ring (Link (linksIn input) (endsOf (input .words))) c → Holds c (endA (input .words) j) (endB (input .words) j) → ⊥) =
-            rw (end-a input accepted j l, end-b input accepted j l) at (r .bridges j l) in
+            rw (end-a input (S .accepted) j l, end-b input (S .accepted) j l) at (r .bridges j l) in
             rw e (λ x. o .0 (q .0 x), λ x. q .1 (o .1 x));
         singles =
             λ u l.
-            let o = articulation-same (Link (linksIn input) (endsOf (input .words))) (Link (linksIn input) (input .words)) (same-links input accepted) u in
+            let o = articulation-same (Link (linksIn input) (endsOf (input .words))) (Link (linksIn input) (input .words)) (same-links input (S .accepted)) u in
             rw e (λ x. o .0 (r .cuts u l .0 x), λ x. r .cuts u l .1 (o .1 x));
       }
 
   -- whenever it is finished
-  pub end-right : (k : ℕ) → Step.steps k (loaded input) .clock .stage ≡ FINISHED → SurveyRight input (Step.steps k (loaded input))
+  pub end-right : (k : ℕ) → Step.steps k s₀ .clock .stage ≡ FINISHED → SurveyRight input (Step.steps k s₀)
   end-right k f =
-      right-words (Step.steps k (loaded input)) (table-steps input accepted k)
-      (finished-right (Step.steps k (loaded input)) (table-steps input accepted k) (reached-steps input accepted k) f)
+      right-words (Step.steps k s₀) (table-steps S k) (finished-right (Step.steps k s₀) (table-steps S k) (reached-steps S k) f)
 
-  -- For every accepted table: the survey comes to the end after `total` rounds and no fewer, at most the first countdown; all rounds and requests stay
+  -- From every start: the survey comes to the end after `total` rounds and no fewer, at most the first countdown; all rounds and requests stay
   -- within their limits; and the finished survey is right.
-  pub survey-right : Total (loaded input) (total (loaded input))
-      × (total (loaded input) ≤ Step.countdown (loaded input))
-      × (Step.countdown (loaded input) ≤ MAX-ROUNDS)
-      × SurveyRight input (Step.steps (total (loaded input)) (loaded input))
+  pub survey-right : Total s₀ (total s₀)
+      × (total s₀ ≤ Step.countdown s₀)
+      × (Step.countdown s₀ ≤ MAX-ROUNDS)
+      × SurveyRight input (Step.steps (total s₀) s₀)
   survey-right = (
-    total-least (loaded input) (loaded-wellFormed input accepted),
-    total-countdown (loaded input),
-    first-countdown input accepted,
-    end-right (total (loaded input)) (total-least (loaded input) (loaded-wellFormed input accepted) .ends),
+    total-least s₀ (S .kept),
+    total-countdown s₀,
+    S .shown,
+    end-right (total s₀) (total-least s₀ (S .kept) .ends),
   )

@@ -15,7 +15,7 @@ use Rattle.rules.specs.Aux.{linkJoinsRound, parentJoinsRound, auxRound}
 use Rattle.rules.specs.Labels.{classRound, labelRound}
 use Rattle.machine.specs.State.{State}
 use Rattle.machine.specs.State.{finished}
-use Rattle.machine.specs.Load.{Input, loadRefusal, absents, zeros, begun, loaded}
+use Rattle.machine.specs.Load.{Input, storedLoadRefusal, absents, zeros, begun, loaded}
 use Rattle.machine.specs.Step
 use Rattle.machine.specs.StageLaws.{each-round}
 

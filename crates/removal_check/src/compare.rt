@@ -171,7 +171,7 @@ fn begun(units: u16, words: &[u16]) -> Survey {
     if levels.len() < links {
         return Survey::new();
     }
-    let loaded = Survey::new().load(units, words, &levels[..links]);
+    let loaded = Survey::new().load_stored(units, words, &levels[..links]);
     loaded.survey
 }
 

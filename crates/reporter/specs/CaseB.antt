@@ -5,7 +5,7 @@ use native.Mathlib.Omega.{arith}
 use lib.ListN.{length}
 use borrow.Author.Tests.{eq-eqb}
 use Rattle.files.specs.Example.{caseB, levelsB, fileB, read-B}
-use Rattle.machine.specs.Load.{loadRefusal, loaded}
+use Rattle.machine.specs.Load.{storedLoadRefusal, loaded}
 use Rattle.machine.specs.Step.{countdown}
 use Rattle.machine.specs.Run.{ran}
 use Rattle.machine.specs.RunLaws.{total, ran-made}
@@ -22,7 +22,7 @@ survey-B = surveyed-end siteB accepted-B ∙ sym (ran-made (countdown (loaded si
 
 table-B : printedTable siteB ≡ reportB
 unfolding printedTable
-table-B = rw (eq-eqb (loadRefusal siteB) 0 accepted-B) (ap report survey-B ∙ report-B)
+table-B = rw (eq-eqb (storedLoadRefusal siteB) 0 accepted-B) (ap report survey-B ∙ report-B)
 
 -- the paper's file is read as that site
 file-B : printedFile fileB ≡ printedTable siteB

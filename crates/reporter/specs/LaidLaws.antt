@@ -13,7 +13,7 @@ use borrow.Author.Tests.{eq-eqb, ne-eqb, lt-ltb, le-ltb, le-leb, lt-leb, eqb-tru
 use Rattle.lists.specs.All.{cond-keeps}
 use Rattle.lists.specs.Tests.{either}
 use Rattle.table.specs.Refusals.{written}
-use Rattle.table.specs.Table.{badUnitCount, oddWords, tooManyLinks, levelsDiffer, levelOutside, endMissing, equalEnds, repeatedLink, tableRefusal}
+use Rattle.table.specs.Table.{badUnitCount, oddWords, tooManyLinks, levelsDiffer, levelOutside, endMissing, equalEnds, repeatedLink, storedRefusal}
 use Rattle.frames.specs.Frame.{lineOver}
 use Rattle.frames.specs.Bodies.{refusalBody}
 use Rattle.frames.specs.FrameLaws.{length-line}
@@ -25,11 +25,11 @@ use Rattle.state.specs.declared.groups.Table.{Table}
 use Rattle.state.specs.declared.reply.Reply.the-variants.{Written}
 use Rattle.machine.specs.State.{State, units, links, finished, FINISHED}
 use Rattle.machine.specs.WellFormed.{wellFormed}
-use Rattle.machine.specs.Load.{Input, linksIn, loadRefusal, begun, loaded}
+use Rattle.machine.specs.Load.{Input, linksIn, storedLoadRefusal, begun, loaded}
 use Rattle.machine.specs.StepLaws.{loaded-wellFormed}
 use Rattle.machine.specs.Report.{report, reportLength}
 use Rattle.machine.specs.ReportLaws.{length-report}
-use Rattle.machine.specs.Calls.{numberOf, answered, loadAnswer, roundRefusal, runAnswer, reportRefusal, reportAnswer, reported}
+use Rattle.machine.specs.Calls.{numberOf, answered, storedLoadAnswer, roundRefusal, runAnswer, reportRefusal, reportAnswer, reported}
 use Rattle.reporter.specs.Printed.{MAX-INPUT, WORDS, LEVELS, countOf, refusalLine, surveyed, printedTable, printedRead, printedFile, printed, laidOver, laidCount}
 use Rattle.reporter.specs.PrintedLaws.{surveyed-table, surveyed-finished, surveyed-wellFormed}
 
@@ -70,8 +70,8 @@ refusal-long k places l = rw (length-refusal k, le-ltb places 7 l) refl
 
 module _ (input : Input) where
   -- a number of a refusal, or 0, is a byte
-  pub number-byte : loadRefusal input < 256
-  unfolding tableRefusal
+  pub number-byte : storedLoadRefusal input < 256
+  unfolding storedRefusal
   number-byte =
       let n = input .units in
       let t = input .words in
@@ -89,18 +89,18 @@ module _ (input : Input) where
       first b k later = cond-keeps (λ (x : ℕ). x < 256) b k later
 
   -- refused
-  pub table-refused : (loadRefusal input ≡ 0 → ⊥) → printedTable input ≡ refusalLine (loadRefusal input)
+  pub table-refused : (storedLoadRefusal input ≡ 0 → ⊥) → printedTable input ≡ refusalLine (storedLoadRefusal input)
   unfolding printedTable
-  table-refused h = rw (ne-eqb (loadRefusal input) 0 h) refl
+  table-refused h = rw (ne-eqb (storedLoadRefusal input) 0 h) refl
 
-  module _ (accepted : loadRefusal input ≡ 0) where
+  module _ (accepted : storedLoadRefusal input ≡ 0) where
     unfinished : finished (loaded input) ≡ false
     unfolding loaded begun
     unfinished = refl
 
-    -- a load on any state and a run with the greatest budget leave the survey
-    pub survey-left : (s begun ended : State) → begun ≡ loadAnswer input s .state → ended ≡ runAnswer 65535 begun .state → ended ≡ surveyed input
-    unfolding loadAnswer runAnswer roundRefusal
+    -- a load of a stored table on any state and a run with the greatest budget leave the survey
+    pub survey-left : (s begun ended : State) → begun ≡ storedLoadAnswer input s .state → ended ≡ runAnswer 65535 begun .state → ended ≡ surveyed input
+    unfolding storedLoadAnswer runAnswer roundRefusal
     survey-left s begun ended l r = rw (r, l, accepted) (rw (loaded-wellFormed input accepted, unfinished) refl)
 
     well : wellFormed (surveyed input) ≡ true
@@ -112,7 +112,7 @@ module _ (input : Input) where
     -- the whole is the report of the survey
     table-printed : printedTable input ≡ report (surveyed input)
     unfolding printedTable
-    table-printed = rw (eq-eqb (loadRefusal input) 0 accepted) refl
+    table-printed = rw (eq-eqb (storedLoadRefusal input) 0 accepted) refl
 
     -- its length, by the table alone
     printed-length : length (printedTable input) ≡ reportLength (input .units) (linksIn input)

@@ -1,4 +1,5 @@
--- What the program prints for its input: the report of the finished survey, or only the 1E line of the refusal. Reading comes before loading.
+-- What the program prints for its input: the report of the finished survey, or only the 1E line of the refusal. Reading comes before loading, and a file is
+-- loaded as a stored table (document 02, T-10).
 use mathlib.Core.Bool.{Bool, cond}
 use mathlib.Core.List.{List, _++_}
 use Prim.Native.Nat.{ℕ}
@@ -10,7 +11,7 @@ use Rattle.files.specs.File.{linesOf, readRefusal, unitsIn, endsIn, levelsIn}
 use Rattle.state.specs.declared.reply.Reply.{Reply}
 use Rattle.state.specs.declared.reply.Reply.the-variants.{Refused, Done, Made, Status, Unit, Link, Read, Written}
 use Rattle.machine.specs.State.{State}
-use Rattle.machine.specs.Load.{Input, loadRefusal, loaded}
+use Rattle.machine.specs.Load.{Input, storedLoadRefusal, loaded}
 use Rattle.machine.specs.Run.{ran}
 use Rattle.machine.specs.Report.{report}
 
@@ -37,7 +38,7 @@ surveyed input = ran 65535 0 (loaded input) .0
 unfoldable pub printedTable : Input → List ℕ
 printedTable input =
     let whole = report (surveyed input) in
-    cond (eqb (loadRefusal input) 0) whole (refusalLine (loadRefusal input))
+    cond (eqb (storedLoadRefusal input) 0) whole (refusalLine (storedLoadRefusal input))
 
 -- what a file's lines say: the unit count in its first, the ends and levels in its 02 and 03 frames
 abbrev pub tableIn : List ℕ → Input

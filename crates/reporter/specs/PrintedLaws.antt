@@ -11,17 +11,21 @@ use Rattle.lists.specs.Tests.{not-both}
 use Rattle.machine.specs.State.{State}
 use Rattle.machine.specs.State.{finished, FINISHED}
 use Rattle.machine.specs.WellFormed.{wellFormed}
-use Rattle.machine.specs.Load.{Input, loadRefusal, loaded}
+use Rattle.machine.specs.Load.{Input, storedLoadRefusal, tableOf, loaded}
 use Rattle.machine.specs.Step.{steps}
 use Rattle.machine.specs.StepLaws.{loaded-wellFormed, first-countdown}
 use Rattle.machine.specs.Run.{ran}
 use Rattle.machine.specs.RunLaws.{Made, ran-made, total, total-least, total-countdown, ended-exact, steps-wellFormed}
+use Rattle.reach.specs.Started.{Started, loaded-started}
 use Rattle.reach.specs.Reach.{SurveyRight, survey-right, table-steps}
 use Rattle.reporter.specs.Printed.{surveyed}
 
-module _ (input : Input) (accepted : loadRefusal input ≡ 0) where
+module _ (input : Input) (accepted : storedLoadRefusal input ≡ 0) where
   w : wellFormed (loaded input) ≡ true
   w = loaded-wellFormed input accepted
+
+  S : Started input (loaded input)
+  S = loaded-started input accepted
 
   made : Made 65535 (loaded input) (ran 65535 0 (loaded input) .0) (ran 65535 0 (loaded input) .1)
   made = ran-made 65535 (loaded input)
@@ -46,8 +50,8 @@ module _ (input : Input) (accepted : loadRefusal input ≡ 0) where
   pub surveyed-end : surveyed input ≡ steps (total (loaded input)) (loaded input)
   surveyed-end = made .state ∙ ap (λ (k : ℕ). steps k (loaded input)) all-made
 
-  pub surveyed-table : surveyed input .table ≡ loaded input .table
-  surveyed-table = rw surveyed-end (table-steps input accepted (total (loaded input)))
+  pub surveyed-table : surveyed input .table ≡ tableOf input
+  surveyed-table = rw surveyed-end (table-steps S (total (loaded input)))
 
   pub surveyed-finished : surveyed input .clock .stage ≡ FINISHED
   surveyed-finished = rw surveyed-end (total-least (loaded input) w .ends)
@@ -56,4 +60,4 @@ module _ (input : Input) (accepted : loadRefusal input ≡ 0) where
   surveyed-wellFormed = rw surveyed-end (steps-wellFormed (total (loaded input)) (loaded input) w)
 
   pub surveyed-right : SurveyRight input (surveyed input)
-  surveyed-right = rw surveyed-end (survey-right input accepted .3)
+  surveyed-right = rw surveyed-end (survey-right S .3)

@@ -9,7 +9,7 @@ use lib.ListN.{length, take, drop}
 use Rattle.lists.specs.Folds.{count}
 use Rattle.lists.specs.Members.{Mem}
 use Rattle.table.specs.RefusalLaws.{Reason, FirstCause}
-use Rattle.table.specs.TableCauses.{tableReasons}
+use Rattle.table.specs.TableCauses.{storedReasons}
 use Rattle.frames.specs.Frame.{lineOf}
 use Rattle.frames.specs.Bodies.{headBody, unitBody, labelBody, tailBody}
 use Rattle.files.specs.File.{linesOf, fileOf}
@@ -17,7 +17,7 @@ use Rattle.files.specs.RoundTrip.{fileBack}
 use Rattle.files.specs.RewrittenLaws.{bareIn}
 use Rattle.files.specs.FileCauses.{readReasons, below-exact}
 use Rattle.machine.specs.State.{State}
-use Rattle.machine.specs.Load.{Input, linksIn, loadRefusal, loaded}
+use Rattle.machine.specs.Load.{Input, linksIn, storedLoadRefusal, loaded}
 use Rattle.machine.specs.Step.{steps, countdown}
 use Rattle.machine.specs.RunLaws.{Total}
 use Rattle.machine.specs.Report.{unitColor, unitParent, unitPlace, unitSingle, linkLabel, linkLone, flag, reportLength}
@@ -31,12 +31,14 @@ abbrev pub inputTooLong : List ℕ → Reason
 inputTooLong input =
     record { number = 1; test = ltb MAX-INPUT (length input); cause = MAX-INPUT < length input; exact = below-exact MAX-INPUT (length input) }
 
--- the causes in the program's order: its input, then those of reading its lines into 2,048 words and 1,024 levels, then those of loading what they say
+-- the causes in the program's order: its input, then those of reading its lines into 2,048 words and 1,024 levels, then those of loading what they say as a
+-- stored table
 abbrev pub programReasons : List ℕ → List Reason
 programReasons input =
-    inputTooLong input ∷ (readReasons (linesOf input) WORDS LEVELS ++ tableReasons (tableIn input .units) (tableIn input .words) (tableIn input .levels))
+    inputTooLong input ∷ (readReasons (linesOf input) WORDS LEVELS ++ storedReasons (tableIn input .units) (tableIn input .words) (tableIn input .levels))
 
--- the numbers that occur. Not 14: there is room enough; not 5 and 15: a file's ends come in pairs, each with a level; and 6 and 16 only from reading
+-- the numbers that occur. Not 14: there is room enough; not 5 and 15: a file's ends come in pairs, each with a level; 6 and 16 only from reading; and not 22: a
+-- file is a stored table
 abbrev pub programNumbers : List ℕ
 programNumbers = 1 ∷ 2 ∷ 3 ∷ 6 ∷ 16 ∷ 4 ∷ 7 ∷ 8 ∷ 9 ∷ []
 
@@ -44,10 +46,10 @@ programNumbers = 1 ∷ 2 ∷ 3 ∷ 6 ∷ 16 ∷ 4 ∷ 7 ∷ 8 ∷ 9 ∷ []
 
 -- what is printed is the report of e, the survey of the table at its end
 pub record SurveyPrinted (input : List ℕ) (table : Input) (e : State) (rounds : ℕ) : Type 0 where
-  -- the input, with its level in each link line of kind 02, is the file of that table, byte for byte, and load accepts it
+  -- the input, with its level in each link line of kind 02, is the file of that table, byte for byte, and the load of a stored table accepts it
   pub file : fileBack (linesOf input) ≡ fileOf (table .units) (table .words) (table .levels)
   pub same : bareIn (linesOf input) ≡ false → fileBack (linesOf input) ≡ input
-  pub accepted : loadRefusal table ≡ 0
+  pub accepted : storedLoadRefusal table ≡ 0
   -- e comes after the fewest rounds that end the survey, within the countdown first shown
   pub least : Total (loaded table) rounds
   pub within : rounds ≤ countdown (loaded table)

@@ -16,8 +16,8 @@ use Rattle.lists.specs.Gathered.{gathered}
 use Rattle.lists.specs.Members.{Mem}
 use Rattle.table.specs.Refusals.{firstOf}
 use Rattle.table.specs.RefusalLaws.{Reason, FirstCause, Numbered, tests, first-cause, first-some, first-none}
-use Rattle.table.specs.TableCauses.{tableReasons, levelOutside-exact, table-first-cause}
-use Rattle.table.specs.Table.{maxLinks, tableRefusal}
+use Rattle.table.specs.TableCauses.{storedReasons, levelOutside-exact, stored-first-cause}
+use Rattle.table.specs.Table.{maxLinks, storedRefusal}
 use Rattle.frames.specs.Frame.{hexesOf, byteAt, lineOf}
 use Rattle.frames.specs.Bodies.{refusalBody, labelBody, tailBody}
 use Rattle.frames.specs.FrameLaws.{digit-back, length-line}
@@ -28,11 +28,12 @@ use Rattle.files.specs.ReadLaws.{Sound, accepted-sound}
 use Rattle.files.specs.RewrittenLaws.{read-written, same-file}
 use Rattle.state.specs.declared.groups.Table.{Table}
 use Rattle.machine.specs.State.{State, units, links}
-use Rattle.machine.specs.Load.{Input, linksIn, loadRefusal, begun, loaded}
+use Rattle.machine.specs.Load.{Input, linksIn, storedLoadRefusal, loaded}
 use Rattle.machine.specs.StepLaws.{loaded-wellFormed}
 use Rattle.machine.specs.RunLaws.{total, total-least, total-countdown}
 use Rattle.machine.specs.Report.{unitSingle, linkLabel, linkLone, flag, report, reportLength, headLine, unitLine, linkLine, tailLine}
 use Rattle.machine.specs.ReportLaws.{length-head, units-long, links-long, length-report, head-at, unit-at, link-at}
+use Rattle.reach.specs.Started.{loaded-started}
 use Rattle.reach.specs.Reach.{rounds-steps}
 use Rattle.reporter.specs.Printed.{MAX-INPUT, WORDS, LEVELS, refusalLine, surveyed, tableIn, printedTable, printedRead, printedFile, printed}
 use Rattle.reporter.specs.PrintedLaws.{surveyed-end, surveyed-table, surveyed-right}
@@ -93,18 +94,18 @@ module _ (input : List ℕ) where
   unread = readRefusal (linesOf input) WORDS LEVELS
 
   unloaded : ℕ
-  unloaded = loadRefusal (tableIn input)
+  unloaded = storedLoadRefusal (tableIn input)
 
   refusal-long : MAX-INPUT < length input → refusal ≡ 1
   unfolding refusal
   refusal-long l = rw (lt-ltb MAX-INPUT (length input) l) refl
 
   module _ (short : length input ≤ MAX-INPUT) where
-    after-length : refusal ≡ firstOf (tests (readReasons (linesOf input) WORDS LEVELS) ++ tests (tableReasons (tableIn input .units) (tableIn input .words) (tableIn input .levels)))
+    after-length : refusal ≡ firstOf (tests (readReasons (linesOf input) WORDS LEVELS) ++ tests (storedReasons (tableIn input .units) (tableIn input .words) (tableIn input .levels)))
     unfolding refusal
     after-length =
         rw (le-ltb MAX-INPUT (length input) short)
-        (ap firstOf (tests-append (readReasons (linesOf input) WORDS LEVELS) (tableReasons (tableIn input .units) (tableIn input .words) (tableIn input .levels))))
+        (ap firstOf (tests-append (readReasons (linesOf input) WORDS LEVELS) (storedReasons (tableIn input .units) (tableIn input .words) (tableIn input .levels))))
 
     refusal-unread : (unread ≡ 0 → ⊥) → refusal ≡ unread
     unfolding unread
@@ -113,10 +114,10 @@ module _ (input : List ℕ) where
         after-length ∙ (first-some (tests (readReasons (linesOf input) WORDS LEVELS)) _ (λ z. h (e ∙ z)) ∙ sym e)
 
     refusal-unloaded : unread ≡ 0 → refusal ≡ unloaded
-    unfolding unread unloaded readReasons tableReasons tableRefusal
+    unfolding unread unloaded readReasons storedReasons storedRefusal
     refusal-unloaded z =
         after-length
-        ∙ first-none (tests (readReasons (linesOf input) WORDS LEVELS)) (tests (tableReasons (tableIn input .units) (tableIn input .words) (tableIn input .levels))) (omega arith) (sym (readRefusal-tests (linesOf input) WORDS LEVELS) ∙ z)
+        ∙ first-none (tests (readReasons (linesOf input) WORDS LEVELS)) (tests (storedReasons (tableIn input .units) (tableIn input .words) (tableIn input .levels))) (omega arith) (sym (readRefusal-tests (linesOf input) WORDS LEVELS) ∙ z)
 
   -- ---- the numbers that occur
 
@@ -135,8 +136,8 @@ module _ (input : List ℕ) where
       go (inr (_, inr (_, inr (_, inr (few, inr (_, inr p)))))) = absurd (p .1)
 
   load-number : (k : ℕ) → (k ≡ 0 → ⊥) → unread ≡ 0 → unloaded ≡ k → Mem k programNumbers
-  unfolding unread unloaded tableReasons
-  load-number k h z e = go (table-first-cause (tableIn input .units) (tableIn input .words) (tableIn input .levels) k h .0 e)
+  unfolding unread unloaded storedReasons
+  load-number k h z e = go (stored-first-cause (tableIn input .units) (tableIn input .words) (tableIn input .levels) k h .0 e)
     where
       pairs : length (endsIn (linesOf input)) ≡ 2 * linkFrames (linesOf input)
       pairs = length-ends (linesOf input)
@@ -150,7 +151,7 @@ module _ (input : List ℕ) where
       levels : length (levelsIn (linesOf input)) ≡ linkFrames (linesOf input)
       levels = length-levels (linesOf input)
 
-      go : FirstCause (tableReasons (tableIn input .units) (tableIn input .words) (tableIn input .levels)) k → Mem k programNumbers
+      go : FirstCause (storedReasons (tableIn input .units) (tableIn input .words) (tableIn input .levels)) k → Mem k programNumbers
       go (inl p) = inr (inr (inr (inr (inr (inl (sym (p .0)))))))
       go (inr (_, inl p)) = absurd (omega (arith, pairs, p .1 .1))
       go (inr (_, inr (_, inl p))) = absurd (omega (arith, pairs, few, p .1))
@@ -214,7 +215,7 @@ module _ (input : List ℕ) where
 
   -- the first cause has its line printed
   cause-line : (k : ℕ) → FirstCause (programReasons input) k → printed input ≡ refusalLine k
-  unfolding refusal readReasons tableReasons
+  unfolding refusal readReasons storedReasons
   cause-line k c = go printed-by
     where
       some : k ≡ 0 → ⊥
@@ -237,16 +238,16 @@ module _ (input : List ℕ) where
     e = surveyed (tableIn input)
 
     e-units : units e ≡ table .units
-    unfolding table e unloaded loaded begun
+    unfolding table e unloaded
     e-units = ap (λ (x : Table). x .units) (surveyed-table (tableIn input) accepted)
 
     e-links : links e ≡ linksIn table
-    unfolding table e unloaded loaded begun
+    unfolding table e unloaded
     e-links = ap (λ (x : Table). x .links) (surveyed-table (tableIn input) accepted)
 
     e-rounds : e .clock .rounds ≡ total (loaded table)
     unfolding table e unloaded
-    e-rounds = rw (surveyed-end (tableIn input) accepted) (rounds-steps (tableIn input) accepted (total (loaded (tableIn input))) (omega arith))
+    e-rounds = rw (surveyed-end (tableIn input) accepted) (rounds-steps (loaded-started (tableIn input) accepted) (total (loaded (tableIn input))) (omega arith))
 
     -- nothing follows the report
     with-rest : printed input ≡ report e ++ []

@@ -4,7 +4,7 @@ ghost use mathlib.Core.Path.{_≡_};
 ghost use lib.ListN.{length};
 ghost use Rattle.reporter.specs.Printed.{printedRead, laidOver, laidCount};
 
-// A table loaded, surveyed to the end and reported, unless reading was refused.
+// A table loaded as a stored one, surveyed to the end and reported, unless reading was refused.
 pub(crate) fn surveyed(unread: u8, units: u16, table: &[u16], levels: &[i16], out: &mut [u8]) -> u32
     ensures count { λ r. ⌜ r ≡ laidCount (printedRead unread (record { units = units; words = now (table .entry); levels = now (levels .entry) })) (length (now (out .entry))) ⌝ }
     ensures bytes { λ _. ⌜ now (out .exit) ≡ laidOver (printedRead unread (record { units = units; words = now (table .entry); levels = now (levels .entry) })) (now (out .entry)) ⌝ }
@@ -13,7 +13,7 @@ pub(crate) fn surveyed(unread: u8, units: u16, table: &[u16], levels: &[i16], ou
         return super::refusal(unread, out);
     }
     let mut state = [0; STATE_WORDS];
-    let refused = lent::load(&mut state, units, table, levels);
+    let refused = lent::load_stored(&mut state, units, table, levels);
     if refused != 0 {
         let number = refused as u8;
         return super::refusal(number, out);

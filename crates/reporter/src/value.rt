@@ -6,7 +6,7 @@ ghost use lib.ListN.{length};
 ghost use Rattle.machine.specs.Calls.{numberOf};
 ghost use Rattle.reporter.specs.Printed.{countOf, printedRead, laidOver, laidCount};
 
-// A table loaded, surveyed to the end and reported, unless reading was refused.
+// A table loaded as a stored one, surveyed to the end and reported, unless reading was refused.
 pub(crate) fn surveyed(unread: u8, units: u16, table: &[u16], levels: &[i16], out: &mut [u8]) -> u32
     ensures count { λ r. ⌜ r ≡ laidCount (printedRead unread (record { units = units; words = now (table .entry); levels = now (levels .entry) })) (length (now (out .entry))) ⌝ }
     ensures bytes { λ _. ⌜ now (out .exit) ≡ laidOver (printedRead unread (record { units = units; words = now (table .entry); levels = now (levels .entry) })) (now (out .entry)) ⌝ }
@@ -14,7 +14,7 @@ pub(crate) fn surveyed(unread: u8, units: u16, table: &[u16], levels: &[i16], ou
     if unread != 0 {
         return super::refusal(unread, out);
     }
-    let loaded = Survey::new().load(units, table, levels);
+    let loaded = Survey::new().load_stored(units, table, levels);
     let reply = loaded.reply;
     let number = number_of(reply);
     if number != 0 {

@@ -1,11 +1,11 @@
-// A state that was never loaded, and loading: 4 to 6, 15, 16, 7 to 9.
+// A state that was never loaded, and loading, of a fresh table and of a stored one.
 use super::answer::Answer;
 use super::whole::Survey;
 use state::Reply;
 ghost use mathlib.Core.Path.{_≡_};
-ghost use Rattle.table.specs.Table.{tableRefusal};
+ghost use Rattle.table.specs.Table.{storedRefusal, refusalAs};
 ghost use Rattle.machine.specs.Load.{loaded, unloaded};
-ghost use Rattle.machine.specs.Calls.{loadAnswer};
+ghost use Rattle.machine.specs.Calls.{answered, loadAnswer, storedLoadAnswer};
 ghost use Rattle.survey.specs.View.{of, answerOf};
 
 impl Survey {
@@ -16,11 +16,25 @@ impl Survey {
         Survey::begun(begin::table(0, &[], &[]))
     }
 
-    // On a refusal the state comes back as given.
+    // Of a fresh table: 4 to 6, 15, 16, 7 to 9, 22. On a refusal the state comes back as given.
     pub fn load(self, units: u16, table: &[u16], levels: &[i16]) -> Answer
         ensures { λ r. ⌜ answerOf r ≡ loadAnswer (record { units = units; words = now (table .entry); levels = now (levels .entry) }) (of self) ⌝ }
     {
-        let refused = table::refusal(units, table, levels);
+        self.load_as(true, units, table, levels)
+    }
+
+    // Of a stored table: the same without 22.
+    pub fn load_stored(self, units: u16, table: &[u16], levels: &[i16]) -> Answer
+        ensures { λ r. ⌜ answerOf r ≡ storedLoadAnswer (record { units = units; words = now (table .entry); levels = now (levels .entry) }) (of self) ⌝ }
+    {
+        self.load_as(false, units, table, levels)
+    }
+
+    // Either.
+    fn load_as(self, fresh: bool, units: u16, table: &[u16], levels: &[i16]) -> Answer
+        ensures { λ r. ⌜ answerOf r ≡ answered (refusalAs fresh units (now (table .entry)) (now (levels .entry))) (of self) (loaded (record { units = units; words = now (table .entry); levels = now (levels .entry) })) Reply.Done ⌝ }
+    {
+        let refused = table::refusal(fresh, units, table, levels);
         if refused != 0 {
             return Answer {
                 survey: self,
@@ -36,7 +50,7 @@ impl Survey {
 
 // The state of a table that passes.
 fn loaded(units: u16, table: &[u16], levels: &[i16]) -> Survey
-    requires { ⌜ tableRefusal units (now table) (now levels) ≡ 0 ⌝ }
+    requires { ⌜ storedRefusal units (now table) (now levels) ≡ 0 ⌝ }
     ensures { λ r. ⌜ of r ≡ loaded (record { units = units; words = now (table .entry); levels = now (levels .entry) }) ⌝ }
 {
     Survey::begun(begin::table(units, table, levels))

@@ -4,7 +4,7 @@ use words::STATE_WORDS;
 ghost use mathlib.Core.Path.{_≡_};
 ghost use Prim.Native.Nat.{ℕ};
 ghost use lib.ListN.{length};
-ghost use Rattle.machine.specs.Calls.{numberOf, loadAnswer};
+ghost use Rattle.machine.specs.Calls.{numberOf, loadAnswer, storedLoadAnswer};
 ghost use Rattle.words.specs.Layout.{stateOf};
 ghost use Rattle.files.specs.File.{linesOf, unitsIn, linkFrames, readRefusal, readWords, readLevels, writeRefusal, writtenFile};
 ghost use Rattle.lent.specs.FileFace.{wordSaid};
@@ -24,7 +24,7 @@ pub extern "C" fn link_survey_report(input: &[u8], out: &mut [u8]) -> u32
     reporter::report_on_words(input, out)
 }
 
-// Load: 4 to 6, 15, 16, 7 to 9.
+// Load, of a fresh table: 4 to 6, 15, 16, 7 to 9, 22.
 #[no_mangle]
 pub extern "C" fn link_survey_load(
     state: &mut [u16; STATE_WORDS],
@@ -36,6 +36,20 @@ pub extern "C" fn link_survey_load(
     ensures words { λ _. ⌜ stateOf (now (state .exit)) ≡ loadAnswer (record { units = units; words = now (table .entry); levels = now (levels .entry) }) (stateOf (now (state .entry))) .state ⌝ }
 {
     lent::load(state, units, table, levels)
+}
+
+// Load of a stored table: 4 to 6, 15, 16, 7 to 9.
+#[no_mangle]
+pub extern "C" fn link_survey_load_stored(
+    state: &mut [u16; STATE_WORDS],
+    units: u16,
+    table: &[u16],
+    levels: &[i16],
+) -> u32
+    ensures number { λ r. ⌜ r ≡ numberOf (storedLoadAnswer (record { units = units; words = now (table .entry); levels = now (levels .entry) }) (stateOf (now (state .entry))) .reply) ⌝ }
+    ensures words { λ _. ⌜ stateOf (now (state .exit)) ≡ storedLoadAnswer (record { units = units; words = now (table .entry); levels = now (levels .entry) }) (stateOf (now (state .entry))) .state ⌝ }
+{
+    lent::load_stored(state, units, table, levels)
 }
 
 // One round: 10, 11.
@@ -143,7 +157,7 @@ pub extern "C" fn link_survey_read(
     lent::read(input, table, levels, units, links)
 }
 
-// No state: the file of a unit count, a table and its levels at the front of `out`: 4 to 6, 15, 16, 7 to 9, 14.
+// No state: the file of a unit count, a table and its levels at the front of `out`: 4 to 6, 15, 16, 7 to 9, 22, 14.
 #[no_mangle]
 pub extern "C" fn link_survey_write(
     units: u16,

@@ -7,3 +7,6 @@ pub mod Passes
 pub mod BitLaws
 pub mod Marks
 pub mod MarkLaws
+pub mod FreshLaws
+pub mod Seen
+pub mod SeenLaws

@@ -12,7 +12,7 @@ use lib.IntN.{ℤ}
 use borrow.Author.Tests.{eqb-true, not-false}
 use Rattle.lists.specs.Folds.{every}
 use Rattle.levels.specs.Level.{inRange}
-use Rattle.table.specs.Table.{maxUnits, maxLinks, linkCount, endA, endB, levelsDiffer, levelOutside, countTests, levelTests, endTests, countRefusal, levelRefusal, endRefusal, bareRefusal, tableRefusal}
+use Rattle.table.specs.Table.{maxUnits, maxLinks, linkCount, endA, endB, levelsDiffer, levelOutside, countTests, levelTests, endTests, countRefusal, levelRefusal, endRefusal, bareRefusal, storedRefusal}
 use Rattle.table.specs.RefusalLaws.{SomeCause, passed-test, first-none}
 use Rattle.table.specs.TableLaws.{table-counts, table-levels, table-ends}
 use Rattle.table.specs.TableCauses.{SameEnds, bareReasons, bare-some-cause}
@@ -64,7 +64,7 @@ passes n t e =
 
 -- ---- with levels
 
-module _ (n : ℕ) (t : List ℕ) (ls : List ℤ) (e : tableRefusal n t ls ≡ 0) where
+module _ (n : ℕ) (t : List ℕ) (ls : List ℤ) (e : storedRefusal n t ls ≡ 0) where
   counts : countRefusal n t ≡ 0
   counts = go (ℕ-discrete (countRefusal n t) 0)
     where

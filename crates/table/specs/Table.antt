@@ -2,7 +2,7 @@
 -- Beside it (document 02, T-01) the levels, one a link. Each check is its own definition; their order is the list at the end.
 use mathlib.Core.Bool.{Bool, false, not, cond, _&&_, _||_}
 use mathlib.Core.List.{List, [], _∷_, _++_}
-use Prim.Native.Nat.{ℕ, _+_, _*_, _/_, _%_}
+use Prim.Native.Nat.{ℕ, zero, suc, _+_, _*_, _/_, _%_}
 use lib.Dec.{leb, ltb, eqb}
 use lib.ListN.{length, getD}
 use lib.IntN.{ℤ}
@@ -93,6 +93,21 @@ repeatedPair t = repeatedBy samePair t
 abbrev pub repeatedAs : Bool → List ℕ → Bool
 repeatedAs ordered t = cond ordered (repeatedPair t) (repeatedLink t)
 
+-- unit u is an end of some link
+unfoldable pub isEnd : ℕ → List ℕ → Bool
+isEnd u [] = false
+isEnd u (a ∷ []) = false
+isEnd u (a ∷ b ∷ t) = eqb u a || (eqb u b || isEnd u t)
+
+-- some unit below k is the end of no link
+unfoldable pub unlinkedBelow : ℕ → List ℕ → Bool
+unlinkedBelow zero t = false
+unlinkedBelow (suc k) t = unlinkedBelow k t || not (isEnd k t)
+
+-- 22: n is 2 or more and some unit has no link (document 02, T-10)
+abbrev pub unlinkedUnit : ℕ → List ℕ → Bool
+unlinkedUnit n t = leb 2 n && unlinkedBelow n t
+
 -- ---- the checks in their order
 
 -- of the counts
@@ -110,9 +125,17 @@ endTestsBy n t repeated = (7, endMissing n t) ∷ (8, equalEnds t) ∷ (9, repea
 abbrev pub endTests : ℕ → List ℕ → List (ℕ × Bool)
 endTests n t = endTestsBy n t (repeatedLink t)
 
--- of a table with its levels
-abbrev pub tableTests : ℕ → List ℕ → List ℤ → List (ℕ × Bool)
-tableTests n t ls = countTests n t ++ (levelTests t ls ++ endTests n t)
+-- of the units (document 02, T-10); last among the checks of a table
+abbrev pub unitTests : ℕ → List ℕ → List (ℕ × Bool)
+unitTests n t = (22, unlinkedUnit n t) ∷ []
+
+-- of a table with its levels that was stored
+abbrev pub storedTests : ℕ → List ℕ → List ℤ → List (ℕ × Bool)
+storedTests n t ls = countTests n t ++ (levelTests t ls ++ endTests n t)
+
+-- of one that is fresh: the same, and that no unit is without a link
+abbrev pub freshTests : ℕ → List ℕ → List ℤ → List (ℕ × Bool)
+freshTests n t ls = storedTests n t ls ++ unitTests n t
 
 -- of a table without levels, 4 to 9
 abbrev pub bareTests : ℕ → List ℕ → List (ℕ × Bool)
@@ -135,8 +158,15 @@ endRefusal n t repeated = firstOf (endTestsBy n t repeated)
 unfoldable pub bareRefusal : ℕ → List ℕ → ℕ
 bareRefusal n t = firstOf (bareTests n t)
 
-unfoldable pub tableRefusal : ℕ → List ℕ → List ℤ → ℕ
-tableRefusal n t ls = firstOf (tableTests n t ls)
+unfoldable pub storedRefusal : ℕ → List ℕ → List ℤ → ℕ
+storedRefusal n t ls = firstOf (storedTests n t ls)
+
+unfoldable pub freshRefusal : ℕ → List ℕ → List ℤ → ℕ
+freshRefusal n t ls = firstOf (freshTests n t ls)
+
+-- either, as the table is taken
+abbrev pub refusalAs : Bool → ℕ → List ℕ → List ℤ → ℕ
+refusalAs fresh n t ls = cond fresh (freshRefusal n t ls) (storedRefusal n t ls)
 
 unfoldable pub pairRefusal : ℕ → List ℕ → ℕ
 pairRefusal n t = firstOf (pairTests n t)

@@ -19,7 +19,7 @@ use Rattle.levels.specs.LevelLaws.{InRange, range-exact}
 use Rattle.table.specs.Refusals.{firstOf}
 use Rattle.table.specs.RefusalLaws.{Reason, FirstCause, SomeCause, first-cause, some-cause, tests}
 use Rattle.table.specs.TableLaws.{endA-later, endB-later}
-use Rattle.table.specs.Table.{maxUnits, maxLinks, linkCount, endA, endB, badUnitCount, oddWords, tooManyLinks, levelsDiffer, levelOutside, endMissing, equalEnds, sameEnds, joinedIn, repeatedLink, bareRefusal, tableRefusal, samePair, repeatedBy, repeatedPair, pairRefusal}
+use Rattle.table.specs.Table.{maxUnits, maxLinks, linkCount, endA, endB, badUnitCount, oddWords, tooManyLinks, levelsDiffer, levelOutside, endMissing, equalEnds, sameEnds, joinedIn, repeatedLink, bareRefusal, storedRefusal, samePair, repeatedBy, repeatedPair, pairRefusal}
 
 -- ---- the causes
 
@@ -284,8 +284,8 @@ pub bare-some-cause : (n : ℕ) (t : List ℕ) → (bareRefusal n t ≡ 0 → �
 unfolding bareReasons
 bare-some-cause n t = rw bareRefusal-tests (some-cause (bareReasons n t) (omega arith))
 
-unfoldable pub tableReasons : ℕ → List ℕ → List ℤ → List Reason
-tableReasons n t ls =
+unfoldable pub storedReasons : ℕ → List ℕ → List ℤ → List Reason
+storedReasons n t ls =
     countReasons n t
     ++ (levelReasons t ls
     ++ endReasons n t (record { number = 9; test = repeatedLink t; cause = RepeatedLink t; exact = repeated-exact t }))
@@ -296,19 +296,19 @@ pairReasons n t =
     countReasons n t
     ++ endReasons n t (record { number = 9; test = repeatedPair t; cause = RepeatedPair t; exact = repeatedPair-exact t })
 
-tableRefusal-tests : (n : ℕ) (t : List ℕ) (ls : List ℤ) → tableRefusal n t ls ≡ firstOf (tests (tableReasons n t ls))
-unfolding tableRefusal tableReasons
-tableRefusal-tests n t ls = refl
+storedRefusal-tests : (n : ℕ) (t : List ℕ) (ls : List ℤ) → storedRefusal n t ls ≡ firstOf (tests (storedReasons n t ls))
+unfolding storedRefusal storedReasons
+storedRefusal-tests n t ls = refl
 
 -- the reply is k exactly when cause k holds and no earlier one does
-pub table-first-cause : (n : ℕ) (t : List ℕ) (ls : List ℤ) (k : ℕ) → (k ≡ 0 → ⊥) → (tableRefusal n t ls ≡ k) ↔ FirstCause (tableReasons n t ls) k
-table-first-cause n t ls k h = rw tableRefusal-tests (first-cause (tableReasons n t ls) k h)
+pub stored-first-cause : (n : ℕ) (t : List ℕ) (ls : List ℤ) (k : ℕ) → (k ≡ 0 → ⊥) → (storedRefusal n t ls ≡ k) ↔ FirstCause (storedReasons n t ls) k
+stored-first-cause n t ls k h = rw storedRefusal-tests (first-cause (storedReasons n t ls) k h)
 
 -- a table is refused exactly when some cause holds
-pub table-some-cause : (n : ℕ) (t : List ℕ) (ls : List ℤ) → (tableRefusal n t ls ≡ 0 → ⊥) ↔ SomeCause (tableReasons n t ls)
-unfolding tableReasons
-table-some-cause n t ls =
-    rw tableRefusal-tests (some-cause (tableReasons n t ls) (omega arith))
+pub stored-some-cause : (n : ℕ) (t : List ℕ) (ls : List ℤ) → (storedRefusal n t ls ≡ 0 → ⊥) ↔ SomeCause (storedReasons n t ls)
+unfolding storedReasons
+stored-some-cause n t ls =
+    rw storedRefusal-tests (some-cause (storedReasons n t ls) (omega arith))
 
 pairRefusal-tests : (n : ℕ) (t : List ℕ) → pairRefusal n t ≡ firstOf (tests (pairReasons n t))
 unfolding pairRefusal pairReasons

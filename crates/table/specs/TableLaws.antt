@@ -15,7 +15,7 @@ use Rattle.lists.specs.Tests.{or-false-left, or-false-right}
 use Rattle.lists.specs.Folds.{every}
 use Rattle.levels.specs.Level.{inRange}
 use Rattle.table.specs.Table.{maxUnits, endA, endB, badUnitCount, oddWords, tooManyLinks, levelsDiffer, endMissing, equalEnds, repeatedLink, repeatedPair, repeatedAs}
-use Rattle.table.specs.Table.{countTests, levelTests, endTests, countRefusal, levelRefusal, endRefusal, bareRefusal, tableRefusal, endTestsBy, pairRefusal}
+use Rattle.table.specs.Table.{countTests, levelTests, endTests, countRefusal, levelRefusal, endRefusal, bareRefusal, storedRefusal, endTestsBy, pairRefusal}
 use Rattle.table.specs.RefusalLaws.{first-some, first-none}
 
 -- ---- a link more at the front
@@ -135,17 +135,17 @@ module _ (n : ℕ) (t : List ℕ) where
 
 -- with levels
 module _ (n : ℕ) (t : List ℕ) (ls : List ℤ) where
-  pub table-counts : (countRefusal n t ≡ 0 → ⊥) → countRefusal n t ≡ tableRefusal n t ls
-  unfolding countRefusal tableRefusal
+  pub table-counts : (countRefusal n t ≡ 0 → ⊥) → countRefusal n t ≡ storedRefusal n t ls
+  unfolding countRefusal storedRefusal
   table-counts h = sym (first-some (countTests n t) (levelTests t ls ++ endTests n t) h)
 
-  pub table-levels : countRefusal n t ≡ 0 → (levelRefusal t ls ≡ 0 → ⊥) → levelRefusal t ls ≡ tableRefusal n t ls
-  unfolding countRefusal levelRefusal tableRefusal
+  pub table-levels : countRefusal n t ≡ 0 → (levelRefusal t ls ≡ 0 → ⊥) → levelRefusal t ls ≡ storedRefusal n t ls
+  unfolding countRefusal levelRefusal storedRefusal
   table-levels p h =
       sym (first-none (countTests n t) (levelTests t ls ++ endTests n t) (omega arith) p ∙ first-some (levelTests t ls) (endTests n t) h)
 
-  pub table-ends : countRefusal n t ≡ 0 → levelRefusal t ls ≡ 0 → endRefusal n t (repeatedAs false t) ≡ tableRefusal n t ls
-  unfolding countRefusal levelRefusal endRefusal tableRefusal
+  pub table-ends : countRefusal n t ≡ 0 → levelRefusal t ls ≡ 0 → endRefusal n t (repeatedAs false t) ≡ storedRefusal n t ls
+  unfolding countRefusal levelRefusal endRefusal storedRefusal
   table-ends p q =
       sym
       (first-none (countTests n t) (levelTests t ls ++ endTests n t) (omega arith) p

@@ -1,10 +1,11 @@
-// The checks 4 to 9, 15 and 16 on a lent table of links and its levels.
+// The checks 4 to 9, 15, 16 and 22 on a lent table of links and its levels.
 ghost use mathlib.Core.Path.{_≡_};
 ghost use mathlib.Core.Bool.{false, _||_};
 ghost use Prim.Native.Nat.{_≤_};
-ghost use Rattle.table.specs.Table.{maxUnits, endMissing, equalEnds, repeatedLink, countRefusal, levelRefusal, endRefusal, bareRefusal, tableRefusal, repeatedAs, pairRefusal};
+ghost use Rattle.table.specs.Table.{maxUnits, endMissing, equalEnds, repeatedLink, countRefusal, levelRefusal, endRefusal, bareRefusal, storedRefusal, refusalAs, repeatedAs, pairRefusal, unlinkedUnit};
 
 mod marks;
+mod seen;
 
 // The limits of a site.
 pub const MAX_UNITS: u16 = 256;
@@ -14,9 +15,23 @@ pub const MAX_LINKS: usize = 1024;
 // The mark "absent".
 pub const ABSENT: u16 = 65535;
 
-// The number of the first check that fails, 0 where the table passes with its levels.
-pub fn refusal(units: u16, table: &[u16], levels: &[i16]) -> u8
-    ensures { λ r. ⌜ r ≡ tableRefusal units (now (table .entry)) (now (levels .entry)) ⌝ }
+// The number of the first check that fails, 0 where the table passes with its levels: of a stored table 4 to 6, 15, 16, 7 to 9, of a fresh one last 22.
+pub fn refusal(fresh: bool, units: u16, table: &[u16], levels: &[i16]) -> u8
+    ensures { λ r. ⌜ r ≡ refusalAs fresh units (now (table .entry)) (now (levels .entry)) ⌝ }
+{
+    let number = stored_refusal(units, table, levels);
+    if number != 0 {
+        return number;
+    }
+    if !fresh {
+        return 0;
+    }
+    if unlinked(units, table) { 22 } else { 0 }
+}
+
+// The same of a stored table.
+fn stored_refusal(units: u16, table: &[u16], levels: &[i16]) -> u8
+    ensures { λ r. ⌜ r ≡ storedRefusal units (now (table .entry)) (now (levels .entry)) ⌝ }
 {
     let number = counts(units, table);
     if number != 0 {
@@ -136,4 +151,17 @@ fn repeated(ordered: bool, table: &[u16]) -> bool
 {
     let mut blank = [0u8; 8192];
     marks::found(ordered, table, &mut blank)
+}
+
+// Whether some of two or more units, at most 256, is the end of no link.
+fn unlinked(units: u16, table: &[u16]) -> bool
+    requires { ⌜ units ≤ maxUnits ⌝ }
+    ensures { λ r. ⌜ r ≡ unlinkedUnit units (now (table .entry)) ⌝ }
+{
+    if units < 2 {
+        return false;
+    }
+    let mut marks = [0u8; 256];
+    seen::mark_ends(table, &mut marks);
+    seen::some_blank(units, &marks)
 }

@@ -20,6 +20,7 @@ pub use lay::lay_tour;
 pub use lay::lay_tree;
 pub use layout::STATE_WORDS;
 pub use loading::load;
+pub use loading::load_stored;
 pub use take::aux_at;
 pub use take::clock_at;
 pub use take::components_at;

@@ -1,21 +1,46 @@
-// Load on words: 4 to 6, 15, 16, 7 to 9.
+// Load on words, of a fresh table and of a stored one.
 use super::lay;
 use super::layout::STATE_WORDS;
 ghost use mathlib.Core.Path.{_≡_};
 ghost use mathlib.Core.Bool.{cond};
 ghost use lib.Dec.{eqb};
-ghost use Rattle.table.specs.Table.{tableRefusal};
-ghost use Rattle.machine.specs.Load.{loadRefusal, loaded};
+ghost use Rattle.table.specs.Table.{storedRefusal, refusalAs};
+ghost use Rattle.machine.specs.Load.{loadRefusal, storedLoadRefusal, loaded};
 ghost use Rattle.words.specs.Layout.{stateOf};
 ghost use Rattle.words.specs.Begun.{frontBegun, backBegun};
 
-// The number of the first check that fails, with the words as they were; else 0, and the words of the loaded state.
+// Of a fresh table: 4 to 6, 15, 16, 7 to 9, 22. The number of the first check that fails, with the words as they were; else 0, and the words of the loaded
+// state.
 pub fn load(units: u16, table: &[u16], levels: &[i16], words: &mut [u16; STATE_WORDS]) -> u8
     ensures number { λ r. ⌜ r ≡ loadRefusal (record { units = units; words = now (table .entry); levels = now (levels .entry) }) ⌝ }
     ensures words { λ _. ⌜ stateOf (now (words .exit))
         ≡ cond (eqb (loadRefusal (record { units = units; words = now (table .entry); levels = now (levels .entry) })) 0) (loaded (record { units = units; words = now (table .entry); levels = now (levels .entry) })) (stateOf (now (words .entry))) ⌝ }
 {
-    let refused = table::refusal(units, table, levels);
+    load_as(true, units, table, levels, words)
+}
+
+// Of a stored table: the same without 22.
+pub fn load_stored(units: u16, table: &[u16], levels: &[i16], words: &mut [u16; STATE_WORDS]) -> u8
+    ensures number { λ r. ⌜ r ≡ storedLoadRefusal (record { units = units; words = now (table .entry); levels = now (levels .entry) }) ⌝ }
+    ensures words { λ _. ⌜ stateOf (now (words .exit))
+        ≡ cond (eqb (storedLoadRefusal (record { units = units; words = now (table .entry); levels = now (levels .entry) })) 0) (loaded (record { units = units; words = now (table .entry); levels = now (levels .entry) })) (stateOf (now (words .entry))) ⌝ }
+{
+    load_as(false, units, table, levels, words)
+}
+
+// Either.
+fn load_as(
+    fresh: bool,
+    units: u16,
+    table: &[u16],
+    levels: &[i16],
+    words: &mut [u16; STATE_WORDS],
+) -> u8
+    ensures number { λ r. ⌜ r ≡ refusalAs fresh units (now (table .entry)) (now (levels .entry)) ⌝ }
+    ensures words { λ _. ⌜ stateOf (now (words .exit))
+        ≡ cond (eqb (refusalAs fresh units (now (table .entry)) (now (levels .entry))) 0) (loaded (record { units = units; words = now (table .entry); levels = now (levels .entry) })) (stateOf (now (words .entry))) ⌝ }
+{
+    let refused = table::refusal(fresh, units, table, levels);
     if refused != 0 {
         return refused;
     }
@@ -25,7 +50,7 @@ pub fn load(units: u16, table: &[u16], levels: &[i16], words: &mut [u16; STATE_W
 
 // The state of a table that passes, over any words.
 fn lay_loaded(units: u16, table: &[u16], levels: &[i16], words: &mut [u16; STATE_WORDS])
-    requires { ⌜ tableRefusal units (now table) (now levels) ≡ 0 ⌝ }
+    requires { ⌜ storedRefusal units (now table) (now levels) ≡ 0 ⌝ }
     ensures { λ _. ⌜ stateOf (now (words .exit)) ≡ loaded (record { units = units; words = now (table .entry); levels = now (levels .entry) }) ⌝ }
 {
     lay::lay_table(begin::table(units, table, levels), words);

@@ -6,7 +6,7 @@ use lib.ListN.{length}
 use Rattle.table.specs.Table.{linkCount}
 use Rattle.table.specs.Passes.{passes, table-alone}
 use Rattle.files.specs.File.{writeRefusal}
-use Rattle.files.specs.WriteLaws.{write-refused, bytes-refused, written-table, written-one, written-fits, write-accepted, bytes-accepted}
+use Rattle.files.specs.WriteLaws.{write-refused, bytes-refused, written-stored, written-one, written-fits, write-accepted, bytes-accepted}
 use Rattle.files.specs.Replies.{write-tells}
 use Rattle.files.specs.declared.Writing.{Writing}
 use Rattle.files.specs.declared.Writing.the-variants.{Written}
@@ -20,7 +20,7 @@ accepted c = sym (c .before .refusal .ensures) ∙ c .if1 .left
 few : (c : tie.Else1) → linkCount (c .before .before .before .before .args .words .now) ≤ 1024
 few c =
     let a = c .before .before .before .before .args in
-    passes (a .units) (a .words .now) (table-alone (a .units) (a .words .now) (a .levels .now) (written-table (a .units) (a .words .now) (a .levels .now) (length (a .out .now)) (accepted c))) .fewLinks
+    passes (a .units) (a .words .now) (table-alone (a .units) (a .words .now) (a .levels .now) (written-stored (a .units) (a .words .now) (a .levels .now) (length (a .out .now)) (accepted c))) .fewLinks
 
 refusal-requires : tie.Need-refusal-requires
 refusal-requires c κs = search needs

@@ -1,9 +1,5 @@
 -- The number, and the state by it.
-use mathlib.Core.Path.{_≡_, refl, sym, _∙_}
-use mathlib.Core.Bool.{Bool, true, false, cond}
-use lib.Dec.{eqb}
-use Rattle.machine.specs.Load.{loaded, loadRefusal}
-use Rattle.machine.specs.Calls.{loadAnswer}
+use mathlib.Core.Path.{sym, _∙_}
 use Rattle.lent.specs.FaceLaws.{load-number, load-state}
 use Rattle.words.specs.Layout.{stateOf}
 use borrow.Author.Needs.{needs}

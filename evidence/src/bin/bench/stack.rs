@@ -67,11 +67,11 @@ impl Meter {
     }
 }
 
-const CALLS: [&str; 12] =
-    ["report", "read", "write", "load", "round", "run", "status", "unit", "link", "state_report", "foreman_line", "service_line"];
+const CALLS: [&str; 13] =
+    ["report", "read", "write", "load", "load_stored", "round", "run", "status", "unit", "link", "state_report", "foreman_line", "service_line"];
 
 /// The deepest that each call goes on one site: round by round, and at the end.
-fn depths(meter: &mut Meter, calls: &Calls, site: &Site) -> [usize; 12] {
+fn depths(meter: &mut Meter, calls: &Calls, site: &Site) -> [usize; 13] {
     let mut file = vec![0; file_length(site.links())];
     write_file(site.units, &site.table, &site.levels, &mut file).expect("a site passes the checks");
     let mut out = vec![0; report_length(usize::from(site.units), site.links())];
@@ -87,6 +87,8 @@ fn depths(meter: &mut Meter, calls: &Calls, site: &Site) -> [usize; 12] {
     let write = meter.depth(|| number = (calls.write)(site.units, &site.table, &site.levels, &mut file));
     assert_eq!(number, 0);
     let load = meter.depth(|| number = (calls.load)(&mut state, site.units, &site.table, &site.levels));
+    assert_eq!(number, 0);
+    let load_stored = meter.depth(|| number = (calls.load_stored)(&mut state, site.units, &site.table, &site.levels));
     assert_eq!(number, 0);
     let first = state.clone();
     let run = meter.depth(|| {
@@ -118,14 +120,14 @@ fn depths(meter: &mut Meter, calls: &Calls, site: &Site) -> [usize; 12] {
         }));
     }
     assert_eq!(number, 11);
-    [report, read, write, load, round, run, status, unit, link, state_report, foreman_line, service_line]
+    [report, read, write, load, load_stored, round, run, status, unit, link, state_report, foreman_line, service_line]
 }
 
 pub fn print() {
     println!("Deepest stack in bytes, to the next 16, over the largest sites and, for a round, over all their rounds.\n");
     println!("{:14}{:>10}{:>20}", "call", "proved", "plain on words");
     let mut meter = Meter::new();
-    let mut most = [[0; 12]; 2];
+    let mut most = [[0; 13]; 2];
     for shape in LARGEST {
         let site = site(shape, 256).expect("a shape");
         for (most, calls) in most.iter_mut().zip([PROVED, PLAIN]) {

@@ -3,12 +3,13 @@
 use crate::lent::Lent;
 use plain::Survey;
 use plain::face::PROVED;
-use plain::words::{LinkReply, PLAIN, State, StatusReply, UnitReply};
+use plain::words::{LinkReply, LoadCall, PLAIN, State, StatusReply, UnitReply};
 
 /// A call on a state, with the memory for its reply as it is lent.
 #[derive(Clone, Debug)]
 pub enum Call {
     Load { units: u16, table: Vec<u16>, levels: Vec<i16> },
+    LoadStored { units: u16, table: Vec<u16>, levels: Vec<i16> },
     Round,
     Run { budget: u16, made: u16 },
     Status { reply: StatusReply },
@@ -23,6 +24,7 @@ impl Call {
     pub fn name(&self) -> &'static str {
         match self {
             Call::Load { .. } => "load",
+            Call::LoadStored { .. } => "load of a stored table",
             Call::Round => "round",
             Call::Run { .. } => "run",
             Call::Status { .. } => "status",
@@ -51,16 +53,8 @@ pub fn lent_state(words: &State) -> Lent<u16> {
 /// Makes the call; the number that both returned, or where they differ.
 pub fn both(state: &mut Lent<u16>, call: &Call) -> Result<u32, String> {
     let number = match call {
-        Call::Load { units, table, levels } => {
-            let mut table = Lent::new(table, WORD_MARGIN);
-            let mut levels = Lent::new(levels, LEVEL_MARGIN);
-            let proved = (PROVED.load)(state.proved_array(), *units, table.proved(), levels.proved());
-            let plain = (PLAIN.load)(state.plain_array(), *units, table.plain(), levels.plain());
-            let number = agree(proved, plain)?;
-            table.difference("table")?;
-            levels.difference("levels")?;
-            Ok(number)
-        }
+        Call::Load { units, table, levels } => loaded(state, [PROVED.load, PLAIN.load], *units, table, levels),
+        Call::LoadStored { units, table, levels } => loaded(state, [PROVED.load_stored, PLAIN.load_stored], *units, table, levels),
         Call::Round => agree((PROVED.round)(state.proved_array()), (PLAIN.round)(state.plain_array())),
         Call::Run { budget, made } => replied(&[*made], |lent| {
             let proved = (PROVED.run)(state.proved_array(), *budget, &mut lent.proved()[0]);
@@ -99,6 +93,18 @@ pub fn both(state: &mut Lent<u16>, call: &Call) -> Result<u32, String> {
         }),
     }?;
     state.difference("state").map_err(|difference| named(&difference))?;
+    Ok(number)
+}
+
+/// A load by both sides.
+fn loaded(state: &mut Lent<u16>, [proved, plain]: [LoadCall; 2], units: u16, table: &[u16], levels: &[i16]) -> Result<u32, String> {
+    let mut table = Lent::new(table, WORD_MARGIN);
+    let mut levels = Lent::new(levels, LEVEL_MARGIN);
+    let proved = proved(state.proved_array(), units, table.proved(), levels.proved());
+    let plain = plain(state.plain_array(), units, table.plain(), levels.plain());
+    let number = agree(proved, plain)?;
+    table.difference("table")?;
+    levels.difference("levels")?;
     Ok(number)
 }
 

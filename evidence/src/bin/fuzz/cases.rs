@@ -5,7 +5,7 @@ use crate::lent::Lent;
 use crate::tally::Tally;
 use plain::damage::{any_file, any_words, spoil_site};
 use plain::random::Random;
-use plain::sites::any_site;
+use plain::sites::{Site, any_site};
 use plain::states::{any_kept, loaded};
 use plain::{FOREMAN_LINE, SERVICE_LINE, file_length, read_file, report_length, report_of_file};
 
@@ -173,6 +173,12 @@ fn write(random: &mut Random, tally: &mut Tally) -> Result<(), String> {
     Ok(())
 }
 
+/// Either load of a site.
+fn any_load(random: &mut Random, site: Site) -> Call {
+    let Site { units, table, levels } = site;
+    if random.once_in(2) { Call::LoadStored { units, table, levels } } else { Call::Load { units, table, levels } }
+}
+
 fn load(random: &mut Random, tally: &mut Tally) -> Result<(), String> {
     let mut site = any_site(random);
     let faulty = random.once_in(2);
@@ -181,7 +187,7 @@ fn load(random: &mut Random, tally: &mut Tally) -> Result<(), String> {
     }
     tally.kind(if faulty { "load of a faulty table" } else { "load of a table" });
     let (_, words) = any_words(random);
-    one_call(tally, &mut lent_state(&words), &Call::Load { units: site.units, table: site.table, levels: site.levels })
+    one_call(tally, &mut lent_state(&words), &any_load(random, site))
 }
 
 fn state(random: &mut Random, tally: &mut Tally) -> Result<(), String> {
@@ -206,7 +212,7 @@ fn list(random: &mut Random, tally: &mut Tally) -> Result<(), String> {
         let mut call = any_call(random, state.before());
         if random.once_in(60) {
             let site = any_site(random);
-            call = Call::Load { units: site.units, table: site.table, levels: site.levels };
+            call = any_load(random, site);
         }
         one_call(tally, &mut state, &call)?;
     }

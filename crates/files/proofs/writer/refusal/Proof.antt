@@ -1,20 +1,21 @@
 -- The table's own refusal comes first; a table that passes has so few links that the file's length fits.
 use mathlib.Core.Path.{_≡_, sym, _∙_}
 use native.Mathlib.Omega.{arith}
-use Rattle.table.specs.Table.{tableRefusal}
+use Rattle.table.specs.Table.{freshRefusal}
 use Rattle.table.specs.Passes.{Passes, passes, table-alone}
+use Rattle.table.specs.FreshLaws.{fresh-accepted}
 use Rattle.files.specs.WriteLaws.{write-table, write-14, write-0}
 use borrow.Author.Needs.{needs}
 use Rattle.files.proofs.writer.refusal.Statement.{statement}
 use Rattle.files.proofs.writer.refusal.Tie as tie
 
-none : (c : tie.Else1) → tableRefusal (c .before .before .before .args .units) (c .before .before .before .args .words .now) (c .before .before .before .args .levels .now) ≡ 0
+none : (c : tie.Else1) → freshRefusal (c .before .before .before .args .units) (c .before .before .before .args .words .now) (c .before .before .before .args .levels .now) ≡ 0
 none c = sym (c .before .refusal .ensures) ∙ c .if1 .left
 
 passed : (c : tie.Else1) → Passes (c .before .before .before .args .units) (c .before .before .before .args .words .now)
 passed c =
     let a = c .before .before .before .args in
-    passes (a .units) (a .words .now) (table-alone (a .units) (a .words .now) (a .levels .now) (none c))
+    passes (a .units) (a .words .now) (table-alone (a .units) (a .words .now) (a .levels .now) (fresh-accepted (a .units) (a .words .now) (a .levels .now) (none c)))
 
 refusal-requires : tie.Need-refusal-requires
 refusal-requires c κs = search needs

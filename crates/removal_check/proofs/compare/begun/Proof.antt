@@ -17,11 +17,11 @@ new-requires-2 c κs = search needs
 array-share-prefix-levels : tie.Need-array-share-prefix-levels
 array-share-prefix-levels c = search needs
 
-slice-aggregate-load : tie.Need-slice-aggregate-load
-slice-aggregate-load c = sym (length-take-le _ _ (search needs))
+slice-aggregate-load-stored : tie.Need-slice-aggregate-load-stored
+slice-aggregate-load-stored c = sym (length-take-le _ _ (search needs))
 
-load-requires : tie.Need-load-requires
-load-requires c κs = search needs
+load-stored-requires : tie.Need-load-stored-requires
+load-stored-requires c κs = search needs
 
 returns-2 : tie.Need-returns-2
 returns-2 c = search needs
@@ -34,6 +34,6 @@ begun-spec =
     returns
     new-requires-2
     array-share-prefix-levels
-    slice-aggregate-load
-    load-requires
+    slice-aggregate-load-stored
+    load-stored-requires
     returns-2)

@@ -3,10 +3,10 @@ use mathlib.Core.Path.{_≡_, sym, _∙_}
 use Prim.Native.Nat.{_≤_}
 use native.Mathlib.Omega.{arith}
 use lib.ListN.{length}
-use Rattle.machine.specs.Load.{Input, loadRefusal}
+use Rattle.machine.specs.Load.{Input, storedLoadRefusal}
 use Rattle.machine.specs.LoadLaws.{passed-fits}
 use Rattle.words.specs.Layout.{stateOf}
-use Rattle.lent.specs.FaceLaws.{load-number}
+use Rattle.lent.specs.FaceLaws.{stored-load-number}
 use Rattle.reporter.specs.Printed.{surveyed, printedTable, laidOver}
 use Rattle.reporter.specs.LaidLaws.{number-byte, table-refused, survey-left, report-laid, report-none, report-all, read-refused, read-taken}
 use borrow.Author.Needs.{needs}
@@ -14,16 +14,16 @@ use Rattle.reporter.proofs.on_words.surveyed.Statement.{statement}
 use Rattle.reporter.proofs.on_words.surveyed.Tie as tie
 
 -- what is loaded
-abbrev taken : tie.After-load → Input
+abbrev taken : tie.After-load-stored → Input
 taken l =
     let a = l .before .before .before .before .before .args in
     record { units = a .units; words = a .table .now; levels = a .levels .now }
 
 -- the number of the load
-told : (l : tie.After-load) → l .load .result ≡ loadRefusal (taken l)
-told l = l .load .ensures .0 ∙ load-number (taken l) _
+told : (l : tie.After-load-stored) → l .load-stored .result ≡ storedLoadRefusal (taken l)
+told l = l .load-stored .ensures .0 ∙ stored-load-number (taken l) _
 
-accepted : (e : tie.Else2) → loadRefusal (taken (e .before)) ≡ 0
+accepted : (e : tie.Else2) → storedLoadRefusal (taken (e .before)) ≡ 0
 accepted e = sym (told (e .before)) ∙ e .if2 .left
 
 fits-in : (c : tie.Else3) → length (taken (c .before .before .before .before .before .before .before .before .before .before) .words) ≤ 2048
@@ -31,7 +31,7 @@ fits-in c = passed-fits (taken (c .before .before .before .before .before .befor
 
 -- the words after the run are the survey
 ended : (r : tie.After-run) → stateOf (r .run .last .0) ≡ surveyed (taken (r .before .before .before .before))
-ended r = survey-left (taken (r .before .before .before .before)) (accepted (r .before .before .before)) _ _ _ (r .before .before .before .before .load .ensures .1) (r .run .ensures .1 .0)
+ended r = survey-left (taken (r .before .before .before .before)) (accepted (r .before .before .before)) _ _ _ (r .before .before .before .before .load-stored .ensures .1) (r .run .ensures .1 .0)
 
 -- and their report is laid down
 laid : (r : tie.After-report) → r .report .last .1 .0 ≡ laidOver (printedTable (taken (r .before .before .before .before .before .before .before))) (r .before .before .before .before .before .before .before .before .before .before .before .before .args .out .now)
@@ -48,8 +48,8 @@ returns c =
     let r = c .before .before .refusal in
     rw (read-refused _ _ (c .before .before .before .before .if1 .taken)) (r .ensures .0, r .ensures .1)
 
-load-requires : tie.Need-load-requires
-load-requires c κs = search needs
+load-stored-requires : tie.Need-load-stored-requires
+load-stored-requires c κs = search needs
 
 cast-number : tie.Need-cast-number
 cast-number c = omega (arith, told (c .before), number-byte (taken (c .before)))
@@ -114,7 +114,7 @@ surveyed-spec =
     refusal-requires
     same-length
     returns
-    load-requires
+    load-stored-requires
     cast-number
     refusal-requires-2
     same-length-2

@@ -1,10 +1,10 @@
 -- Load, run, report by value, by whether the reading and the table pass.
 use mathlib.Core.Path.{_≡_, sym, ap, _∙_}
 use lib.ListN.{length}
-use Rattle.machine.specs.Load.{Input, loadRefusal}
+use Rattle.machine.specs.Load.{Input, storedLoadRefusal}
 use Rattle.machine.specs.Calls.{Answer, numberOf}
 use Rattle.survey.specs.View.{of}
-use Rattle.lent.specs.FaceLaws.{load-number}
+use Rattle.lent.specs.FaceLaws.{stored-load-number}
 use Rattle.reporter.specs.Printed.{countOf, surveyed}
 use Rattle.reporter.specs.LaidLaws.{table-refused, survey-left, report-laid, report-count, read-refused, read-taken}
 use borrow.Author.Needs.{needs}
@@ -18,17 +18,17 @@ taken n =
     record { units = a .units; words = a .table .now; levels = a .levels .now }
 
 -- the number of the load
-told : (n : tie.After-number-of) → n .number-of .result ≡ loadRefusal (taken n)
-told n = n .number-of .ensures ∙ (ap (λ (a : Answer). numberOf (a .reply)) (n .before .load .ensures) ∙ load-number (taken n) _)
+told : (n : tie.After-number-of) → n .number-of .result ≡ storedLoadRefusal (taken n)
+told n = n .number-of .ensures ∙ (ap (λ (a : Answer). numberOf (a .reply)) (n .before .load-stored .ensures) ∙ stored-load-number (taken n) _)
 
-accepted : (e : tie.Else2) → loadRefusal (taken (e .before)) ≡ 0
+accepted : (e : tie.Else2) → storedLoadRefusal (taken (e .before)) ≡ 0
 accepted e = sym (told (e .before)) ∙ e .if2 .left
 
 -- the state after the run is the survey
 ended : (r : tie.After-run) → of (r .run .result .survey) ≡ surveyed (taken (r .before .before .before))
 ended r =
     survey-left (taken (r .before .before .before)) (accepted (r .before .before)) _ _ _
-    (ap (λ (a : Answer). a .state) (r .before .before .before .before .load .ensures))
+    (ap (λ (a : Answer). a .state) (r .before .before .before .before .load-stored .ensures))
     (ap (λ (a : Answer). a .state) (r .run .ensures))
 
 refusal-requires : tie.Need-refusal-requires
@@ -45,8 +45,8 @@ returns c =
 new-requires : tie.Need-new-requires
 new-requires c κs = search needs
 
-load-requires : tie.Need-load-requires
-load-requires c κs = search needs
+load-stored-requires : tie.Need-load-stored-requires
+load-stored-requires c κs = search needs
 
 number-of-requires : tie.Need-number-of-requires
 number-of-requires c κs = search needs
@@ -92,7 +92,7 @@ surveyed-spec =
     same-length
     returns
     new-requires
-    load-requires
+    load-stored-requires
     number-of-requires
     refusal-requires-2
     same-length-2

@@ -1,31 +1,15 @@
--- By whether the table passes.
-use mathlib.Core.Path.{sym, _∙_}
+-- As `load_as` answers.
 use borrow.Author.Needs.{needs}
-use Rattle.table.specs.Table.{tableRefusal}
 use Rattle.machine.specs.Calls.{loadAnswer}
-use Rattle.machine.specs.AnswerLaws.{answered-refused, answered-made}
-use Rattle.survey.specs.View.{of}
 use Rattle.survey.proofs.whole.Survey.load.Statement.{statement}
 use Rattle.survey.proofs.whole.Survey.load.Tie as tie
 
-refusal-requires : tie.Need-refusal-requires
-refusal-requires c κs = search needs
+load-as-requires : tie.Need-load-as-requires
+load-as-requires c κs = search needs
 
 returns : tie.Need-returns
 unfolding loadAnswer
-returns c =
-    let a = c .before .before .before .args in
-    let r = c .before .refusal in
-    answered-refused (tableRefusal (a .units) (a .table .now) (a .levels .now)) (r .result) (of (a .self)) _ _ (r .ensures) (c .if1 .taken)
-
-loaded-requires : tie.Need-loaded-requires
-loaded-requires c κs = search needs
-
-returns-2 : tie.Need-returns-2
-unfolding loadAnswer
-returns-2 c =
-    let r = c .before .before .refusal in
-    rw (c .loaded .ensures) (answered-made _ _ _ _ (sym (r .ensures) ∙ c .before .if1 .left))
+returns c = c .load-as .ensures
 
 pub load-spec : {M : Type 1} → statement M
-load-spec = tie.close (tie.spec refusal-requires returns loaded-requires returns-2)
+load-spec = tie.close (tie.spec load-as-requires returns)

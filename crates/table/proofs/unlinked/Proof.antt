@@ -1,0 +1,39 @@
+-- A single unit passes; of two or more the search by marks is exact, from blank marks.
+use mathlib.Core.Path.{_≡_, sym, _∙_}
+use Rattle.table.specs.SeenLaws.{blank-unlinked, alone-linked}
+use borrow.Author.Needs.{needs}
+use Rattle.table.proofs.unlinked.Statement.{statement}
+use Rattle.table.proofs.unlinked.Tie as tie
+
+returns : tie.Need-returns
+returns c = let a = c .before .before .args in alone-linked (a .units) (a .table .now) (c .if1 .taken)
+
+slice-aggregate-mark-ends : tie.Need-slice-aggregate-mark-ends
+slice-aggregate-mark-ends c = search needs
+
+mark-ends-requires : tie.Need-mark-ends-requires
+mark-ends-requires c κs = search needs
+
+slice-aggregate-some-blank : tie.Need-slice-aggregate-some-blank
+slice-aggregate-some-blank c = search needs
+
+some-blank-requires : tie.Need-some-blank-requires
+some-blank-requires c κs = search needs
+
+returns-2 : tie.Need-returns-2
+returns-2 c =
+    let m = c .before .before .before in
+    let e = m .before .before in
+    let a = e .before .before .args in
+    c .some-blank .ensures ∙ (rw (m .mark-ends .ensures) (blank-unlinked (a .units) 256 (a .table .now) (e .before .before .pre) (e .if1 .left)))
+
+pub unlinked-spec : {M : Type 1} → statement M
+unlinked-spec =
+    tie.close
+    (tie.spec
+    returns
+    slice-aggregate-mark-ends
+    mark-ends-requires
+    slice-aggregate-some-blank
+    some-blank-requires
+    returns-2)
