@@ -1,0 +1,42 @@
+-- One unit after another.
+use mathlib.Core.Path.{_≡_, sym, _∙_}
+use Prim.Native.Nat.{_+_, _-_, _≤_}
+use native.Mathlib.Omega.{arith}
+use Rattle.small_tables.specs.SmallLaws.{rowBy, row-turn, row-done}
+use borrow.Author.Needs.{needs}
+use Rattle.small_tables.proofs.row.Statement.{statement}
+use Rattle.small_tables.proofs.row.Tie as tie
+
+abbrev Inv-loop : tie.InvT-loop
+Inv-loop a units x₀ b₀ x b = (b ≤ units) × (rowBy a (a + 1) (units - (a + 1)) x₀ ≡ rowBy a b (units - b) x)
+
+abbrev μ-loop : tie.MeasureT-loop
+μ-loop a units x₀ b₀ x b = units - b
+
+add-b : tie.Need-add-b Inv-loop μ-loop
+add-b c = search needs
+
+loop-holds : tie.Need-loop-holds Inv-loop μ-loop
+loop-holds c = search needs
+
+taken-requires : tie.Need-taken-requires Inv-loop μ-loop
+taken-requires c κs = search needs
+
+add-b-2 : tie.Need-add-b-2 Inv-loop μ-loop
+add-b-2 c = search needs
+
+loop-less : tie.Need-loop-less Inv-loop μ-loop
+loop-less c = search needs
+
+loop-again : tie.Need-loop-again Inv-loop μ-loop
+loop-again c =
+    let s = c .before .before in
+    (search needs, row-turn _ _ _ _ _ _ (s .loop .inv .1) (c .before .loop-test .taken) (c .taken .ensures))
+
+returns : tie.Need-returns Inv-loop μ-loop
+returns c = sym (c .before .loop .inv .1 ∙ row-done _ _ _ _ (c .loop-test .left))
+
+pub row-spec : {M : Type 1} → statement M
+row-spec =
+    tie.close
+    (tie.spec Inv-loop μ-loop add-b loop-holds taken-requires add-b-2 loop-less loop-again returns)

@@ -1,0 +1,4 @@
+pub mod Small
+pub mod SmallLaws
+pub mod EachOnce
+pub mod EachOnceProof
