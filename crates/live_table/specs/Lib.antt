@@ -1,0 +1,15 @@
+pub mod Counts
+pub mod CountLaws
+pub mod Live
+pub mod PlaceLaws
+pub mod WithoutLaws
+pub mod LiveCalls
+pub mod LiveCauses
+pub mod PassedLaws
+pub mod AddedLaws
+pub mod WithdrawnLaws
+pub mod HeldLaws
+pub mod GivenLaws
+pub mod LiveRight
+pub mod LiveProof
+pub mod Example
