@@ -38,7 +38,8 @@ answer-done k given after s a = go (either (eqb k 0))
     go (inl e) = (eqb-true k 0 e, sym (ap (λ (x : Answer). x .state) (rw e at a)))
     go (inr e) = absurd (eqb-false k 0 e (ap (λ (x : Answer). numberOf (x .reply)) (rw e at a)))
 
-started : (input : Input) (s : State) → Loaded input s → Started input s
+-- every load starts a survey
+pub started : (input : Input) (s : State) → Loaded input s → Started input s
 unfolding loadAnswer storedLoadAnswer
 started input s (fresh given a) =
     let (accepted, q) = answer-done (loadRefusal input) given (loaded input) s a in

@@ -1,0 +1,16 @@
+pub mod Upright
+pub mod Ears
+pub mod Anchors
+pub mod Present
+pub mod Steps
+pub mod Lists
+pub mod Tree
+pub mod Order
+pub mod Growth
+pub mod Sides
+pub mod Closing
+pub mod Reaching
+pub mod Weaving
+pub mod Rows
+pub mod Found
+pub mod KeptSite

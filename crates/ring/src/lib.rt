@@ -1,0 +1,1 @@
+// Rings that are shown (T-04): specs only.

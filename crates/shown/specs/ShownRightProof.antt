@@ -1,0 +1,143 @@
+-- The proof of what T-04 asks, by what `showing` tells of the state's tables.
+use mathlib.Core.Path.{_≡_, refl, sym, ap, subst, _∙_}
+use mathlib.Core.Bool.{Bool, true, false, not}
+use mathlib.Core.Logic.{_⊎_, inl, inr}
+use mathlib.Core.List.{List, [], _∷_, _++_}
+use Prim.Native.Nat.{ℕ, zero, suc, _≤_, _<_}
+use native.Mathlib.Omega.{arith}
+use lib.Dec.{ltb}
+use lib.ListN.{length, getD, take, drop, length-take}
+use borrow.Author.Tests.{eq-eqb, ltb-true, ltb-false, not-false, ne-eqb, lt-ltb, le-ltb}
+use Rattle.lists.specs.Tables.{over}
+use Rattle.table.specs.RefusalLaws.{first-cause, some-cause, passed-test}
+use Rattle.table.specs.Table.{endA, endB}
+use Rattle.graph.specs.Rings.{Ring, lastOf, OnRing}
+use Rattle.graph.specs.Together.{onRing-more}
+use Rattle.graph.specs.Walks.{walk-map, ring-closed, closed-ring}
+use Rattle.machine.specs.Kept.{kept-exact}
+use Rattle.machine.specs.State.{State, units, links, finished, FINISHED}
+use Rattle.machine.specs.WellFormed.{wellFormed}
+use Rattle.reach.specs.Site.{Site, Link}
+use Rattle.ring.specs.Closing.{shows-short}
+use Rattle.ring.specs.Found.{RingTold}
+use Rattle.ring.specs.KeptSite.{kept-site}
+use Rattle.ring.specs.Present.{Present, Ringed, Shows, sure}
+use Rattle.shown.specs.declared.Shown.the-variants.{NoRing, Refused}
+use Rattle.shown.specs.declared.Shown.the-variants as Replies
+use Rattle.shown.specs.Shown.{Answer, numberOf, shownRefusal, shownReasons}
+use Rattle.shown.specs.ShownRight.{RingThrough, Told, ShownRight}
+
+-- ---- the tests in order
+
+module _ (i j places : ℕ) (s : State) where
+  pub refused-malformed : wellFormed s ≡ false → 10 ≡ shownRefusal i j places s
+  unfolding shownRefusal
+  refused-malformed w = rw w refl
+
+  module _ (w : wellFormed s ≡ true) where
+    pub refused-running : (s .clock .stage ≡ FINISHED → ⊥) → 12 ≡ shownRefusal i j places s
+    unfolding shownRefusal
+    refused-running h = rw (w, ne-eqb (s .clock .stage) FINISHED h) refl
+
+    module _ (f : s .clock .stage ≡ FINISHED) where
+      pub refused-first : links s ≤ i → 13 ≡ shownRefusal i j places s
+      unfolding shownRefusal
+      refused-first h = rw (w, eq-eqb (s .clock .stage) FINISHED f, le-ltb i (links s) h) refl
+
+      pub refused-second : i < links s → links s ≤ j → 13 ≡ shownRefusal i j places s
+      unfolding shownRefusal
+      refused-second a h = rw (w, eq-eqb (s .clock .stage) FINISHED f, lt-ltb i (links s) a, le-ltb j (links s) h) refl
+
+      pub refused-short : i < links s → j < links s → places < units s → 14 ≡ shownRefusal i j places s
+      unfolding shownRefusal
+      refused-short a b h = rw (w, eq-eqb (s .clock .stage) FINISHED f, lt-ltb i (links s) a, lt-ltb j (links s) b, lt-ltb places (units s) h) refl
+
+      pub refused-none : i < links s → j < links s → units s ≤ places → 0 ≡ shownRefusal i j places s
+      unfolding shownRefusal
+      refused-none a b h = rw (w, eq-eqb (s .clock .stage) FINISHED f, lt-ltb i (links s) a, lt-ltb j (links s) b, le-ltb places (units s) h) refl
+
+-- ---- rings of the links that count, where all do
+
+ring-map : (E F : ℕ → ℕ → Type 0) → ((u v : ℕ) → E u v → F u v) → (r : List ℕ) → Ring E r → Ring F r
+ring-map E F f r R = closed-ring r (R .three) (R .different) (walk-map E F (lastOf r) r (λ u v q e. f u v e) (ring-closed R))
+
+-- the front of a table over a slice
+front-over : (r : ℕ) (t out : List ℕ) → r ≤ length t → r ≤ length out → over r (λ (i : ℕ). getD t i 0) out ≡ take r t ++ drop r out
+front-over zero t out h g = refl
+front-over (suc r) [] out h g = absurd (omega arith)
+front-over (suc r) (x ∷ t) [] h g = absurd (omega arith)
+front-over (suc r) (x ∷ t) (y ∷ out) h g = ap (λ (l : List ℕ). x ∷ l) (front-over r t out (omega arith) (omega arith))
+
+module _ (i j : ℕ) (s : State) (out : List ℕ) where
+  abbrev refusal : ℕ
+  refusal = shownRefusal i j (length out) s
+
+  right : (answer : Answer) (new : List ℕ) → numberOf (answer .reply) ≡ refusal → answer .state ≡ s → ((refusal ≡ 0 → ⊥) → new ≡ out)
+      → (refusal ≡ 0 → Told (units s) (links s) (s .table .ends) i j out (answer .reply) new) → ShownRight i j s out answer new
+  unfolding shownRefusal
+  right answer new e same unwritten told =
+      record {
+        cause = λ k h. rw e (first-cause (shownReasons i j (length out) s) k h);
+        refused = rw e (some-cause (shownReasons i j (length out) s) (omega arith));
+        state = same;
+        unwritten = λ h. unwritten (λ z. h (e ∙ z));
+        told = λ z. told (sym e ∙ z);
+      }
+
+  pub shown-refused : (r : ℕ) → r ≡ refusal → (r ≡ 0 → ⊥) → ShownRight i j s out (record { state = s; reply = Refused r }) out
+  shown-refused r e h = right (record { state = s; reply = Refused r }) out e refl (λ z. refl) (λ z. absurd (h (e ∙ z)))
+
+  passed : refusal ≡ 0 → (wellFormed s ≡ true) × (i < links s) × (j < links s) × (units s ≤ length out)
+  unfolding shownRefusal
+  passed e =
+      let a = passed-test (not (wellFormed s)) 10 _ (omega arith) e in
+      let b = passed-test (not (finished s)) 12 _ (omega arith) (a .1) in
+      let c = passed-test (not (ltb i (links s))) 13 _ (omega arith) (b .1) in
+      let d = passed-test (not (ltb j (links s))) 13 _ (omega arith) (c .1) in
+      let f = passed-test (ltb (length out) (units s)) 14 _ (omega arith) (d .1) in
+      (not-false (wellFormed s) (a .0), ltb-true i (links s) (not-false _ (c .0)), ltb-true j (links s) (not-false _ (d .0)), ltb-false (length out) (units s) (f .0))
+
+  module _ (marks ring₀ ring : List ℕ) (r : ℕ) (e : refusal ≡ 0) (full : length (s .table .ends) ≡ 2048) (all : (k : ℕ) → getD marks k 0 ≡ 0) (long : length ring₀ ≡ 256)
+      (T : RingTold (sure marks) (units s) (links s) (s .table .ends) i j ring₀ ring r) where
+    abbrev m : ℕ
+    m = links s
+
+    abbrev ends : List ℕ
+    ends = s .table .ends
+
+    P : (wellFormed s ≡ true) × (i < links s) × (j < links s) × (units s ≤ length out)
+    P = passed e
+
+    site : Site (units s) (links s) (s .table .ends)
+    site = kept-site s full (kept-exact s .0 (P .0))
+
+    given : ((r ≡ 0) × (Ringed (sure marks) m ends i j → ⊥)) ⊎ (Shows (sure marks) m ends i j (take r ring) × (r ≡ length (take r ring)))
+    given = T site (P .1) (P .2) long
+
+    link : (u v : ℕ) → Present (sure marks) m ends u v → Link m ends u v
+    link u v (k, l, o, q) = (k, l, q)
+
+    present : (u v : ℕ) → Link m ends u v → Present (sure marks) m ends u v
+    present u v (k, l, q) = (k, l, eq-eqb (getD marks k 0) 0 (all k), q)
+
+    pub shown-none : r ≡ 0 → ShownRight i j s out (record { state = s; reply = NoRing }) out
+    shown-none z = right (record { state = s; reply = NoRing }) out (sym e) refl (λ h. refl) (λ h. inl (refl, none given, refl))
+      where
+        none : ((r ≡ 0) × (Ringed (sure marks) m ends i j → ⊥)) ⊎ (Shows (sure marks) m ends i j (take r ring) × (r ≡ length (take r ring)))
+            → OnRing (Link m ends) (endA ends i) (endB ends i) (endA ends j) (endB ends j) → ⊥
+        none (inl (q, h)) o = h (onRing-more (Link m ends) (Present (sure marks) m ends) present (endA ends i) (endB ends i) (endA ends j) (endB ends j) o)
+        none (inr (S, q)) o = omega (arith, S .ring .three)
+
+    pub shown-ring : (new : List ℕ) → (r ≡ 0 → ⊥) → new ≡ over r (λ (k : ℕ). getD ring k 0) out → ShownRight i j s out (record { state = s; reply = Replies.Ring r }) new
+    shown-ring new h w = right (record { state = s; reply = Replies.Ring r }) new (sym e) refl (λ q. absurd (q e)) (λ q. inr (one given))
+      where
+        one : ((r ≡ 0) × (Ringed (sure marks) m ends i j → ⊥)) ⊎ (Shows (sure marks) m ends i j (take r ring) × (r ≡ length (take r ring)))
+            → (l : List ℕ) × (Replies.Ring r ≡ Replies.Ring (length l)) × RingThrough (units s) m ends i j l × (new ≡ l ++ drop (length l) out)
+        one (inl (z, q)) = absurd (h z)
+        one (inr (S, q)) =
+            let short : length (take r ring) ≤ units s = shows-short site S in (
+              take r ring,
+              ap Replies.Ring q,
+              record { ring = ring-map (Present (sure marks) m ends) (Link m ends) link (take r ring) (S .ring); rest = S .rest; starts = S .starts; first = S .first; second = S .second; few = short },
+              w ∙ front-over r ring out (omega (arith, q, length-take r ring)) (omega (arith, q, short, P .3)) ∙ ap (λ (k : ℕ). take r ring ++ drop k out) q,
+            )

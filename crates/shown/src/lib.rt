@@ -1,0 +1,121 @@
+// A ring of a finished survey that holds two links (T-04), by value.
+ghost use mathlib.Core.Path.{_≡_};
+ghost use Prim.Native.Nat.{ℕ, _<_};
+ghost use lib.ListN.{length, getD};
+ghost use Rattle.lists.specs.Tables.{over};
+ghost use Rattle.survey.specs.View.{of};
+ghost use Rattle.shown.specs.Shown.{shownRefusal, answerOf, numberOf};
+ghost use Rattle.shown.specs.ShownRight.{ShownRight};
+use survey::Clock;
+use survey::Survey;
+
+// What the call replies: the number of units of the ring that was written, that there is none, or the number of a refusal.
+pub enum Shown {
+    Ring(u16),
+    NoRing,
+    Refused(u8),
+}
+
+// What it hands back: the state, and beside it its reply.
+pub struct Answer {
+    pub survey: Survey,
+    pub reply: Shown,
+}
+
+impl Answer {
+    // The number of the reply: 0 where the call was not refused.
+    pub fn number(self) -> u8
+        ensures { λ r. ⌜ r ≡ numberOf (self .reply) ⌝ }
+    {
+        let reply = self.reply;
+        match reply {
+            Shown::Refused(number) => number,
+            Shown::NoRing => 0,
+            Shown::Ring(_) => 0,
+        }
+    }
+}
+
+// The number of the first cause among 10, 12, 13, 14.
+fn refusal(s: Survey, first: u16, second: u16, places: usize) -> u8
+    ensures { λ r. ⌜ r ≡ shownRefusal first second places (of s) ⌝ }
+{
+    if !s.well_formed() {
+        return 10;
+    }
+    if s.clock.stage != Clock::FINISHED {
+        return 12;
+    }
+    if s.table.links <= first {
+        return 13;
+    }
+    if s.table.links <= second {
+        return 13;
+    }
+    if places < s.table.units as usize {
+        return 14;
+    }
+    0
+}
+
+// Marks by which every link counts.
+fn unmarked() -> [u8; 1]
+    ensures { λ r. ⌜ ((j : ℕ) → getD r j 0 ≡ 0) ⌝ }
+{
+    [0; 1]
+}
+
+// A table for the ring.
+fn blank() -> [u16; 256]
+    ensures { λ r. ⌜ length r ≡ 256 ⌝ }
+{
+    [0; 256]
+}
+
+// The first so many words of `ring` at the front of `out`.
+fn lay<'a>(count: u16, ring: &'a [u16], out: &mut [u16])
+    ensures { λ _. ⌜ now (out .exit) ≡ over count (λ (i : ℕ). getD (now (ring .entry)) i 0) (now (out .entry)) ⌝ }
+{
+    let mut v = 0;
+    while v < count {
+        let i = v as usize;
+        slices::put(out, i, slices::word(ring, i));
+        v += 1;
+    }
+}
+
+// The units of a ring that holds both links at the front of `out`, the two ends of the first link before the others: 10, 12, 13, 14. Words past the ring
+// stay, and all of them where there is none.
+pub fn show(survey: Survey, first: u16, second: u16, out: &mut [u16]) -> Answer
+    ensures { λ r. ⌜ ShownRight first second (of survey) (now (out .entry)) (answerOf r) (now (out .exit)) ⌝ }
+{
+    let refused = refusal(survey, first, second, out.len());
+    if refused != 0 {
+        return Answer {
+            survey,
+            reply: Shown::Refused(refused),
+        };
+    }
+    let marks = unmarked();
+    let mut found = blank();
+    let count = showing::ring(
+        &marks,
+        survey.table.units,
+        survey.table.links,
+        &survey.table.ends,
+        first,
+        second,
+        &mut found,
+    );
+    if count == 0 {
+        return Answer {
+            survey,
+            reply: Shown::NoRing,
+        };
+    }
+    lay(count, &found, out);
+    Answer {
+        survey,
+        reply: Shown::Ring(count),
+    }
+}
