@@ -1,0 +1,13 @@
+-- One mark, and none past it.
+use Rattle.ring.specs.Present.{one-sure}
+use Rattle.doubtful.proofs.unmarked.Statement.{statement}
+use Rattle.doubtful.proofs.unmarked.Tie as tie
+
+returns : tie.Need-returns
+returns c = λ j. one-sure j
+
+pub unmarked-spec : {M : Type 1} → statement M
+unmarked-spec =
+    tie.close
+    (tie.spec
+    returns)

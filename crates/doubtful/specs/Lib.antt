@@ -1,0 +1,4 @@
+pub mod Settings
+pub mod Doubtful
+pub mod DoubtRight
+pub mod DoubtRightProof

@@ -1,0 +1,257 @@
+// Asks for the verdict on each two links of each case of each stream that an argument names: a line with, for each question, 2 always, 1 perhaps, 0 never, or
+// the number of a refusal. "fault" stands for a stream that is none.
+use doubtful::Verdict;
+use libc::STDOUT_FILENO;
+use streams::Cursor;
+use streams::text;
+use survey::Survey;
+
+// A survey, and the cursor after its table and its budget.
+struct Site {
+    survey: Survey,
+    cursor: Cursor,
+}
+
+// What is printed for a question, and the cursor after it.
+struct Said {
+    number: u32,
+    cursor: Cursor,
+}
+
+// The next words, as many as `count`; those that have no room are left out.
+fn list(stream: &[u8], cursor: Cursor, count: u32, words: &mut [u16]) -> Cursor {
+    let mut c = cursor;
+    let mut i: u32 = 0;
+    while i < count {
+        let next = streams::next_number(stream, c);
+        slices::put(words, i as usize, (next.value % 65536) as u16);
+        let after = next.cursor;
+        c = after;
+        i += 1;
+    }
+    c
+}
+
+fn put(levels: &mut [i16], i: usize, level: i16) {
+    if i < levels.len() {
+        levels[i] = level;
+    }
+}
+
+// The next levels, in the same way.
+fn heights(stream: &[u8], cursor: Cursor, count: u32, levels: &mut [i16]) -> Cursor {
+    let mut c = cursor;
+    let mut i: u32 = 0;
+    while i < count {
+        let next = streams::next_level(stream, c);
+        put(levels, i as usize, next.value);
+        let after = next.cursor;
+        c = after;
+        i += 1;
+    }
+    c
+}
+
+fn say(line: &[u8], end: usize) {
+    if line.len() < end {
+        return;
+    }
+    io::write_all(STDOUT_FILENO, &line[..end]);
+}
+
+// The next marks, in the same way.
+fn bytes(stream: &[u8], cursor: Cursor, count: u32, marks: &mut [u8]) -> Cursor {
+    let mut c = cursor;
+    let mut i: u32 = 0;
+    while i < count {
+        let next = streams::next_number(stream, c);
+        slices::put_byte(marks, i as usize, (next.value % 256) as u8);
+        let after = next.cursor;
+        c = after;
+        i += 1;
+    }
+    c
+}
+
+// The number to be printed for a reply.
+fn told(reply: Verdict) -> u32 {
+    match reply {
+        Verdict::Refused(number) => number as u32,
+        Verdict::Always => 2,
+        Verdict::Perhaps => 1,
+        Verdict::Never => 0,
+    }
+}
+
+// The call, on so many marks.
+fn lend(survey: Survey, first: u16, second: u16, marks: &[u8], count: usize) -> u32 {
+    if marks.len() < count {
+        return 97;
+    }
+    let answer = doubtful::doubt(survey, first, second, &marks[..count]);
+    let reply = answer.reply;
+    told(reply)
+}
+
+// The survey of a table on so many words and so many levels.
+fn loaded<'a>(
+    units: u16,
+    words: &'a [u16],
+    count: usize,
+    levels: &'a [i16],
+    links: usize,
+) -> Survey {
+    if words.len() < count {
+        return Survey::new();
+    }
+    if levels.len() < links {
+        return Survey::new();
+    }
+    let answer = Survey::new().load_stored(units, &words[..count], &levels[..links]);
+    answer.survey
+}
+
+// After at most `budget` rounds.
+fn run(survey: Survey, budget: u16) -> Survey {
+    if budget == 0 {
+        return survey;
+    }
+    let answer = survey.run(budget);
+    answer.survey
+}
+
+// A number, after a space where it is not the first.
+fn put_number(i: u32, number: u32, at: usize, line: &mut [u8]) -> usize {
+    if i == 0 {
+        return text::number(number, at, line);
+    }
+    let after = text::byte(32, at, line);
+    text::number(number, after, line)
+}
+
+// A question: the first position, the second.
+fn question<'a>(
+    stream: &'a [u8],
+    cursor: Cursor,
+    survey: Survey,
+    marks: &'a [u8],
+    marked: usize,
+) -> Said {
+    let first = streams::next_number(stream, cursor);
+    let second = streams::next_number(stream, first.cursor);
+    let number = lend(
+        survey,
+        (first.value % 65536) as u16,
+        (second.value % 65536) as u16,
+        marks,
+        marked,
+    );
+    let cursor = second.cursor;
+    Said { number, cursor }
+}
+
+// The line of all questions.
+fn questions<'a>(
+    stream: &'a [u8],
+    cursor: Cursor,
+    count: u32,
+    survey: Survey,
+    marks: &'a [u8],
+    marked: usize,
+    line: &mut [u8],
+) -> Cursor {
+    let mut end: usize = 0;
+    let mut c = cursor;
+    let mut i: u32 = 0;
+    while i < count {
+        let said = question(stream, c, survey, marks, marked);
+        end = put_number(i, said.number, end, line);
+        let after = said.cursor;
+        c = after;
+        i += 1;
+    }
+    end = text::byte(10, end, line);
+    say(line, end);
+    c
+}
+
+// The first part of a case: the unit count, the list of words, the list of levels, the budget.
+fn survey_of(stream: &[u8], cursor: Cursor) -> Site {
+    let units = streams::next_number(stream, cursor);
+    let count = streams::next_number(stream, units.cursor);
+    let mut words = [0u16; 2048];
+    let after = list(stream, count.cursor, count.value, &mut words);
+    let links = streams::next_number(stream, after);
+    let mut levels = [0i16; 1024];
+    let last = heights(stream, links.cursor, links.value, &mut levels);
+    let budget = streams::next_number(stream, last);
+    let first = loaded(
+        (units.value % 65536) as u16,
+        &words,
+        count.value as usize,
+        &levels,
+        links.value as usize,
+    );
+    let survey = run(first, (budget.value % 65536) as u16);
+    let cursor = budget.cursor;
+    Site { survey, cursor }
+}
+
+// A case: the survey, the list of marks, the questions.
+fn case(stream: &[u8], cursor: Cursor) -> Cursor {
+    let site = survey_of(stream, cursor);
+    let marked = streams::next_number(stream, site.cursor);
+    let mut marks = [0u8; 2048];
+    let after = bytes(stream, marked.cursor, marked.value, &mut marks);
+    let total = streams::next_number(stream, after);
+    let mut line = io::buffer();
+    questions(
+        stream,
+        total.cursor,
+        total.value,
+        site.survey,
+        &marks,
+        marked.value as usize,
+        &mut line,
+    )
+}
+
+// Every case of a stream, which begins with how many there are.
+fn cases(stream: &[u8]) {
+    let count = streams::next_number(stream, streams::begin());
+    let total = count.value;
+    let first = count.cursor;
+    let mut c = first;
+    let mut i: u32 = 0;
+    while i < total {
+        c = case(stream, c);
+        i += 1;
+    }
+    if !streams::ended(stream, c) {
+        io::write_all(STDOUT_FILENO, b"fault\n");
+    }
+}
+
+// The file of argument `i`.
+fn one(i: usize) {
+    let mut name = io::buffer();
+    let length = os::arg(i, &mut name);
+    let fd = os::open_read(&name[..length]);
+    if fd < 0 {
+        os::fail(&name[..length]);
+        return;
+    }
+    let mut input = io::large_buffer();
+    let got = io::read_full(fd, &mut input);
+    libc::close(fd);
+    cases(&input[..got]);
+}
+
+fn main() {
+    let count = os::arg_count();
+    let mut i = 1;
+    while i < count {
+        one(i);
+        i += 1;
+    }
+}
