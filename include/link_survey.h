@@ -37,19 +37,21 @@
  * The version of these declarations: it grows with each change. 3 has link_survey_read and link_survey_write; 4 has
  * levels: link_survey_load, link_survey_read and link_survey_write take them, and a state has 1,024 words more; 5 has
  * link_survey_foreman_line and link_survey_service_line; 6 has seats: link_survey_seat_load and link_survey_tick; 7 has
- * link_survey_load_stored, and link_survey_load, link_survey_seat_load and link_survey_write refuse with 22.
+ * link_survey_load_stored, and link_survey_load, link_survey_seat_load and link_survey_write refuse with 22; 8 has
+ * link_survey_load_planned, and a state has 257 words more.
  */
-#define LINK_SURVEY_VERSION 7
+#define LINK_SURVEY_VERSION 8
 
 /*
  * The words of a state, lent by the caller to every call on a state (all but link_survey_report, link_survey_read and
  * link_survey_write): units, links, the ends of the links (2,048); stage, rounds made in the stage, all rounds,
- * requests; then the tables of the stages, each whole, in the order of crates/words/specs/Layout.antt; last the levels
- * of the links (1,024), each as its 16 bits in two's complement, 0 past the links after a load. Any words are a state.
+ * requests; then the tables of the stages, each whole, in the order of crates/words/specs/Layout.antt; the levels of the
+ * links (1,024), each as its 16 bits in two's complement, 0 past the links after a load; last the parents that the planner
+ * drew (256), absent without a plan, and whether a plan was given, any number but 0. Any words are a state.
  * One whose words are out of their bounds is "not kept", and refused with 10 by all calls on a state but
- * link_survey_load and link_survey_load_stored. Before the first load the words may hold anything; all zeros are not kept.
+ * the loads. Before the first load the words may hold anything; all zeros are not kept.
  */
-#define LINK_SURVEY_STATE_WORDS 12038
+#define LINK_SURVEY_STATE_WORDS 12295
 
 /* The limits of a site, and the rounds that no survey exceeds. */
 #define LINK_SURVEY_MAX_UNITS 256
@@ -213,6 +215,18 @@ uint32_t link_survey_load(uint16_t state[LINK_SURVEY_STATE_WORDS], uint16_t unit
  */
 uint32_t link_survey_load_stored(uint16_t state[LINK_SURVEY_STATE_WORDS], uint16_t units, const uint16_t *table,
                                  size_t table_len, const int16_t *levels, size_t levels_len);
+
+/*
+ * Load a fresh table with a tree drawn by the planner, which takes the place of the survey's own: stage 2 takes it over
+ * in one round. Labels, lone links and single points are those of the same table without it.
+ *
+ * parents  the parent of each unit, 65535 for none: as many words as there are units. A unit that is the least of those
+ *          linked up with it has none; any other's is a neighbour, and its parents lead up to that least unit.
+ * returns  4, 5, 6, 15, 16, 7, 8, 9, 17, 18, 22, or 0.
+ */
+uint32_t link_survey_load_planned(uint16_t state[LINK_SURVEY_STATE_WORDS], uint16_t units, const uint16_t *table,
+                                  size_t table_len, const int16_t *levels, size_t levels_len, const uint16_t *parents,
+                                  size_t parents_len);
 
 /*
  * Make one round.

@@ -33,6 +33,16 @@ unsafe extern "C" {
         levels: *const i16,
         levels_len: usize,
     ) -> u32;
+    fn link_survey_load_planned(
+        state: *mut u16,
+        units: u16,
+        table: *const u16,
+        table_len: usize,
+        levels: *const i16,
+        levels_len: usize,
+        parents: *const u16,
+        parents_len: usize,
+    ) -> u32;
     fn link_survey_round(state: *mut u16) -> u32;
     fn link_survey_run(state: *mut u16, budget: u16, made: *mut u16) -> u32;
     fn link_survey_status(state: *const u16, reply: *mut u16) -> u32;
@@ -77,6 +87,12 @@ pub fn load_stored(state: &mut State, units: u16, table: &[u16], levels: &[i16])
     unsafe { link_survey_load_stored(state.as_mut_ptr(), units, table.as_ptr(), table.len(), levels.as_ptr(), levels.len()) }
 }
 
+pub fn load_planned(state: &mut State, units: u16, table: &[u16], levels: &[i16], parents: &[u16]) -> u32 {
+    let (words, len) = (table.as_ptr(), table.len());
+    let (heights, links) = (levels.as_ptr(), levels.len());
+    unsafe { link_survey_load_planned(state.as_mut_ptr(), units, words, len, heights, links, parents.as_ptr(), parents.len()) }
+}
+
 pub fn round(state: &mut State) -> u32 {
     unsafe { link_survey_round(state.as_mut_ptr()) }
 }
@@ -109,7 +125,7 @@ pub fn service_line(state: &State, out: &mut [u8]) -> u32 {
     unsafe { link_survey_service_line(state.as_ptr(), out.as_mut_ptr(), out.len()) }
 }
 
-pub const PROVED: Calls = Calls { report, read, write, load, load_stored, round, run, status, unit, link, state_report, foreman_line, service_line };
+pub const PROVED: Calls = Calls { report, read, write, load, load_stored, load_planned, round, run, status, unit, link, state_report, foreman_line, service_line };
 
 fn seat_load(seats: &mut Seats, seat: u16, units: u16, table: &[u16], levels: &[i16]) -> u32 {
     unsafe { link_survey_seat_load(seats, seat, units, table.as_ptr(), table.len(), levels.as_ptr(), levels.len()) }

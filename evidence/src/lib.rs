@@ -12,6 +12,7 @@ mod handsets;
 mod kept;
 mod levels;
 pub mod parts;
+mod plan;
 mod refusal;
 mod report;
 mod stages;
@@ -41,6 +42,7 @@ pub use levels::{HIGHEST_LEVEL, LOWEST_LEVEL, byte_of_level, level_of_byte, leve
 pub use refusal::Refusal;
 pub use report::{MAX_INPUT, report_length, report_of_file};
 pub use survey::Survey;
+pub use plan::check_plan;
 pub use table::{check_fresh, check_table};
 
 /// The mark "absent". It compares as this number.

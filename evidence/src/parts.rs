@@ -20,7 +20,7 @@ pub enum Entry {
 pub type Part<'a> = (&'static str, Entry, &'a [u16]);
 pub type PartMut<'a> = (&'static str, Entry, &'a mut [u16]);
 
-const PARTS: usize = 29;
+const PARTS: usize = 31;
 
 // The order of the words, written once for both ways of lending.
 macro_rules! parts {
@@ -55,13 +55,15 @@ macro_rules! parts {
             ("class", Entry::Unit, $($lend)+ $s.class),
             ("label", Entry::Position, $($lend)+ $s.label),
             ("levels", Entry::Level, $($lend)+ $s.levels),
+            ("plan", Entry::Unit, $($lend)+ $s.plan),
+            ("given", Entry::Number, $one($($lend)+ $s.given)),
         ]
     };
 }
 
 impl Survey {
     /// The words of a state.
-    pub const WORDS: usize = 12_038;
+    pub const WORDS: usize = 12_295;
 
     pub fn parts(&self) -> [Part<'_>; PARTS] {
         parts!(self, from_ref, as_flattened, &)

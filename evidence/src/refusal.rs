@@ -18,6 +18,8 @@ pub enum Refusal {
     TooShort = 14,
     LevelsDiffer = 15,
     LevelOutside = 16,
+    ParentsDiffer = 17,
+    PlanUnfit = 18,
     UnlinkedUnit = 22,
 }
 

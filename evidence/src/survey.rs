@@ -1,6 +1,6 @@
 //! The state of a survey and its load.
 
-use crate::{ABSENT, HIGHEST_LEVEL, MAX_LINKS, MAX_UNITS, Refusal, check_fresh, check_table, word_of_level};
+use crate::{ABSENT, HIGHEST_LEVEL, MAX_LINKS, MAX_UNITS, Refusal, check_fresh, check_plan, check_table, word_of_level};
 
 const UNITS: usize = MAX_UNITS;
 /// Directed tree links, document 01's list places: 2v is the one into v, 2v + 1 the one out of v.
@@ -47,6 +47,9 @@ pub struct Survey {
     pub label: [u16; LINKS],
     /// Each level as its word.
     pub levels: [u16; LINKS],
+    /// Parents drawn by the planner (T-05), and whether they were given: any number but 0.
+    pub plan: [u16; UNITS],
+    pub given: u16,
 }
 
 impl Survey {
@@ -85,6 +88,8 @@ impl Survey {
             class: [ABSENT; LINKS],
             label: [ABSENT; LINKS],
             levels: [word_of_level(HIGHEST_LEVEL); LINKS],
+            plan: [ABSENT; UNITS],
+            given: 0,
         }
     }
 
@@ -99,6 +104,17 @@ impl Survey {
     pub fn load_stored(&mut self, units: u16, table: &[u16], levels: &[i16]) -> Result<(), Refusal> {
         check_table(units, table, levels)?;
         self.begin(units, table, levels);
+        Ok(())
+    }
+
+    /// With a tree drawn by the planner. Refused with 4, 5, 6, 15, 16, 7, 8, 9, 17, 18, 22.
+    pub fn load_planned(&mut self, units: u16, table: &[u16], levels: &[i16], parents: &[u16]) -> Result<(), Refusal> {
+        check_table(units, table, levels)?;
+        check_plan(units, table, parents)?;
+        check_fresh(units, table, levels)?;
+        self.begin(units, table, levels);
+        self.plan[..parents.len()].copy_from_slice(parents);
+        self.given = 1;
         Ok(())
     }
 

@@ -19,6 +19,9 @@ pub type ReadCall = fn(&[u8], &mut [u16], &mut [i16], &mut u16, &mut u16) -> u32
 /// A unit count, a table and its levels to the words of a state.
 pub type LoadCall = fn(&mut State, u16, &[u16], &[i16]) -> u32;
 
+/// The same with a table of parents.
+pub type PlannedLoadCall = fn(&mut State, u16, &[u16], &[i16], &[u16]) -> u32;
+
 /// One side's calls.
 #[derive(Clone, Copy)]
 pub struct Calls {
@@ -27,6 +30,7 @@ pub struct Calls {
     pub write: fn(u16, &[u16], &[i16], &mut [u8]) -> u32,
     pub load: LoadCall,
     pub load_stored: LoadCall,
+    pub load_planned: PlannedLoadCall,
     pub round: fn(&mut State) -> u32,
     pub run: fn(&mut State, u16, &mut u16) -> u32,
     pub status: fn(&State, &mut StatusReply) -> u32,
@@ -37,7 +41,7 @@ pub struct Calls {
     pub service_line: fn(&State, &mut [u8]) -> u32,
 }
 
-pub const PLAIN: Calls = Calls { report, read, write, load, load_stored, round, run, status, unit, link, state_report, foreman_line, service_line };
+pub const PLAIN: Calls = Calls { report, read, write, load, load_stored, load_planned, round, run, status, unit, link, state_report, foreman_line, service_line };
 
 fn number(answer: Result<(), Refusal>) -> u32 {
     match answer {
@@ -80,6 +84,16 @@ pub fn load_stored(state: &mut State, units: u16, table: &[u16], levels: &[i16])
     number((|| {
         let mut survey = Survey::new();
         survey.load_stored(units, table, levels)?;
+        survey.write_words(state);
+        Ok(())
+    })())
+}
+
+/// With a tree drawn by the planner. Refused with 4, 5, 6, 15, 16, 7, 8, 9, 17, 18, 22.
+pub fn load_planned(state: &mut State, units: u16, table: &[u16], levels: &[i16], parents: &[u16]) -> u32 {
+    number((|| {
+        let mut survey = Survey::new();
+        survey.load_planned(units, table, levels, parents)?;
         survey.write_words(state);
         Ok(())
     })())

@@ -91,7 +91,8 @@ fn words_there_and_back() {
         let words = survey.to_words();
         same(&Survey::from_words(&words), &survey, "words");
         assert_eq!((words[0], words[1], words[2050], words[2053]), (survey.units, survey.links, survey.stage, survey.requests));
-        assert_eq!((words.len(), &words[11014..]), (12038, &survey.levels[..]));
+        assert_eq!((words.len(), &words[11014..12038]), (12295, &survey.levels[..]));
+        assert_eq!((&words[12038..12294], words[12294]), (&survey.plan[..], survey.given));
     }
 }
 
@@ -146,7 +147,7 @@ fn every_entry_is_judged() {
         // a level is -127 to 0, all else but the requests at most 2,048
         let outside = match i {
             2053 => [8159, 65534],
-            11014.. => [1, word_of_level(-128)],
+            11014..12038 => [1, word_of_level(-128)],
             _ => [2049, 65534],
         };
         for out in outside {

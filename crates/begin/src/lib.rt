@@ -5,6 +5,7 @@ use state::Components;
 use state::Global;
 use state::Labels;
 use state::Order;
+use state::Plan;
 use state::Range;
 use state::Ranking;
 use state::Table;
@@ -14,7 +15,7 @@ ghost use mathlib.Core.Path.{_≡_};
 ghost use mathlib.Core.List.{_++_};
 ghost use Prim.Native.Nat.{_≤_, min};
 ghost use lib.ListN.{length, drop, take};
-ghost use Rattle.machine.specs.Load.{absents, silences, firstClock, blankComponents, blankTree, blankTour, blankRanking, blankOrder, blankRange, blankGlobal, blankAux, blankLabels, endsOf, levelsOf, tableOf};
+ghost use Rattle.machine.specs.Load.{absents, silences, firstClock, blankComponents, blankPlan, blankTree, blankTour, blankRanking, blankOrder, blankRange, blankGlobal, blankAux, blankLabels, endsOf, levelsOf, tableOf, parentsOf, planOf};
 
 // The table of links, from its first 2,048 words and its first 1,024 levels.
 pub fn table(units: u16, words: &[u16], levels: &[i16]) -> Table
@@ -112,6 +113,42 @@ pub fn components() -> Components
     Components {
         color: [65535; 256],
     }
+}
+
+// No tree of the planner's.
+pub fn unplanned() -> Plan
+    ensures { λ r. ⌜ r ≡ blankPlan ⌝ }
+{
+    Plan {
+        given: 0,
+        parent: [65535; 256],
+    }
+}
+
+// A tree of the planner's, from its first 256 parents.
+pub fn plan(parents: &[u16]) -> Plan
+    ensures { λ r. ⌜ r ≡ planOf (take 256 (now (parents .entry))) ⌝ }
+{
+    Plan {
+        given: 1,
+        parent: drawn(parents),
+    }
+}
+
+// The parents in an array, absent past the last.
+fn drawn(parents: &[u16]) -> [u16; 256]
+    ensures { λ r. ⌜ r ≡ parentsOf (take 256 (now (parents .entry))) ⌝ }
+{
+    let mut drawn = orphans();
+    let count = held(256, parents.len());
+    copy_in(&parents[..count], &mut drawn);
+    drawn
+}
+
+fn orphans() -> [u16; 256]
+    ensures { λ r. ⌜ r ≡ absents 256 ⌝ }
+{
+    [65535; 256]
 }
 
 // Stage 2.

@@ -13,14 +13,16 @@ use Rattle.machine.specs.Load.{Input, linksIn}
 use Rattle.machine.specs.Step.{steps, countdown}
 use Rattle.machine.specs.RunLaws.{Total, total}
 use Rattle.machine.specs.Report.{unitColor, unitParent, unitPlace, unitSingle, linkLabel, linkLone, flag, reportLength}
-use Rattle.machine.specs.Calls.{loadAnswer, storedLoadAnswer, statusAnswer, unitAnswer, linkAnswer, reportAnswer, reported}
+use Rattle.machine.specs.Calls.{loadAnswer, storedLoadAnswer, plannedLoadAnswer, statusAnswer, unitAnswer, linkAnswer, reportAnswer, reported}
 use Rattle.reach.specs.Reach.{SurveyRight}
 use Rattle.claim.specs.Play.{Call, play, used, asked}
 
--- some load, called on any state whatever, was not refused and handed back s: load, or that of a stored table (document 02, T-10)
+-- some load, called on any state whatever, was not refused and handed back s: load, that of a stored table (document 02, T-10), or that with a planner's table
+-- of parents (T-05)
 pub data Loaded (input : Input) (s : State) : Type 0 where
   fresh : (given : State) → loadAnswer input given ≡ record { state = s; reply = Done } → Loaded input s
   stored : (given : State) → storedLoadAnswer input given ≡ record { state = s; reply = Done } → Loaded input s
+  planned : (parents : List ℕ) (given : State) → plannedLoadAnswer input parents given ≡ record { state = s; reply = Done } → Loaded input s
 
 -- the line of a report that carries an answer
 abbrev pub lineFor : Reply → List ℕ

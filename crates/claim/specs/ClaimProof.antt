@@ -15,18 +15,19 @@ use Rattle.frames.specs.Bodies.{headBody}
 use Rattle.state.specs.declared.reply.Reply.the-variants.{Done, Status, Unit, Link, Written}
 use Rattle.machine.specs.State.{State, units, links, finished, FINISHED}
 use Rattle.machine.specs.WellFormed.{wellFormed}
-use Rattle.machine.specs.Load.{Input, linksIn, loadRefusal, storedLoadRefusal, tableOf, loaded}
+use Rattle.machine.specs.Load.{Input, linksIn, loadRefusal, storedLoadRefusal, tableOf, loaded, plannedLoadRefusal, plannedLoaded}
 use Rattle.machine.specs.LoadLaws.{load-accepted}
 use Rattle.machine.specs.Step.{step, steps, countdown}
 use Rattle.machine.specs.RunLaws.{total, total-least, total-countdown, ended-exact, steps-wellFormed}
 use Rattle.machine.specs.Report.{unitColor, unitParent, unitPlace, unitSingle, linkLabel, linkLone, report, reportLength, headLine, unitLine, linkLine}
 use Rattle.machine.specs.ReportLaws.{head-at, unit-at, link-at}
-use Rattle.machine.specs.Calls.{Answer, numberOf, answered, loadAnswer, storedLoadAnswer, statusAnswer, statusRefusal, questionRefusal, unitAnswer, unitRefusal, linkAnswer, linkRefusal, reportAnswer, reportRefusal, reported}
+use Rattle.machine.specs.Calls.{Answer, numberOf, answered, loadAnswer, storedLoadAnswer, plannedLoadAnswer, statusAnswer, statusRefusal, questionRefusal, unitAnswer, unitRefusal, linkAnswer, linkRefusal, reportAnswer, reportRefusal, reported}
 use Rattle.reach.specs.Started.{Started, loaded-started}
+use Rattle.reach.specs.PlannedStart.{planned-started}
 use Rattle.reach.specs.Reach.{survey-right, table-steps, rounds-steps}
 use Rattle.claim.specs.Play.{Call, play, used, asked}
 use Rattle.claim.specs.PlayLaws.{Spent, play-spent}
-use Rattle.claim.specs.Claim.{Loaded, fresh, stored, lineFor, EndRight, Claim, Demand3}
+use Rattle.claim.specs.Claim.{Loaded, fresh, stored, planned, lineFor, EndRight, Claim, Demand3}
 
 -- ---- every load starts a survey
 
@@ -40,13 +41,16 @@ answer-done k given after s a = go (either (eqb k 0))
 
 -- every load starts a survey
 pub started : (input : Input) (s : State) → Loaded input s → Started input s
-unfolding loadAnswer storedLoadAnswer
+unfolding loadAnswer storedLoadAnswer plannedLoadAnswer
 started input s (fresh given a) =
     let (accepted, q) = answer-done (loadRefusal input) given (loaded input) s a in
     rw q (loaded-started input (load-accepted input accepted))
 started input s (stored given a) =
     let (accepted, q) = answer-done (storedLoadRefusal input) given (loaded input) s a in
     rw q (loaded-started input accepted)
+started input s (planned parents given a) =
+    let (accepted, q) = answer-done (plannedLoadRefusal input parents) given (plannedLoaded input parents) s a in
+    rw q (planned-started input parents accepted)
 
 -- ---- a list of calls from a start
 

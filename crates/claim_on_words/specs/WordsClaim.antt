@@ -9,7 +9,7 @@ use Rattle.machine.specs.Load.{Input, linksIn}
 use Rattle.machine.specs.Step.{countdown}
 use Rattle.machine.specs.RunLaws.{total}
 use Rattle.machine.specs.Report.{unitColor, unitParent, unitPlace, unitSingle, linkLabel, linkLone, flag, reportLength}
-use Rattle.machine.specs.Calls.{Answer, numberOf, loadAnswer, storedLoadAnswer, reported}
+use Rattle.machine.specs.Calls.{Answer, numberOf, loadAnswer, storedLoadAnswer, plannedLoadAnswer, reported}
 use Rattle.words.specs.Layout.{stateOf}
 use Rattle.claim.specs.Play.{Call, round, run, status, unit, link, report}
 use Rattle.claim.specs.Claim.{EndRight, Claim}
@@ -19,10 +19,12 @@ use Rattle.claim_on_words.specs.Exchange.{Exchange, CallsMade, callsOf, 
 abbrev pub DoneOn : Answer → List ℕ → Type 0
 DoneOn answer words = (0 ≡ numberOf (answer .reply)) × (stateOf words ≡ answer .state)
 
--- some load, called on any words whatever, gave back 0 and left these: load, or that of a stored table (document 02, T-10)
+-- some load, called on any words whatever, gave back 0 and left these: load, that of a stored table (document 02, T-10), or that with a planner's
+-- table of parents (T-05)
 pub data LoadedWords (input : Input) (words : List ℕ) : Type 0 where
   fresh : (given : List ℕ) → DoneOn (loadAnswer input (stateOf given)) words → LoadedWords input words
   stored : (given : List ℕ) → DoneOn (storedLoadAnswer input (stateOf given)) words → LoadedWords input words
+  planned : (parents given : List ℕ) → DoneOn (plannedLoadAnswer input parents (stateOf given)) words → LoadedWords input words
 
 -- DEMAND 3, on words. For every table that a load accepts and every list of calls from the words that it left: the words after the list are the state after
 -- the rounds used, counted from what C got back, and all else that the claim says.

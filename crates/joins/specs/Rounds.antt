@@ -24,7 +24,7 @@ unfoldable pub one : ℕ → ℕ → List ℕ → List ℕ → List ℕ → List
 one n m ends parent nd pre low high x =
     record {
       parents = parentJoinsRound n parent nd pre low high (x .parents);
-      links = linkJoinsRound m ends parent (x .links);
+      links = linkJoinsRound m ends parent nd pre (x .links);
       clock = nextClock (lastAt n true (x .clock)) 0 (x .clock);
       made = x .made + 1;
     }

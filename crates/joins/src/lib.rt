@@ -5,11 +5,10 @@ use values::bounds;
 use values::tables;
 ghost use mathlib.Core.Path.{_≡_};
 ghost use Prim.Native.Nat.{_+_, _≤_, _<_};
-ghost use lib.Dec.{leb};
-ghost use mathlib.Core.Bool.{cond};
-ghost use Rattle.rules.specs.Basics.{offTree};
+ghost use lib.Dec.{leb, ltb};
+ghost use mathlib.Core.Bool.{cond, _&&_};
 ghost use Rattle.rules.specs.Fits.{EndsWithin};
-ghost use Rattle.rules.specs.Aux.{linkJoinsRound, joinsParent, parentJoinsRound};
+ghost use Rattle.rules.specs.Aux.{joinsEnds, linkJoinsRound, joinsParent, parentJoinsRound};
 ghost use Rattle.machine.specs.StageRun.{stageRun};
 ghost use Rattle.joins.specs.Rounds.{on, one};
 
@@ -47,7 +46,7 @@ pub fn run<'a>(
     let mut made: u16 = 0;
     while clock::goes_on(fits, units, 8, made, budget, c) {
         let new = parent_joins(units, parent, nd, pre, low, high, upward);
-        let new_links = link_joins(units, links, ends, parent, across);
+        let new_links = link_joins(units, links, ends, parent, nd, pre, across);
         let after = clock::ticked(units, 8, true, 0, c);
         upward = new;
         across = new_links;
@@ -68,10 +67,12 @@ fn link_joins<'a>(
     links: u16,
     ends: &'a [u16; 2048],
     parent: &'a [u16; 256],
+    nd: &'a [u16; 256],
+    pre: &'a [u16; 256],
     marks: [u16; 1024],
 ) -> [u16; 1024]
     requires { ⌜ (units ≤ 256) × (links ≤ 1024) × EndsWithin units links (now ends) ⌝ }
-    ensures { λ r. ⌜ r ≡ linkJoinsRound links (now (ends .entry)) (now (parent .entry)) marks ⌝ }
+    ensures { λ r. ⌜ r ≡ linkJoinsRound links (now (ends .entry)) (now (parent .entry)) (now (nd .entry)) (now (pre .entry)) marks ⌝ }
 {
     let mut new = marks;
     let mut j = 0;
@@ -79,19 +80,37 @@ fn link_joins<'a>(
         let at = j as usize;
         let a = ends[2 * at];
         let b = ends[2 * at + 1];
-        new[at] = link_join(parent, a, b);
+        new[at] = link_join(parent, nd, pre, a, b);
         j += 1;
     }
     new
 }
 
-// 1 where a link of two units is off the tree, else 0.
-fn link_join(parent: &[u16; 256], a: u16, b: u16) -> u16
+// 1 where a link of two units is off the tree and neither is the other's ancestor, else 0.
+fn link_join<'a>(
+    parent: &'a [u16; 256],
+    nd: &'a [u16; 256],
+    pre: &'a [u16; 256],
+    a: u16,
+    b: u16,
+) -> u16
     requires { ⌜ (a < 256) × (b < 256) ⌝ }
-    ensures { λ r. ⌜ r ≡ cond (offTree (now (parent .entry)) a b) 1 0 ⌝ }
+    ensures { λ r. ⌜ r ≡ cond (joinsEnds (now (parent .entry)) (now (nd .entry)) (now (pre .entry)) a b) 1 0 ⌝ }
 {
     let off = values::both(parent[a as usize] != b, parent[b as usize] != a);
-    values::choose(off, 1, 0)
+    let here = pre[a as usize];
+    let there = pre[b as usize];
+    let above = within(here, nd[a as usize], there);
+    let below = within(there, nd[b as usize], here);
+    let apart = values::both(values::both(off, !above), !below);
+    values::choose(apart, 1, 0)
+}
+
+// Whether a place is among the `nd` places from `place` on: those of a unit and its descendants.
+fn within(place: u16, nd: u16, other: u16) -> bool
+    ensures { λ r. ⌜ r ≡ (leb place other && ltb other (place + nd)) ⌝ }
+{
+    values::both(place <= other, (other as u32) < place as u32 + nd as u32)
 }
 
 // 1 for each unit that joins its parent, else 0.

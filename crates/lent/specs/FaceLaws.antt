@@ -2,14 +2,15 @@
 use mathlib.Core.Path.{_≡_, refl, sym}
 use mathlib.Core.Bool.{true, false, cond}
 use mathlib.Core.Logic.{_⊎_, inl, inr}
+use mathlib.Core.List.{List}
 use Prim.Native.Nat.{ℕ}
 use lib.Dec.{eqb}
 use borrow.Author.Tests.{eqb-true}
 use Rattle.lists.specs.Tests.{either}
 use Rattle.state.specs.declared.reply.Reply.the-variants.{Done}
 use Rattle.machine.specs.State.{State}
-use Rattle.machine.specs.Load.{Input, loadRefusal, storedLoadRefusal, loaded}
-use Rattle.machine.specs.Calls.{numberOf, answered, loadAnswer, storedLoadAnswer}
+use Rattle.machine.specs.Load.{Input, loadRefusal, storedLoadRefusal, loaded, plannedLoadRefusal, plannedLoaded}
+use Rattle.machine.specs.Calls.{numberOf, answered, loadAnswer, storedLoadAnswer, plannedLoadAnswer}
 
 -- of any load
 module _ (k : ℕ) (s after : State) where
@@ -43,3 +44,12 @@ module _ (input : Input) (s : State) where
   pub stored-load-state : storedLoadAnswer input s .state ≡ cond (eqb (storedLoadRefusal input) 0) (loaded input) s
   unfolding storedLoadAnswer
   stored-load-state = done-state (storedLoadRefusal input) s (loaded input)
+
+module _ (input : Input) (parents : List ℕ) (s : State) where
+  pub planned-load-number : numberOf (plannedLoadAnswer input parents s .reply) ≡ plannedLoadRefusal input parents
+  unfolding plannedLoadAnswer
+  planned-load-number = done-number (plannedLoadRefusal input parents) s (plannedLoaded input parents)
+
+  pub planned-load-state : plannedLoadAnswer input parents s .state ≡ cond (eqb (plannedLoadRefusal input parents) 0) (plannedLoaded input parents) s
+  unfolding plannedLoadAnswer
+  planned-load-state = done-state (plannedLoadRefusal input parents) s (plannedLoaded input parents)

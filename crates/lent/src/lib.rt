@@ -6,7 +6,7 @@ mod questions;
 use words::STATE_WORDS;
 ghost use mathlib.Core.Path.{_≡_};
 ghost use lib.ListN.{length};
-ghost use Rattle.machine.specs.Calls.{numberOf, loadAnswer, storedLoadAnswer, statusAnswer, unitAnswer, linkAnswer, reportAnswer, reported};
+ghost use Rattle.machine.specs.Calls.{numberOf, loadAnswer, storedLoadAnswer, plannedLoadAnswer, statusAnswer, unitAnswer, linkAnswer, reportAnswer, reported};
 ghost use Rattle.words.specs.Layout.{stateOf};
 ghost use Rattle.lent.specs.Face.{said};
 pub use file_calls::read;
@@ -28,6 +28,20 @@ pub fn load_stored(state: &mut [u16; STATE_WORDS], units: u16, table: &[u16], le
     ensures words { λ _. ⌜ stateOf (now (state .exit)) ≡ storedLoadAnswer (record { units = units; words = now (table .entry); levels = now (levels .entry) }) (stateOf (now (state .entry))) .state ⌝ }
 {
     words::load_stored(units, table, levels, state) as u32
+}
+
+// Load with a table of parents drawn by the planner: 4 to 6, 15, 16, 7 to 9, 17, 18, 22.
+pub fn load_planned(
+    state: &mut [u16; STATE_WORDS],
+    units: u16,
+    table: &[u16],
+    levels: &[i16],
+    parents: &[u16],
+) -> u32
+    ensures number { λ r. ⌜ r ≡ numberOf (plannedLoadAnswer (record { units = units; words = now (table .entry); levels = now (levels .entry) }) (now (parents .entry)) (stateOf (now (state .entry))) .reply) ⌝ }
+    ensures words { λ _. ⌜ stateOf (now (state .exit)) ≡ plannedLoadAnswer (record { units = units; words = now (table .entry); levels = now (levels .entry) }) (now (parents .entry)) (stateOf (now (state .entry))) .state ⌝ }
+{
+    words::load_planned(units, table, levels, parents, state) as u32
 }
 
 // Status: 10. The reply is stage, countdown, all rounds, requests.

@@ -12,7 +12,9 @@ use survey::Survey;
 // What every lent byte holds before the call; no file has it.
 const MARK: u8 = 171;
 
-// The calls that load a stored table and that write; any other loads a fresh table.
+// The calls that load with parents, that load a stored table and that write; any other loads a fresh table.
+const PLANNED: u32 = 2;
+
 const STORED: u32 = 3;
 
 const WRITE: u32 = 4;
@@ -136,15 +138,18 @@ fn counted(survey: Survey) {
     }
 }
 
-fn opened(call: u32, units: u16, words: &[u16], levels: &[i16]) -> Answer {
+fn opened(call: u32, units: u16, words: &[u16], levels: &[i16], parents: &[u16]) -> Answer {
+    if call == PLANNED {
+        return Survey::new().load_planned(units, words, levels, parents);
+    }
     if call == STORED {
         return Survey::new().load_stored(units, words, levels);
     }
     Survey::new().load(units, words, levels)
 }
 
-fn loaded(call: u32, units: u16, words: &[u16], levels: &[i16]) {
-    let answer = opened(call, units, words, levels);
+fn loaded(call: u32, units: u16, words: &[u16], levels: &[i16], parents: &[u16]) {
+    let answer = opened(call, units, words, levels, parents);
     let number = answer.number();
     if number == 0 {
         counted(answer.survey);
@@ -170,32 +175,44 @@ fn lend(units: u16, words: &[u16], levels: &[i16], places: usize) {
     written(units, words, levels, &mut out[..places]);
 }
 
-fn called(call: u32, units: u16, words: &[u16], levels: &[i16], places: usize) {
+fn called(call: u32, units: u16, words: &[u16], levels: &[i16], parents: &[u16], places: usize) {
     if call == WRITE {
         lend(units, words, levels, places);
     } else {
-        loaded(call, units, words, levels);
+        loaded(call, units, words, levels, parents);
     }
 }
 
-// The unit count of a table, how many words it has and how many levels.
+// The unit count of a table, how many words it has and how many levels, and how many parents.
 struct Sizes {
     units: u16,
     words: usize,
     levels: usize,
+    parents: usize,
 }
 
-// The call, on so many words and so many levels.
-fn table(call: u32, t: Sizes, words: &[u16], levels: &[i16], places: usize) {
+// The call, on so many words, levels and parents.
+fn table(call: u32, t: Sizes, words: &[u16], levels: &[i16], parents: &[u16], places: usize) {
     let m = t.words;
     let n = t.levels;
+    let p = t.parents;
     if words.len() < m {
         return;
     }
     if levels.len() < n {
         return;
     }
-    called(call, t.units, &words[..m], &levels[..n], places);
+    if parents.len() < p {
+        return;
+    }
+    called(
+        call,
+        t.units,
+        &words[..m],
+        &levels[..n],
+        &parents[..p],
+        places,
+    );
 }
 
 // A case: the call, the unit count, the list of words, the list of levels, the list of parents, the places of the slice.
@@ -208,15 +225,24 @@ fn case(stream: &[u8], cursor: Cursor) -> Cursor {
     let n = streams::next_number(stream, at_levels);
     let mut levels = [0i16; 2048];
     let at_parents = level_list(stream, n.cursor, n.value, &mut levels);
-    let parents = streams::next_number(stream, at_parents);
-    let at_places = list(stream, parents.cursor, parents.value, &mut []);
+    let p = streams::next_number(stream, at_parents);
+    let mut parents = [0u16; 2048];
+    let at_places = list(stream, p.cursor, p.value, &mut parents);
     let places = streams::next_number(stream, at_places);
     let t = Sizes {
         units: (units.value % 65536) as u16,
         words: m.value as usize,
         levels: n.value as usize,
+        parents: p.value as usize,
     };
-    table(call.value, t, &words, &levels, places.value as usize);
+    table(
+        call.value,
+        t,
+        &words,
+        &levels,
+        &parents,
+        places.value as usize,
+    );
     places.cursor
 }
 

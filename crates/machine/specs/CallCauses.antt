@@ -3,20 +3,22 @@
 use mathlib.Core.Path.{_≡_, refl, sym, _∙_}
 use mathlib.Core.Bool.{Bool, true, false, cond, not}
 use mathlib.Core.Logic.{_⊎_, inl, inr, _↔_}
-use mathlib.Core.List.{List, [], _∷_}
+use mathlib.Core.List.{List, [], _∷_, _++_}
 use Prim.Native.Nat.{ℕ, _≤_, _<_}
 use native.Mathlib.Omega.{arith}
 use lib.Dec.{eqb, ltb}
+use lib.ListN.{length}
 use borrow.Author.Tests.{eqb-true, eqb-false, eq-eqb, ltb-true, lt-ltb}
 use Rattle.lists.specs.Tests.{either, not-exact, cond-true, cond-false}
 use Rattle.table.specs.Refusals.{firstOf}
 use Rattle.table.specs.RefusalLaws.{Reason, FirstCause, SomeCause, Numbered, tests, first-cause, some-cause}
 use Rattle.table.specs.Table.{storedRefusal}
 use Rattle.table.specs.TableCauses.{storedReasons}
-use Rattle.table.specs.FreshLaws.{freshReasons, freshRefusal-tests}
+use Rattle.table.specs.FreshLaws.{unitReasons, freshReasons, freshRefusal-tests}
 use Rattle.files.specs.File.{linesOf, readRefusal, writeRefusal}
 use Rattle.files.specs.FileCauses.{readReasons, writeReasons, readRefusal-tests, writeRefusal-tests}
 use Rattle.rules.specs.BoundLaws.{eq-exact}
+use Rattle.rules.specs.PlannedLaws.{PlanUnfit, unfit-exact}
 use Rattle.machine.specs.State.{State}
 use Rattle.machine.specs.Calls.{Answer}
 use Rattle.state.specs.declared.reply.Reply.{Reply}
@@ -24,7 +26,7 @@ use Rattle.machine.specs.State.{units, links, finished, FINISHED}
 use Rattle.machine.specs.Kept.{Kept, kept-exact}
 use Rattle.machine.specs.WellFormed.{wellFormed}
 use Rattle.machine.specs.Report.{reportLength}
-use Rattle.machine.specs.Load.{Input, storedLoadRefusal, loadRefusal}
+use Rattle.machine.specs.Load.{Input, linksIn, storedLoadRefusal, loadRefusal, parentsDiffer, parentsUnfit, plannedLoadRefusal}
 use Rattle.machine.specs.Calls
 
 -- ---- the reasons
@@ -103,6 +105,31 @@ load-bound input s =
 pub stored-load-bound : (input : Input) (s : State) → Bound (storedReasons (input .units) (input .words) (input .levels)) s (Calls.storedLoadAnswer input s)
 unfolding Calls.storedLoadAnswer storedRefusal storedReasons
 stored-load-bound input s = bound (storedReasons (input .units) (input .words) (input .levels)) (omega arith) (storedLoadRefusal input) refl s _ _ refl
+
+-- with a planner's table of parents: 18 in the words of chains of parents; reach/specs/PlanCause has it in those of document 02
+abbrev pub planReasons : Input → List ℕ → List Reason
+planReasons input ps =
+    record {
+      number = 17;
+      test = parentsDiffer input ps;
+      cause = length ps ≡ input .units → ⊥;
+      exact = not-exact (eqb (length ps) (input .units)) (eq-exact (length ps) (input .units));
+    }
+    ∷ record {
+      number = 18;
+      test = parentsUnfit input ps;
+      cause = PlanUnfit (input .units) (linksIn input) (input .words) ps;
+      exact = unfit-exact (input .units) (linksIn input) (input .words) ps;
+    }
+    ∷ []
+
+abbrev pub plannedReasons : Input → List ℕ → List Reason
+plannedReasons input ps =
+    storedReasons (input .units) (input .words) (input .levels) ++ (planReasons input ps ++ unitReasons (input .units) (input .words))
+
+pub planned-load-bound : (input : Input) (ps : List ℕ) (s : State) → Bound (plannedReasons input ps) s (Calls.plannedLoadAnswer input ps s)
+unfolding Calls.plannedLoadAnswer plannedLoadRefusal storedReasons
+planned-load-bound input ps s = bound (plannedReasons input ps) (omega arith) (plannedLoadRefusal input ps) refl s _ _ refl
 
 abbrev pub roundReasons : State → List Reason
 roundReasons s = notKept s ∷ atEnd s ∷ []

@@ -10,7 +10,7 @@ use Rattle.machine.specs.State.{State}
 use Rattle.state.specs.declared.reply.Reply.{Reply}
 use Rattle.state.specs.declared.reply.Reply.the-variants.{Refused, Done, Made, Status, Unit, Link, Read, Written}
 use Rattle.machine.specs.State.{units, links, finished}
-use Rattle.machine.specs.Load.{Input, linksIn, storedLoadRefusal, loadRefusal, loaded}
+use Rattle.machine.specs.Load.{Input, linksIn, storedLoadRefusal, loadRefusal, loaded, plannedLoadRefusal, plannedLoaded}
 use Rattle.machine.specs.WellFormed.{wellFormed}
 use Rattle.machine.specs.Step.{step, countdown}
 use Rattle.machine.specs.Run.{ran}
@@ -54,6 +54,10 @@ loadAnswer input s = answered (loadRefusal input) s (loaded input) Done
 
 unfoldable pub storedLoadAnswer : Input → State → Answer
 storedLoadAnswer input s = answered (storedLoadRefusal input) s (loaded input) Done
+
+-- with a planner's table of parents (document 02, T-05): 4 to 6, 15, 16, 7 to 9, 17, 18, 22
+unfoldable pub plannedLoadAnswer : Input → List ℕ → State → Answer
+plannedLoadAnswer input ps s = answered (plannedLoadRefusal input ps) s (plannedLoaded input ps) Done
 
 -- ---- round and run: 10, 11
 

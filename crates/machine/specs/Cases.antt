@@ -1,4 +1,4 @@
--- The proved cases A to K of document 01 and those of document 02's T-10: rows of one table, held by one theorem. Every figure stands here once, and is compared with what the
+-- The proved cases A to K of document 01 and those of document 02's T-05 and T-10: rows of one table, held by one theorem. Every figure stands here once, and is compared with what the
 -- definitions compute.
 use mathlib.Core.Path.{_≡_, refl, ap₂}
 use mathlib.Core.Bool.{Bool, true, false, cond, _&&_, false≢true}
@@ -18,6 +18,7 @@ use Rattle.rules.specs.Basics.{ABSENT}
 use Rattle.rules.specs.Ceilings
 use Rattle.rules.specs.Components.{leastHeard, colorRound, colorEnds}
 use Rattle.rules.specs.Tree.{loss, bestKey, chosenParent, visits, parentRound, distRound, treeEnds}
+use Rattle.rules.specs.Planned.{plannedParents, plannedDists, planUnfit}
 use Rattle.rules.specs.Tour.{leastNeighbor, greaterNeighbor, neighborAfter, follower, isStart, predecessor, nextRound, predRound, firstSums, firstJumps}
 use Rattle.rules.specs.Ranking.{sumRound, jumpRound, requestsOf, rankingEnds}
 use Rattle.rules.specs.Order.{forwardRound, descendants, ndRound, secondSums, secondJumps, placeOf, preRound}
@@ -27,7 +28,7 @@ use Rattle.rules.specs.Aux.{linkJoinsRound, joinsParent, parentJoinsRound, leas
 use Rattle.rules.specs.Labels.{namingUnit, classRound, labelOf, labelRound, lone, single}
 use Rattle.machine.specs.State.{State}
 use Rattle.machine.specs.State.{units, links, finished}
-use Rattle.machine.specs.Load.{Input, bare, storedLoadRefusal, loadRefusal, loaded, begun, absents, zeros, silences}
+use Rattle.machine.specs.Load.{Input, bare, storedLoadRefusal, loadRefusal, loaded, begun, absents, zeros, silences, plannedLoadRefusal, plannedLoaded}
 use Rattle.machine.specs.Step
 use Rattle.machine.specs.Run.{ran}
 use Rattle.machine.specs.Report.{unitSingle, linkLone, report, headLine, unitLine, linkLine, tailLine}
@@ -52,6 +53,9 @@ pub data Case : Type 0 where
   checks : ℕ → List ℕ → ℕ → ℕ → Case
   -- a table that the load of a stored table accepts, and the countdown first shown
   opens : ℕ → List ℕ → ℕ → Case
+  -- a site with a table of parents drawn by the planner (document 02, T-05), and its figures; and the number that its load gives
+  plans : ℕ → List ℕ → List ℕ → List Figure → Case
+  draws : ℕ → List ℕ → List ℕ → ℕ → Case
   -- a list of objects to rank, and its rounds and requests
   ranks : ℕ → ℕ → ℕ → Case
 
@@ -107,6 +111,11 @@ holds (site n t figures) =
     eqb (storedLoadRefusal (bare n t)) 0 && finished (r .0) && showsAll s (r .0) (r .1) figures
 holds (checks n t stored fresh) = eqb (storedLoadRefusal (bare n t)) stored && eqb (loadRefusal (bare n t)) fresh
 holds (opens n t countdown) = eqb (storedLoadRefusal (bare n t)) 0 && eqb (Step.countdown (loaded (bare n t))) countdown
+holds (plans n t ps figures) =
+    let s = plannedLoaded (bare n t) ps in
+    let r = surveyed s in
+    eqb (plannedLoadRefusal (bare n t) ps) 0 && finished (r .0) && showsAll s (r .0) (r .1) figures
+holds (draws n t ps k) = eqb (plannedLoadRefusal (bare n t) ps) k
 holds (ranks k rounds requests) =
     let r = ranked k k (chain k) (replicate k 1) in
     eqb (r .0) rounds && eqb (r .1) requests
@@ -171,10 +180,31 @@ cases =
     ∷ checks 2 [] 0 22
     ∷ checks 3 (2 ∷ 0 ∷ []) 0 22
     ∷ checks 3 (0 ∷ 1 ∷ 1 ∷ 0 ∷ []) 9 9
+    -- T-05: a plan with a link off it between ancestor and descendant; A, B with each of its trees and C with a plan
+    ∷ plans 4 (3 ∷ 2 ∷ 3 ∷ 1 ∷ 0 ∷ 3 ∷ 1 ∷ 2 ∷ []) (ABSENT ∷ 2 ∷ 3 ∷ 0 ∷ []) (Labels (0 ∷ 0 ∷ 2 ∷ 0 ∷ []) ∷ Lone (2 ∷ []) ∷ Singles (3 ∷ []) ∷ [])
+    ∷ plans 1 [] (ABSENT ∷ []) (Rounds 15 ∷ Countdown 16 ∷ [])
+    ∷ plans 4 caseB (ABSENT ∷ 0 ∷ 1 ∷ 2 ∷ []) (Rounds 24 ∷ Countdown 30 ∷ Labels (0 ∷ 0 ∷ 0 ∷ 3 ∷ []) ∷ Lone (3 ∷ []) ∷ Singles (2 ∷ []) ∷ [])
+    ∷ plans 4 caseB (ABSENT ∷ 0 ∷ 0 ∷ 2 ∷ []) (Rounds 24 ∷ Countdown 30 ∷ Labels (0 ∷ 0 ∷ 0 ∷ 3 ∷ []) ∷ Lone (3 ∷ []) ∷ Singles (2 ∷ []) ∷ [])
+    ∷ plans 4 caseB (ABSENT ∷ 2 ∷ 0 ∷ 2 ∷ []) (Rounds 24 ∷ Countdown 30 ∷ Labels (0 ∷ 0 ∷ 0 ∷ 3 ∷ []) ∷ Lone (3 ∷ []) ∷ Singles (2 ∷ []) ∷ [])
+    ∷ plans 2 (0 ∷ 1 ∷ []) (ABSENT ∷ 0 ∷ []) (Rounds 18 ∷ Lone (0 ∷ []) ∷ Singles [] ∷ [])
+    -- 17: a parent too few or too many, whatever they are; 9 comes before it
+    ∷ draws 2 (0 ∷ 1 ∷ []) (1 ∷ []) 17
+    ∷ draws 2 (0 ∷ 1 ∷ []) (ABSENT ∷ 0 ∷ 0 ∷ []) 17
+    ∷ draws 2 (0 ∷ 1 ∷ 1 ∷ 0 ∷ []) [] 9
+    -- 18: a colour unit with a parent, also in a circle; another without one; a parent that is no neighbour, or no unit; a circle
+    ∷ draws 2 (0 ∷ 1 ∷ []) (1 ∷ ABSENT ∷ []) 18
+    ∷ draws 2 (0 ∷ 1 ∷ []) (1 ∷ 0 ∷ []) 18
+    ∷ draws 2 (0 ∷ 1 ∷ []) (ABSENT ∷ ABSENT ∷ []) 18
+    ∷ draws 3 (0 ∷ 1 ∷ 1 ∷ 2 ∷ []) (ABSENT ∷ 0 ∷ 0 ∷ []) 18
+    ∷ draws 2 (0 ∷ 1 ∷ []) (ABSENT ∷ 2 ∷ []) 18
+    ∷ draws 4 caseB (ABSENT ∷ 2 ∷ 1 ∷ 2 ∷ []) 18
+    -- 22 last
+    ∷ draws 3 (0 ∷ 1 ∷ []) (ABSENT ∷ 0 ∷ ABSENT ∷ []) 22
+    ∷ draws 3 (0 ∷ 1 ∷ []) (ABSENT ∷ 0 ∷ 0 ∷ []) 18
     ∷ []
 
 pub cases-hold : holdAll cases ≡ true
-unfolding caseB inRange storedRefusal freshRefusal endMissing equalEnds joinedIn repeatedLink isEnd unlinkedBelow lg lgFrom lineOf hexesOf sumOf checkByte Ceilings.countdown leastHeard colorRound colorEnds loss bestKey chosenParent visits parentRound distRound treeEnds leastNeighbor greaterNeighbor neighborAfter follower isStart predecessor nextRound predRound firstSums firstJumps sumRound jumpRound requestsOf rankingEnds forwardRound descendants ndRound secondSums secondJumps placeOf preRound localOf unitAt localAt globalFirst rangeFirst littleFirst bigFirst withLittle withBig rangeLater littleLater bigLater globalLater rangeEnds linkJoinsRound joinsParent parentJoinsRound leastJoined auxRound auxEnds namingUnit classRound labelOf labelRound lone single loaded begun absents zeros silences Step.components Step.tree Step.tourNext Step.tourPred Step.tour Step.ranking Step.marksForward Step.marksDescendants Step.marks Step.places Step.rangeBegun Step.rangeDoubled Step.range Step.auxEdges Step.auxComponents Step.labelClasses Step.labelPositions Step.labels Step.ruleEnds Step.lastRound Step.roundTables Step.roundRequests Step.nextClock Step.step ran report headLine unitLine linkLine tailLine
+unfolding caseB inRange storedRefusal freshRefusal endMissing equalEnds joinedIn repeatedLink isEnd unlinkedBelow lg lgFrom lineOf hexesOf sumOf checkByte Ceilings.countdown leastHeard colorRound colorEnds loss bestKey chosenParent visits parentRound distRound treeEnds leastNeighbor greaterNeighbor neighborAfter follower isStart predecessor nextRound predRound firstSums firstJumps sumRound jumpRound requestsOf rankingEnds forwardRound descendants ndRound secondSums secondJumps placeOf preRound localOf unitAt localAt globalFirst rangeFirst littleFirst bigFirst withLittle withBig rangeLater littleLater bigLater globalLater rangeEnds linkJoinsRound joinsParent parentJoinsRound leastJoined auxRound auxEnds namingUnit classRound labelOf labelRound lone single loaded begun absents zeros silences planUnfit plannedLoadRefusal plannedLoaded plannedParents plannedDists Step.components Step.treeSearched Step.treePlanned Step.tree Step.tourNext Step.tourPred Step.tour Step.ranking Step.marksForward Step.marksDescendants Step.marks Step.places Step.rangeBegun Step.rangeDoubled Step.range Step.auxEdges Step.auxComponents Step.labelClasses Step.labelPositions Step.labels Step.ruleEnds Step.lastRound Step.roundTables Step.roundRequests Step.nextClock Step.step ran report headLine unitLine linkLine tailLine
 cases-hold = refl
 
 -- ---- a row out of the table

@@ -39,6 +39,7 @@ pub record Kept (s : State) : Type 0 where
   pub distances : All (All Distance) (distTables s)
   pub numbers : All (All Number) (numberTables s)
   pub levels : All InRange (s .table .levels)
+  pub given : Number (s .plan .given)
 
 -- ---- the tests decide the words
 
@@ -69,14 +70,16 @@ tables-exact p P h ts = every-exact (every p) (All P) (every-exact p P h) ts
 
 entries-exact : (s : State)
     → (entriesOk s ≡ true)
-    ↔ (((((All (All (Names (units s))) (unitTables s) × All (All (Names (2 * units s))) (arcTables s))
+    ↔ ((((((All (All (Names (units s))) (unitTables s) × All (All (Names (2 * units s))) (arcTables s))
     × All (All (Names (links s))) (linkTables s))
     × All (All Distance) (distTables s))
     × All (All Number) (numberTables s))
     × All InRange (s .table .levels))
+    × Number (s .plan .given))
 unfolding entriesOk
 entries-exact s =
     and-exact _ _
+    (and-exact _ _
     (and-exact _ _
     (and-exact _ _
     (and-exact _ _
@@ -86,7 +89,8 @@ entries-exact s =
     (tables-exact (nameOk (links s)) (Names (links s)) (name-exact (links s)) (linkTables s)))
     (tables-exact distOk Distance distance-exact (distTables s)))
     (tables-exact numberOk Number number-exact (numberTables s)))
-    (every-exact inRange InRange range-exact (s .table .levels))
+    (every-exact inRange InRange range-exact (s .table .levels)))
+    (number-exact (s .plan .given))
 
 -- the test is exact
 pub kept-exact : (s : State) → (wellFormed s ≡ true) ↔ Kept s
@@ -97,11 +101,12 @@ kept-exact s = (λ (e : wellFormed s ≡ true). words-of (whole .0 e), λ (k : K
     Parts =
         (((links s ≤ maxLinks) × (bareRefusal (units s) (words s) ≡ 0))
         × (((((1 ≤ s .clock .stage) × (s .clock .stage ≤ FINISHED)) × MadeOk s) × (s .clock .rounds ≤ MAX-ROUNDS)) × (s .clock .requests ≤ MAX-REQUESTS)))
-        × (((((All (All (Names (units s))) (unitTables s) × All (All (Names (2 * units s))) (arcTables s))
+        × ((((((All (All (Names (units s))) (unitTables s) × All (All (Names (2 * units s))) (arcTables s))
         × All (All (Names (links s))) (linkTables s))
         × All (All Distance) (distTables s))
         × All (All Number) (numberTables s))
         × All InRange (s .table .levels))
+        × Number (s .plan .given))
 
     whole : (wellFormed s ≡ true) ↔ Parts
     whole = and-exact _ _ (and-exact _ _ (table-exact s) (clock-exact s)) (entries-exact s)
@@ -116,16 +121,17 @@ kept-exact s = (λ (e : wellFormed s ≡ true). words-of (whole .0 e), λ (k : K
           made = p .0 .1 .0 .0 .1;
           rounds = p .0 .1 .0 .1;
           requests = p .0 .1 .1;
-          unitNames = p .1 .0 .0 .0 .0 .0;
-          arcNames = p .1 .0 .0 .0 .0 .1;
-          linkNames = p .1 .0 .0 .0 .1;
-          distances = p .1 .0 .0 .1;
-          numbers = p .1 .0 .1;
-          levels = p .1 .1;
+          unitNames = p .1 .0 .0 .0 .0 .0 .0;
+          arcNames = p .1 .0 .0 .0 .0 .0 .1;
+          linkNames = p .1 .0 .0 .0 .0 .1;
+          distances = p .1 .0 .0 .0 .1;
+          numbers = p .1 .0 .0 .1;
+          levels = p .1 .0 .1;
+          given = p .1 .1;
         }
 
     parts-of : Kept s → Parts
     parts-of k = (
       ((k .few, k .passes), ((((k .from, k .to), k .made), k .rounds), k .requests)),
-      (((((k .unitNames, k .arcNames), k .linkNames), k .distances), k .numbers), k .levels),
+      ((((((k .unitNames, k .arcNames), k .linkNames), k .distances), k .numbers), k .levels), k .given),
     )

@@ -27,7 +27,7 @@ kept-countdown s w =
 
 -- the tables of units after the ends, and the tables of numbers in three groups: what the code judges together
 abbrev otherUnitTables : State → List (List ℕ)
-otherUnitTables s = s .components .color ∷ s .tree .parent ∷ s .aux .color ∷ s .labels .class ∷ []
+otherUnitTables s = s .components .color ∷ s .tree .parent ∷ s .aux .color ∷ s .labels .class ∷ s .plan .parent ∷ []
 
 abbrev sumTables : State → List (List ℕ)
 sumTables s = s .ranking .sum ∷ s .order .forward ∷ s .order .nd ∷ s .order .pre ∷ []
@@ -52,7 +52,8 @@ entries-parts : (s : State)
     && every (nameOk (links s)) (s .labels .label)
     && every distOk (s .tree .dist)
     && (every (every numberOk) (sumTables s) && (every (every numberOk) (rangeTables s) && every (every numberOk) (joinTables s)))
-    && every inRange (s .table .levels))
+    && every inRange (s .table .levels)
+    && numberOk (s .plan .given))
     ≡ entriesOk s
 unfolding entriesOk
 entries-parts s =
@@ -76,7 +77,7 @@ unfolding wellFormed
 kept-front s e = rw e refl
 
 -- and one that passes, with the entries by what they are
-pub kept-parts : (s : State) (e f a l d n1 n2 n3 v x1 x2 x3 x4 x5 x6 x7 r : Bool) → (tableOk (units s) (links s) (s .table .ends) && clockOk (units s) (s .clock)) ≡ true
+pub kept-parts : (s : State) (e f a l d n1 n2 n3 v g x1 x2 x3 x4 x5 x6 x7 x8 r : Bool) → (tableOk (units s) (links s) (s .table .ends) && clockOk (units s) (s .clock)) ≡ true
     → e ≡ every (nameOk (units s)) (s .table .ends)
     → f ≡ every (every (nameOk (units s))) (otherUnitTables s)
     → a ≡ every (every (nameOk (2 * units s))) (arcTables s)
@@ -86,8 +87,9 @@ pub kept-parts : (s : State) (e f a l d n1 n2 n3 v x1 x2 x3 x4 x5 x6 x7 r : Bool
     → n2 ≡ every (every numberOk) (rangeTables s)
     → n3 ≡ every (every numberOk) (joinTables s)
     → v ≡ every inRange (s .table .levels)
-    → x1 ≡ (e && f) → x2 ≡ (x1 && a) → x3 ≡ (x2 && l) → x4 ≡ (x3 && d) → x5 ≡ (n2 && n3) → x6 ≡ (n1 && x5) → x7 ≡ (x4 && x6) → r ≡ (x7 && v)
+    → g ≡ numberOk (s .plan .given)
+    → x1 ≡ (e && f) → x2 ≡ (x1 && a) → x3 ≡ (x2 && l) → x4 ≡ (x3 && d) → x5 ≡ (n2 && n3) → x6 ≡ (n1 && x5) → x7 ≡ (x4 && x6) → x8 ≡ (x7 && v) → r ≡ (x8 && g)
     → r ≡ wellFormed s
 unfolding wellFormed
-kept-parts s e f a l d n1 n2 n3 v x1 x2 x3 x4 x5 x6 x7 r front he hf ha hl hd h1 h2 h3 hv y1 y2 y3 y4 y5 y6 y7 y8 =
-    rw (y8, y7, y6, y5, y4, y3, y2, y1) (rw (he, hf, ha, hl, hd, h1, h2, h3, hv) (rw front (entries-parts s)))
+kept-parts s e f a l d n1 n2 n3 v g x1 x2 x3 x4 x5 x6 x7 x8 r front he hf ha hl hd h1 h2 h3 hv hg y1 y2 y3 y4 y5 y6 y7 y8 y9 =
+    rw (y9, y8, y7, y6, y5, y4, y3, y2, y1) (rw (he, hf, ha, hl, hd, h1, h2, h3, hv, hg) (rw front (entries-parts s)))

@@ -1,15 +1,20 @@
 -- Loading: every unit, link and list place and every distance absent, all else 0, stage 1.
-use mathlib.Core.List.{List, _++_}
+use mathlib.Core.Bool.{Bool, not}
+use mathlib.Core.List.{List, [], _∷_, _++_}
 use Prim.Native.Nat.{ℕ}
+use lib.Dec.{eqb}
 use lib.ListN.{length, drop, replicate}
 use lib.IntN.{ℤ, pos}
 use Rattle.levels.specs.Level.{LOWEST}
-use Rattle.table.specs.Table.{linkCount, storedRefusal, freshRefusal}
+use Rattle.table.specs.Table.{linkCount, storedRefusal, freshRefusal, storedTests, unitTests}
+use Rattle.table.specs.Refusals.{firstOf}
 use Rattle.rules.specs.Basics.{ABSENT}
-use Rattle.machine.specs.State.{State}
+use Rattle.rules.specs.Planned.{planUnfit}
+use Rattle.machine.specs.State.{State, withPlan}
 use Rattle.state.specs.declared.groups.Table.{Table}
 use Rattle.state.specs.declared.groups.Clock.{Clock}
 use Rattle.state.specs.declared.groups.Components.{Components}
+use Rattle.state.specs.declared.groups.Plan.{Plan}
 use Rattle.state.specs.declared.groups.Tree.{Tree}
 use Rattle.state.specs.declared.groups.Tour.{Tour}
 use Rattle.state.specs.declared.groups.Ranking.{Ranking}
@@ -44,6 +49,10 @@ firstClock = record { stage = 1; made = 0; rounds = 0; requests = 0 }
 abbrev pub blankComponents : Components
 blankComponents = record { color = absents 256 }
 
+-- no tree of the planner's (document 02, T-05)
+abbrev pub blankPlan : Plan
+blankPlan = record { given = 0; parent = absents 256 }
+
 abbrev pub blankTree : Tree
 blankTree = record { parent = absents 256; dist = absents 256 }
 
@@ -75,6 +84,7 @@ begun table =
       table = table;
       clock = firstClock;
       components = blankComponents;
+      plan = blankPlan;
       tree = blankTree;
       tour = blankTour;
       ranking = blankRanking;
@@ -118,3 +128,32 @@ loaded input = begun (tableOf input)
 -- the state that was never loaded: no unit and no link
 unfoldable pub unloaded : State
 unloaded = begun (record { units = 0; links = 0; ends = absents 2048; levels = silences 1024 })
+
+-- ---- the load that also takes a table of parents, drawn by the planner (document 02, T-05)
+
+-- the parents in an array of 256, absent past the last
+abbrev pub parentsOf : List ℕ → List ℕ
+parentsOf ps = ps ++ drop (length ps) (absents 256)
+
+abbrev pub planOf : List ℕ → Plan
+planOf ps = record { given = 1; parent = parentsOf ps }
+
+-- 17: the table of parents has not exactly n words
+abbrev pub parentsDiffer : Input → List ℕ → Bool
+parentsDiffer input ps = not (eqb (length ps) (input .units))
+
+-- 18
+abbrev pub parentsUnfit : Input → List ℕ → Bool
+parentsUnfit input ps = planUnfit (input .units) (linksIn input) (input .words) ps
+
+abbrev pub planTests : Input → List ℕ → List (ℕ × Bool)
+planTests input ps = (17, parentsDiffer input ps) ∷ (18, parentsUnfit input ps) ∷ []
+
+-- its checks: 4 to 6, 15, 16, 7 to 9, then 17 and 18, last 22
+unfoldable pub plannedLoadRefusal : Input → List ℕ → ℕ
+plannedLoadRefusal input ps =
+    firstOf (storedTests (input .units) (input .words) (input .levels) ++ (planTests input ps ++ unitTests (input .units) (input .words)))
+
+-- the state that it makes
+unfoldable pub plannedLoaded : Input → List ℕ → State
+plannedLoaded input ps = withPlan (planOf ps) (loaded input)

@@ -1,6 +1,6 @@
 -- What a step is at the stage that the clock shows, and what holds of the tables of every round.
 use mathlib.Core.Path.{_≡_, refl, ap, _∙_}
-use mathlib.Core.Bool.{Bool, cond}
+use mathlib.Core.Bool.{Bool, true, false, cond}
 use Prim.Native.Nat.{ℕ, _-_}
 use native.Mathlib.Omega.{arith}
 use lib.Dec.{T, eqb, ltb, ltb→lt}
@@ -37,7 +37,8 @@ requests-at k s e = ap (λ (k : ℕ). Step.requestsAt k s) e
 -- what holds of the tables of each round
 pub record EachRound (P : State → Type 0) (s : State) : Type 0 where
   pub components : P (Step.components s)
-  pub tree : P (Step.tree s)
+  pub treeSearched : P (Step.treeSearched s)
+  pub treePlanned : P (Step.treePlanned s)
   pub tourNext : P (Step.tourNext s)
   pub tourPred : P (Step.tourPred s)
   pub ranking : P (Step.ranking s)
@@ -53,10 +54,10 @@ pub record EachRound (P : State → Type 0) (s : State) : Type 0 where
 
 -- holds of the tables of this one
 pub each-round : (P : State → Type 0) (s : State) → EachRound P s → P (Step.roundTables s)
-unfolding Step.roundTables Step.tour Step.marks Step.range Step.labels
+unfolding Step.roundTables Step.tree Step.tour Step.marks Step.range Step.labels
 each-round P s r =
     choose (eqb (s .clock .stage) 1) (r .components)
-    (choose (eqb (s .clock .stage) 2) (r .tree)
+    (choose (eqb (s .clock .stage) 2) (choose (Step.planned s) (r .treePlanned) (r .treeSearched))
     (choose (eqb (s .clock .stage) 3) (choose (eqb (s .clock .made) 0) (r .tourNext) (r .tourPred))
     (choose (eqb (s .clock .stage) 4) (r .ranking)
     (choose (eqb (s .clock .stage) 5) (choose (eqb (s .clock .made) 0) (r .marksForward) (r .marksDescendants))
@@ -71,12 +72,13 @@ each-round P s r =
 
 -- no round touches the table of links
 kept-table : (s : State) → Step.roundTables s .table ≡ s .table
-unfolding Step.components Step.tree Step.tourNext Step.tourPred Step.ranking Step.marksForward Step.marksDescendants Step.places Step.rangeBegun Step.rangeDoubled Step.auxEdges Step.auxComponents Step.labelClasses Step.labelPositions
+unfolding Step.components Step.treeSearched Step.treePlanned Step.tourNext Step.tourPred Step.ranking Step.marksForward Step.marksDescendants Step.places Step.rangeBegun Step.rangeDoubled Step.auxEdges Step.auxComponents Step.labelClasses Step.labelPositions
 kept-table s =
     each-round (λ (x : State). x .table ≡ s .table) s
     (record {
       components = refl;
-      tree = refl;
+      treeSearched = refl;
+      treePlanned = refl;
       tourNext = refl;
       tourPred = refl;
       ranking = refl;
@@ -95,7 +97,43 @@ pub step-table : (s : State) → Step.step s .table ≡ s .table
 unfolding Step.step
 step-table s = cond-keeps (λ (z : State). z .table ≡ s .table) (finished s) s _ refl (kept-table s)
 
+-- nor the planner's tree
+kept-plan : (s : State) → Step.roundTables s .plan ≡ s .plan
+unfolding Step.components Step.treeSearched Step.treePlanned Step.tourNext Step.tourPred Step.ranking Step.marksForward Step.marksDescendants Step.places Step.rangeBegun Step.rangeDoubled Step.auxEdges Step.auxComponents Step.labelClasses Step.labelPositions
+kept-plan s =
+    each-round (λ (x : State). x .plan ≡ s .plan) s
+    (record {
+      components = refl;
+      treeSearched = refl;
+      treePlanned = refl;
+      tourNext = refl;
+      tourPred = refl;
+      ranking = refl;
+      marksForward = refl;
+      marksDescendants = refl;
+      places = refl;
+      rangeBegun = refl;
+      rangeDoubled = λ i. refl;
+      auxEdges = refl;
+      auxComponents = refl;
+      labelClasses = refl;
+      labelPositions = refl;
+    })
+
+pub step-plan : (s : State) → Step.step s .plan ≡ s .plan
+unfolding Step.step
+step-plan s = cond-keeps (λ (z : State). z .plan ≡ s .plan) (finished s) s _ refl (kept-plan s)
+
 -- ---- stages whose first round differs
+
+-- and stage 2 with a plan
+pub tree-planned : (s : State) → Step.planned s ≡ true → Step.tree s ≡ Step.treePlanned s
+unfolding Step.tree
+tree-planned s e = rw e refl
+
+pub tree-searched : (s : State) → Step.planned s ≡ false → Step.tree s ≡ Step.treeSearched s
+unfolding Step.tree
+tree-searched s e = rw e refl
 
 pub tour-first : (s : State) → s .clock .made ≡ 0 → Step.tour s ≡ Step.tourNext s
 unfolding Step.tour

@@ -1,5 +1,5 @@
 -- One round: the tables of its stage by the rules, then the clock. All units of a round read the state that the round before left.
-use mathlib.Core.Bool.{Bool, true, false, cond, _&&_, _||_}
+use mathlib.Core.Bool.{Bool, true, false, cond, not, _&&_, _||_}
 use mathlib.Core.List.{List}
 use Prim.Native.Nat.{ℕ, zero, suc, _+_, _*_, _-_, min, max}
 use lib.Dec.{eqb, leb}
@@ -7,6 +7,7 @@ use Rattle.rules.specs.Ceilings.{ceiling}
 use Rattle.rules.specs.Ceilings as Ceilings
 use Rattle.rules.specs.Components.{colorRound, colorEnds}
 use Rattle.rules.specs.Tree.{parentRound, distRound, treeEnds}
+use Rattle.rules.specs.Planned.{plannedParents, plannedDists}
 use Rattle.rules.specs.Tour.{nextRound, predRound, firstSums, firstJumps}
 use Rattle.rules.specs.Ranking.{sumRound, jumpRound, requestsOf, rankingEnds}
 use Rattle.rules.specs.Order.{forwardRound, ndRound, secondSums, secondJumps, preRound}
@@ -17,6 +18,10 @@ use Rattle.machine.specs.State.{State}
 use Rattle.state.specs.declared.groups.Clock.{Clock}
 use Rattle.machine.specs.State
 
+-- a planner's tree is given
+abbrev pub planned : State → Bool
+planned s = not (eqb (s .plan .given) 0)
+
 -- ---- the tables of each stage after a round
 
 unfoldable pub components : State → State
@@ -25,14 +30,27 @@ components s =
     (record { color = colorRound (State.units s) (State.links s) (s .clock .made) (s .table .ends) (s .components .color) })
     s
 
-unfoldable pub tree : State → State
-tree s =
+-- breadth first, or taken over whole from the planner (document 02, T-05)
+unfoldable pub treeSearched : State → State
+treeSearched s =
     State.withTree
     (record {
       parent = parentRound (State.units s) (State.links s) (s .clock .made) (s .table .ends) (s .table .levels) (s .components .color) (s .tree .dist) (s .tree .parent);
       dist = distRound (State.units s) (State.links s) (s .clock .made) (s .table .ends) (s .table .levels) (s .components .color) (s .tree .dist);
     })
     s
+
+unfoldable pub treePlanned : State → State
+treePlanned s =
+    State.withTree
+    (record {
+      parent = plannedParents (State.units s) (s .plan .parent) (s .tree .parent);
+      dist = plannedDists (State.units s) (s .plan .parent) (s .components .color) (s .tree .dist);
+    })
+    s
+
+unfoldable pub tree : State → State
+tree s = cond (planned s) (treePlanned s) (treeSearched s)
 
 -- round one of the tour, and round two, which sets up the first ranking
 unfoldable pub tourNext : State → State
@@ -146,7 +164,7 @@ auxEdges s =
     (record {
       parents =
           parentJoinsRound (State.units s) (s .tree .parent) (s .order .nd) (s .order .pre) (s .range .low) (s .range .high) (s .aux .parents);
-      links = linkJoinsRound (State.links s) (s .table .ends) (s .tree .parent) (s .aux .links);
+      links = linkJoinsRound (State.links s) (s .table .ends) (s .tree .parent) (s .order .nd) (s .order .pre) (s .aux .links);
       color = s .aux .color;
     })
     s
@@ -187,7 +205,7 @@ endsAt k s =
     cond (eqb k 1)
     (colorEnds (State.units s) (s .clock .made) (s .components .color) (components s .components .color))
     (cond (eqb k 2)
-    (treeEnds (State.units s) (State.links s) (s .clock .made) (s .table .ends) (s .table .levels) (s .components .color) (s .tree .dist))
+    (planned s || treeEnds (State.units s) (State.links s) (s .clock .made) (s .table .ends) (s .table .levels) (s .components .color) (s .tree .dist))
     (cond (eqb k 3) (eqb (s .clock .made) 1)
     (cond (eqb k 4) (rankingEnds (2 * State.units s) (s .ranking .jump))
     (cond (eqb k 5) (eqb (s .clock .made) 1)

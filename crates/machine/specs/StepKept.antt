@@ -18,6 +18,7 @@ use Rattle.rules.specs.BoundLaws.{Names, Number, Distance}
 use Rattle.lists.specs.FoldLaws.{min-picks, max-picks}
 use Rattle.rules.specs.Ceilings.{ceiling}
 use Rattle.rules.specs.CeilingLaws.{ceiling-positive, ceiling-small}
+use Rattle.rules.specs.PlannedLaws.{planned-names, planned-distances}
 use Rattle.rules.specs.RoundBounds
 use Rattle.machine.specs.State.{State}
 use Rattle.state.specs.declared.groups.Clock.{Clock}
@@ -35,6 +36,7 @@ pub record Moved (s s′ : State) : Type 0 where
   pub linkNames : All (All (Names (links s))) (linkTables s′)
   pub distances : All (All Distance) (distTables s′)
   pub numbers : All (All Number) (numberTables s′)
+  pub plan : s′ .plan ≡ s .plan
 
 -- the stage is 1 to 11, and its rounds are below its ceiling, zero at stage 11
 abbrev pub Fits : ℕ → ℕ → ℕ → Type 0
@@ -77,6 +79,7 @@ module _ (s : State) (k : Kept s) (open′ : s .clock .stage ≡ FINISHED → �
   components-moved =
       record {
         table = refl;
+        plan = refl;
         unitNames = (k .unitNames .0, (RoundBounds.color-names (units s) (links s) (s .clock .made) (s .table .ends) (s .components .color) some (k .unitNames .1 .0), k .unitNames .1 .1));
         arcNames = k .arcNames;
         linkNames = k .linkNames;
@@ -84,15 +87,29 @@ module _ (s : State) (k : Kept s) (open′ : s .clock .stage ≡ FINISHED → �
         numbers = k .numbers;
       }
 
-  tree-moved : Moved s (Step.tree s)
-  unfolding Step.tree
-  tree-moved =
+  treeSearched-moved : Moved s (Step.treeSearched s)
+  unfolding Step.treeSearched
+  treeSearched-moved =
       record {
         table = refl;
+        plan = refl;
         unitNames = (k .unitNames .0, (k .unitNames .1 .0, (RoundBounds.parent-names (units s) (links s) (s .clock .made) (s .table .ends) (s .table .levels) (s .components .color) (s .tree .dist) (s .tree .parent) small-absent some (k .unitNames .0) (k .unitNames .1 .1 .0), k .unitNames .1 .1 .1)));
         arcNames = k .arcNames;
         linkNames = k .linkNames;
         distances = (RoundBounds.dist-distances (units s) (links s) (s .clock .made) (s .table .ends) (s .table .levels) (s .components .color) (s .tree .dist) made-small (k .distances .0), tt);
+        numbers = k .numbers;
+      }
+
+  treePlanned-moved : Moved s (Step.treePlanned s)
+  unfolding Step.treePlanned
+  treePlanned-moved =
+      record {
+        table = refl;
+        plan = refl;
+        unitNames = (k .unitNames .0, (k .unitNames .1 .0, (planned-names (units s) (s .plan .parent) (s .tree .parent) some (k .unitNames .1 .1 .1 .1 .1 .0) (k .unitNames .1 .1 .0), k .unitNames .1 .1 .1)));
+        arcNames = k .arcNames;
+        linkNames = k .linkNames;
+        distances = (planned-distances (units s) (s .plan .parent) (s .components .color) (s .tree .dist) small-number (k .distances .0), tt);
         numbers = k .numbers;
       }
 
@@ -101,6 +118,7 @@ module _ (s : State) (k : Kept s) (open′ : s .clock .stage ≡ FINISHED → �
   tourNext-moved =
       record {
         table = refl;
+        plan = refl;
         unitNames = k .unitNames;
         arcNames = (RoundBounds.next-names (units s) (s .tree .parent) (s .tour .next) small-absent (k .unitNames .1 .1 .0) (k .arcNames .0), k .arcNames .1);
         linkNames = k .linkNames;
@@ -113,6 +131,7 @@ module _ (s : State) (k : Kept s) (open′ : s .clock .stage ≡ FINISHED → �
   tourPred-moved =
       record {
         table = refl;
+        plan = refl;
         unitNames = k .unitNames;
         arcNames = (k .arcNames .0, (RoundBounds.pred-names (units s) (s .tree .parent) (s .tour .next) (s .tour .pred) (k .arcNames .1 .0), (RoundBounds.first-jump-names (units s) (s .tree .parent) (s .tour .next) (s .ranking .jump) (k .arcNames .1 .1 .0), k .arcNames .1 .1 .1)));
         linkNames = k .linkNames;
@@ -125,6 +144,7 @@ module _ (s : State) (k : Kept s) (open′ : s .clock .stage ≡ FINISHED → �
   ranking-moved =
       record {
         table = refl;
+        plan = refl;
         unitNames = k .unitNames;
         arcNames = (k .arcNames .0, (k .arcNames .1 .0, (RoundBounds.jump-names (2 * units s) (s .ranking .jump) (k .arcNames .1 .1 .0), k .arcNames .1 .1 .1)));
         linkNames = k .linkNames;
@@ -137,6 +157,7 @@ module _ (s : State) (k : Kept s) (open′ : s .clock .stage ≡ FINISHED → �
   marksForward-moved =
       record {
         table = refl;
+        plan = refl;
         unitNames = k .unitNames;
         arcNames = k .arcNames;
         linkNames = k .linkNames;
@@ -149,6 +170,7 @@ module _ (s : State) (k : Kept s) (open′ : s .clock .stage ≡ FINISHED → �
   marksDescendants-moved =
       record {
         table = refl;
+        plan = refl;
         unitNames = k .unitNames;
         arcNames = (k .arcNames .0, (k .arcNames .1 .0, (RoundBounds.second-jump-names (units s) (s .tour .pred) (s .ranking .jump) (k .arcNames .1 .0) (k .arcNames .1 .1 .0), k .arcNames .1 .1 .1)));
         linkNames = k .linkNames;
@@ -161,6 +183,7 @@ module _ (s : State) (k : Kept s) (open′ : s .clock .stage ≡ FINISHED → �
   places-moved =
       record {
         table = refl;
+        plan = refl;
         unitNames = k .unitNames;
         arcNames = (k .arcNames .0, (k .arcNames .1 .0, (RoundBounds.jump-names (2 * units s) (s .ranking .jump) (k .arcNames .1 .1 .0), k .arcNames .1 .1 .1)));
         linkNames = k .linkNames;
@@ -173,6 +196,7 @@ module _ (s : State) (k : Kept s) (open′ : s .clock .stage ≡ FINISHED → �
   rangeBegun-moved =
       record {
         table = refl;
+        plan = refl;
         unitNames = k .unitNames;
         arcNames = k .arcNames;
         linkNames = k .linkNames;
@@ -185,6 +209,7 @@ module _ (s : State) (k : Kept s) (open′ : s .clock .stage ≡ FINISHED → �
   rangeDoubled-moved i =
       record {
         table = refl;
+        plan = refl;
         unitNames = k .unitNames;
         arcNames = k .arcNames;
         linkNames = k .linkNames;
@@ -197,11 +222,12 @@ module _ (s : State) (k : Kept s) (open′ : s .clock .stage ≡ FINISHED → �
   auxEdges-moved =
       record {
         table = refl;
+        plan = refl;
         unitNames = k .unitNames;
         arcNames = k .arcNames;
         linkNames = k .linkNames;
         distances = k .distances;
-        numbers = (k .numbers .0, (k .numbers .1 .0, (k .numbers .1 .1 .0, (k .numbers .1 .1 .1 .0, (k .numbers .1 .1 .1 .1 .0, (k .numbers .1 .1 .1 .1 .1 .0, (k .numbers .1 .1 .1 .1 .1 .1 .0, (k .numbers .1 .1 .1 .1 .1 .1 .1 .0, (k .numbers .1 .1 .1 .1 .1 .1 .1 .1 .0, (k .numbers .1 .1 .1 .1 .1 .1 .1 .1 .1 .0, (RoundBounds.parent-join-numbers (units s) (s .tree .parent) (s .order .nd) (s .order .pre) (s .range .low) (s .range .high) (s .aux .parents) (k .numbers .1 .1 .1 .1 .1 .1 .1 .1 .1 .1 .0), (RoundBounds.link-join-numbers (links s) (s .table .ends) (s .tree .parent) (s .aux .links) (k .numbers .1 .1 .1 .1 .1 .1 .1 .1 .1 .1 .1 .0), k .numbers .1 .1 .1 .1 .1 .1 .1 .1 .1 .1 .1 .1))))))))))));
+        numbers = (k .numbers .0, (k .numbers .1 .0, (k .numbers .1 .1 .0, (k .numbers .1 .1 .1 .0, (k .numbers .1 .1 .1 .1 .0, (k .numbers .1 .1 .1 .1 .1 .0, (k .numbers .1 .1 .1 .1 .1 .1 .0, (k .numbers .1 .1 .1 .1 .1 .1 .1 .0, (k .numbers .1 .1 .1 .1 .1 .1 .1 .1 .0, (k .numbers .1 .1 .1 .1 .1 .1 .1 .1 .1 .0, (RoundBounds.parent-join-numbers (units s) (s .tree .parent) (s .order .nd) (s .order .pre) (s .range .low) (s .range .high) (s .aux .parents) (k .numbers .1 .1 .1 .1 .1 .1 .1 .1 .1 .1 .0), (RoundBounds.link-join-numbers (links s) (s .table .ends) (s .tree .parent) (s .order .nd) (s .order .pre) (s .aux .links) (k .numbers .1 .1 .1 .1 .1 .1 .1 .1 .1 .1 .1 .0), k .numbers .1 .1 .1 .1 .1 .1 .1 .1 .1 .1 .1 .1))))))))))));
       }
 
   auxComponents-moved : Moved s (Step.auxComponents s)
@@ -209,6 +235,7 @@ module _ (s : State) (k : Kept s) (open′ : s .clock .stage ≡ FINISHED → �
   auxComponents-moved =
       record {
         table = refl;
+        plan = refl;
         unitNames = (k .unitNames .0, (k .unitNames .1 .0, (k .unitNames .1 .1 .0, (RoundBounds.aux-names (units s) (links s) (s .clock .made) (s .table .ends) (s .tree .parent) (s .aux .links) (s .aux .parents) (s .aux .color) some (k .unitNames .1 .1 .1 .0), k .unitNames .1 .1 .1 .1))));
         arcNames = k .arcNames;
         linkNames = k .linkNames;
@@ -221,6 +248,7 @@ module _ (s : State) (k : Kept s) (open′ : s .clock .stage ≡ FINISHED → �
   labelClasses-moved =
       record {
         table = refl;
+        plan = refl;
         unitNames = (k .unitNames .0, (k .unitNames .1 .0, (k .unitNames .1 .1 .0, (k .unitNames .1 .1 .1 .0, (RoundBounds.class-names (units s) (links s) (s .table .ends) (s .tree .parent) (s .order .pre) (s .aux .color) (s .labels .class) some (k .unitNames .1 .1 .1 .0) (k .unitNames .1 .1 .1 .1 .0), k .unitNames .1 .1 .1 .1 .1)))));
         arcNames = k .arcNames;
         linkNames = k .linkNames;
@@ -233,6 +261,7 @@ module _ (s : State) (k : Kept s) (open′ : s .clock .stage ≡ FINISHED → �
   labelPositions-moved =
       record {
         table = refl;
+        plan = refl;
         unitNames = k .unitNames;
         arcNames = k .arcNames;
         linkNames = (RoundBounds.label-names (links s) (s .labels .class) (s .labels .label) (k .linkNames .0), tt);
@@ -248,7 +277,8 @@ module _ (s : State) (k : Kept s) (open′ : s .clock .stage ≡ FINISHED → �
       each-round (Moved s) s
       (record {
         components = components-moved;
-        tree = tree-moved;
+        treeSearched = treeSearched-moved;
+        treePlanned = treePlanned-moved;
         tourNext = tourNext-moved;
         tourPred = tourPred-moved;
         ranking = ranking-moved;
@@ -281,6 +311,7 @@ module _ (s : State) (k : Kept s) (open′ : s .clock .stage ≡ FINISHED → �
         few = rw (m .table) (k .few);
         passes = rw (m .table) (k .passes);
         levels = rw (m .table) (k .levels);
+        given = rw (m .plan) (k .given);
         from = f .0;
         to = f .1;
         made = rw (m .table) (f .2);

@@ -30,7 +30,7 @@ use Rattle.machine.specs.StepKept.{Moved, step-kept, tables-moved, made-
 
 -- ---- a loaded state is well formed
 
-absent-names : (k n : ℕ) → All (Names k) (absents n)
+pub absent-names : (k n : ℕ) → All (Names k) (absents n)
 unfolding absents
 absent-names k n = all-replicate (Names k) n ABSENT (inr refl)
 
@@ -58,12 +58,13 @@ loaded-kept input e =
       few = site .fewLinks;
       passes = rw (loaded-words input e) alone;
       levels = all-append InRange (input .levels) _ (every-exact inRange InRange range-exact (input .levels) .0 (table-range (input .units) (input .words) (input .levels) e)) (all-drop InRange (length (input .levels)) (silences 1024) silent-levels);
+      given = omega arith;
       from = omega arith;
       to = omega arith;
       made = inr (omega arith, ceiling-positive (input .units) 1 (omega arith) (omega arith));
       rounds = omega arith;
       requests = omega arith;
-      unitNames = (all-append (Names (input .units)) (input .words) _ (all-of (Names (input .units)) (input .words) 0 (λ i l. inl (site .endsExist i l))) (all-drop (Names (input .units)) (length (input .words)) (absents 2048) (absent-names (input .units) 2048)), (absent-names (input .units) 256, (absent-names (input .units) 256, (absent-names (input .units) 256, (absent-names (input .units) 1024, tt)))));
+      unitNames = (all-append (Names (input .units)) (input .words) _ (all-of (Names (input .units)) (input .words) 0 (λ i l. inl (site .endsExist i l))) (all-drop (Names (input .units)) (length (input .words)) (absents 2048) (absent-names (input .units) 2048)), (absent-names (input .units) 256, (absent-names (input .units) 256, (absent-names (input .units) 256, (absent-names (input .units) 1024, (absent-names (input .units) 256, tt))))));
       arcNames = (absent-names (2 * (input .units)) 512, (absent-names (2 * (input .units)) 512, (absent-names (2 * (input .units)) 512, tt)));
       linkNames = (absent-names (linkCount (input .words)) 1024, tt);
       distances = (absent-distances 256, tt);

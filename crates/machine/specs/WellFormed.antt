@@ -17,7 +17,7 @@ use Rattle.machine.specs.State.{units, links, FINISHED, MAX-ROUNDS, MAX-
 
 -- units; the ends past the last link are judged as stored units alone
 abbrev pub unitTables : State → List (List ℕ)
-unitTables s = s .table .ends ∷ s .components .color ∷ s .tree .parent ∷ s .aux .color ∷ s .labels .class ∷ []
+unitTables s = s .table .ends ∷ s .components .color ∷ s .tree .parent ∷ s .aux .color ∷ s .labels .class ∷ s .plan .parent ∷ []
 
 -- list places
 abbrev pub arcTables : State → List (List ℕ)
@@ -66,7 +66,7 @@ clockOk n c =
     && leb (c .requests) MAX-REQUESTS
 
 -- every stored unit, list place or link is absent or names one that exists; no other stored number exceeds 2,048, save that a distance may be absent; every
--- level is in range (document 02, T-01)
+-- level is in range (document 02, T-01); whether a plan was given is a stored number (T-05)
 unfoldable pub entriesOk : State → Bool
 entriesOk s =
     every (every (nameOk (units s))) (unitTables s)
@@ -75,6 +75,7 @@ entriesOk s =
     && every (every distOk) (distTables s)
     && every (every numberOk) (numberTables s)
     && every inRange (s .table .levels)
+    && numberOk (s .plan .given)
 
 unfoldable pub wellFormed : State → Bool
 wellFormed s = tableOk (units s) (links s) (s .table .ends) && clockOk (units s) (s .clock) && entriesOk s

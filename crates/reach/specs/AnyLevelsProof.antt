@@ -42,7 +42,7 @@ module _ (n : ℕ) (words : List ℕ) (one two : List ℤ) (e f : State)
       go (yes i) = q .firsts j l .2 k below (ap (linkLabel f) i)
       go (no i) = q .firsts j l .2 k below (q .labels k j below l i .1 (p .labels k j below l i .0 (p .firsts j l .1)))
 
-both-alike : (n : ℕ) (words : List ℕ) (one two : List ℤ) (e f : State)
+pub both-alike : (n : ℕ) (words : List ℕ) (one two : List ℤ) (e f : State)
     → SurveyRight (withLevels n words one) e → SurveyRight (withLevels n words two) f → Alike n (linkCount words) e f
 both-alike n words one two e f p q =
     record {

@@ -28,7 +28,7 @@ use Rattle.graph.specs.Joins.{classes-by-rounds}
 use Rattle.reach.specs.Site.{Site, Link, site-graph}
 use Rattle.reach.specs.Rooted.{Rooted, nonroot-exact}
 use Rattle.reach.specs.OffTheTree.{off-flip}
-use Rattle.reach.specs.AuxEdges.{JoinsUp}
+use Rattle.reach.specs.AuxEdges.{JoinsUp, Across, across-flip}
 
 -- ---- what a join lets v hear
 
@@ -55,11 +55,10 @@ over-other parent value mark a b v w e (inr s) = go (either (eqb a v))
     go (inl f) = rw (e, f) (ap (at value) (s .1 ∙ sym (eqb-true a v f) ∙ s .0))
     go (inr f) = rw (e, f, eq-eqb b v (s .1), s .0) refl
 
--- the marks of stage 8 are the auxiliary edges, and a link off the tree joins units of which neither is the other's ancestor
+-- the marks of stage 8 are the auxiliary edges
 pub record Marked (n m : ℕ) (ends parent linkJoins parentJoins : List ℕ) (d : ℕ → ℕ) : Type 0 where
-  pub linkMarks : (j : ℕ) → j < m → (at linkJoins j ≡ 0 → ⊥) ↔ OffTree (Link m ends) (at parent) d (endA ends j) (endB ends j)
+  pub linkMarks : (j : ℕ) → j < m → (at linkJoins j ≡ 0 → ⊥) ↔ Across (Link m ends) (at parent) d (endA ends j) (endB ends j)
   pub parentMarks : (u : ℕ) → u < n → (at parentJoins u ≡ 0 → ⊥) ↔ JoinsUp (Link m ends) (at parent) d u
-  pub unrelated : (u v : ℕ) → OffTree (Link m ends) (at parent) d u v → (Anc (at parent) d u v → ⊥) × (Anc (at parent) d v u → ⊥)
 
 -- the tree links are named by the units that are no roots
 abbrev named : List ℕ → ℕ → Bool
@@ -68,7 +67,7 @@ named parent v = not (isRoot parent v)
 -- v and w are joined, either way
 abbrev Reads : ℕ → List ℕ → List ℕ → (ℕ → ℕ) → ℕ → ℕ → Type 0
 Reads m ends parent d v w =
-    OffTree (Link m ends) (at parent) d v w
+    Across (Link m ends) (at parent) d v w
     ⊎ ((JoinsUp (Link m ends) (at parent) d v × (at parent v ≡ w)) ⊎ (JoinsUp (Link m ends) (at parent) d w × (at parent w ≡ v)))
 
 -- the classes after k rounds, from any table at the start
@@ -129,7 +128,7 @@ module _
         ∙ cond-false (isRoot parent v) ABSENT _ (not-true (isRoot parent v) (h .passes))
 
     -- what a round reads of a join that counts
-    link-joined : (j : ℕ) → j < m → OffTree (Link m ends) (at parent) d (endA ends j) (endB ends j)
+    link-joined : (j : ℕ) → j < m → Across (Link m ends) (at parent) d (endA ends j) (endB ends j)
         → 0 < d (endA ends j) → 0 < d (endB ends j) → joined parent (at linkJoins j) (endA ends j) (endB ends j) ≡ true
     link-joined j l o a b =
         and-true _ _
@@ -179,14 +178,14 @@ module _
 
     near-value : (k v w : ℕ) → Picked (named parent) n v → Picked (named parent) n w → Reads m ends parent d v w → value (suc k) v ≤ value k w
     unfolding by-links by-parents value
-    near-value k v w pv pw (inl o) = over-link (o .link)
+    near-value k v w pv pw (inl o) = over-link (o .off .link)
       where
         over-link : Link m ends v w → value (suc k) v ≤ value k w
         over-link (j, l, inl s) =
             let e : joined parent (at linkJoins j) (endA ends j) (endB ends j) ≡ true = link-joined j l (rw (s .0, s .1) o) (rw (s .0) (depth-of v pv)) (rw (s .1) (depth-of w pw)) in
             rw (over-other parent (after k) (at linkJoins j) (endA ends j) (endB ends j) v w e (inl s)) at (through-link k v j pv l)
         over-link (j, l, inr s) =
-            let e : joined parent (at linkJoins j) (endA ends j) (endB ends j) ≡ true = link-joined j l (rw (s .0, s .1) (off-flip site rooted v w o)) (rw (s .0) (depth-of w pw)) (rw (s .1) (depth-of v pv)) in
+            let e : joined parent (at linkJoins j) (endA ends j) (endB ends j) ≡ true = link-joined j l (rw (s .0, s .1) (across-flip site rooted v w o)) (rw (s .0) (depth-of w pw)) (rw (s .1) (depth-of v pv)) in
             rw (over-other parent (after k) (at linkJoins j) (endA ends j) (endB ends j) v w e (inr s)) at (through-link k v j pv l)
     near-value k v w pv pw (inr (inl (j, e))) =
         rw (over-other parent (after k) (at parentJoins v) v (at parent v) v w (parent-joined v (pv .below) j) (inl (refl, e))) at (through-parent k v v pv (pv .below))
@@ -204,7 +203,7 @@ module _
         Found : Type 0
         Found = (w : ℕ) × SameLink (endA ends j) (endB ends j) v w × (joined parent (at linkJoins j) (endA ends j) (endB ends j) ≡ true) × (by-links k v j ≡ at (after k) w)
 
-        off : joined parent (at linkJoins j) (endA ends j) (endB ends j) ≡ true → OffTree (Link m ends) (at parent) d (endA ends j) (endB ends j)
+        off : joined parent (at linkJoins j) (endA ends j) (endB ends j) ≡ true → Across (Link m ends) (at parent) d (endA ends j) (endB ends j)
         off e = marked .linkMarks j l .0 (joined-mark (at linkJoins j) (endA ends j) (endB ends j) e)
 
         go : (by-links k v j ≡ at (after k) v) ⊎ Found → Attained k v (by-links k v j)
@@ -212,7 +211,7 @@ module _
         go (inr (w, inl s, e, f)) =
             inr (w, record { below = rw (← (s .1)) (site .belowB j l); passes = rw (← (s .1)) (joined-named (at linkJoins j) (endA ends j) (endB ends j) e .1) }, inl (rw (s .0, s .1) at (off e)), f)
         go (inr (w, inr s, e, f)) =
-            inr (w, record { below = rw (← (s .0)) (site .belowA j l); passes = rw (← (s .0)) (joined-named (at linkJoins j) (endA ends j) (endB ends j) e .0) }, inl (rw (s .0, s .1) at (off-flip site rooted (endA ends j) (endB ends j) (off e))), f)
+            inr (w, record { below = rw (← (s .0)) (site .belowA j l); passes = rw (← (s .0)) (joined-named (at linkJoins j) (endA ends j) (endB ends j) e .0) }, inl (rw (s .0, s .1) at (across-flip site rooted (endA ends j) (endB ends j) (off e))), f)
 
     parent-attained : (k v u : ℕ) → Picked (named parent) n v → u < n → Attained k v (by-parents k v u)
     unfolding by-parents Attained value
@@ -301,12 +300,12 @@ module _
         still v h = sym (same v (h .below))
 
         joins : (v w : ℕ) → Aux (Link m ends) (at parent) d v w → Reads m ends parent d v w × Reads m ends parent d w v
-        joins v w (across o a b) = (inl o, inl (off-flip site rooted v w o))
+        joins v w (across o a b) = let c : Across (Link m ends) (at parent) d v w = record { off = o; not-above = a; not-below = b } in (inl c, inl (across-flip site rooted v w c))
         joins v w (along a f b x y o i x′) =
             let j : JoinsUp (Link m ends) (at parent) d v = record { child = a; inner = rw f b; x = x; y = y; off = o; inside = i; outside = rw f x′ } in
             (inr (inl (j, f)), inr (inr (j, f)))
 
         joined′ : (v w : ℕ) → Picked (named parent) n v → Picked (named parent) n w → Reads m ends parent d v w → Aux (Link m ends) (at parent) d v w ⊎ Aux (Link m ends) (at parent) d w v
-        joined′ v w pv pw (inl o) = inl (across o (marked .unrelated v w o .0) (marked .unrelated v w o .1))
+        joined′ v w pv pw (inl c) = inl (across (c .off) (c .not-above) (c .not-below))
         joined′ v w pv pw (inr (inl (j, f))) = inl (along (j .child) f (rw f at (j .inner)) (j .x) (j .y) (j .off) (j .inside) (rw f at (j .outside)))
         joined′ v w pv pw (inr (inr (j, f))) = inr (along (j .child) f (rw f at (j .inner)) (j .x) (j .y) (j .off) (j .inside) (rw f at (j .outside)))

@@ -1,7 +1,7 @@
 -- Stage 8: the marks are the auxiliary edges of the graph. A unit is marked exactly when some link off the tree leads from below it to outside its
 -- parent's descendants: such a place is below the parent's interval (low) or past it (high).
 use mathlib.Core.Path.{_≡_, refl}
-use mathlib.Core.Bool.{true, not, _||_}
+use mathlib.Core.Bool.{true, not, _&&_, _||_}
 use mathlib.Core.Logic.{_⊎_, inl, inr, _↔_}
 use mathlib.Core.List.{List}
 use Prim.Native.Nat.{ℕ, _+_, _≤_, _<_, min, max}
@@ -10,16 +10,16 @@ use native.Mathlib.Omega.{arith}
 use lib.Dec.{ltb, leb}
 use borrow.Author.Tests.{ltb-true, lt-ltb, leb-true, le-leb}
 use Rattle.lists.specs.FoldLaws.{min-choice, max-choice}
-use Rattle.lists.specs.Tests.{and-exact, or-exact}
-use Rattle.rules.specs.Basics.{at, isRoot}
+use Rattle.lists.specs.Tests.{and-exact, or-exact, not-exact}
+use Rattle.rules.specs.Basics.{at, isRoot, offTree}
 use Rattle.rules.specs.Range.{localOf}
-use Rattle.rules.specs.Aux.{joinsParent}
+use Rattle.rules.specs.Aux.{within, joinsEnds, joinsParent}
 use Rattle.graph.specs.Forest.{Anc, self, up, OffTree}
 use Rattle.graph.specs.Ancestors.{anc-trans}
 use Rattle.reach.specs.Site.{Site, Link, link-below}
 use Rattle.reach.specs.Rooted.{Rooted, nonroot-exact}
 use Rattle.reach.specs.Ordered.{Ordered, Ranged}
-use Rattle.reach.specs.OffTheTree.{off-flip, Given, local-off, local-given}
+use Rattle.reach.specs.OffTheTree.{off-exact, off-flip, Given, local-off, local-given}
 
 -- u joins its parent: that is no root, and a link off the tree leads from below u to outside the parent's descendants
 pub record JoinsUp (E : ℕ → ℕ → Type 0) (p d : ℕ → ℕ) (u : ℕ) : Type 0 where
@@ -30,6 +30,37 @@ pub record JoinsUp (E : ℕ → ℕ → Type 0) (p d : ℕ → ℕ) (u : ℕ) : 
   pub off : OffTree E p d x y
   pub inside : Anc p d u y
   pub outside : Anc p d (p u) x → ⊥
+
+-- a link off the tree between two units of which neither is the other's ancestor
+pub record Across (E : ℕ → ℕ → Type 0) (p d : ℕ → ℕ) (u v : ℕ) : Type 0 where
+  pub off : OffTree E p d u v
+  pub not-above : Anc p d u v → ⊥
+  pub not-below : Anc p d v u → ⊥
+
+pub across-flip : {n m : ℕ} {ends color parent : List ℕ} {d : ℕ → ℕ} → Site n m ends → Rooted n m ends color parent d → (u v : ℕ)
+    → Across (Link m ends) (at parent) d u v → Across (Link m ends) (at parent) d v u
+across-flip site rooted u v a = record { off = off-flip site rooted u v (a .off); not-above = a .not-below; not-below = a .not-above }
+
+-- the mark of case 2 is exact
+module _
+    {n m : ℕ} {ends color parent nd pre : List ℕ} {d : ℕ → ℕ}
+    (site : Site n m ends) (rooted : Rooted n m ends color parent d) (ordered : Ordered n parent nd pre d)
+  where
+    within-exact : (u v : ℕ) → u < n → v < n → (within nd pre u v ≡ true) ↔ Anc (at parent) d u v
+    within-exact u v hu hv =
+        let i = ordered .interval u v hu hv in
+        let t = and-exact (leb (at pre u) (at pre v)) (ltb (at pre v) (at pre u + at nd u))
+        (leb-true (at pre u) (at pre v), le-leb (at pre u) (at pre v)) (ltb-true (at pre v) (at pre u + at nd u), lt-ltb (at pre v) (at pre u + at nd u)) in
+        (λ e. i .1 (t .0 e), λ a. t .1 (i .0 a))
+
+    pub across-exact : (u v : ℕ) → Link m ends u v → (joinsEnds parent nd pre u v ≡ true) ↔ Across (Link m ends) (at parent) d u v
+    across-exact u v l =
+        let hu = link-below site u v l .0 in
+        let hv = link-below site u v l .1 in
+        let t = and-exact (offTree parent u v && not (within nd pre u v)) (not (within nd pre v u))
+        (and-exact (offTree parent u v) (not (within nd pre u v)) (off-exact site rooted u v l) (not-exact (within nd pre u v) (within-exact u v hu hv)))
+        (not-exact (within nd pre v u) (within-exact v u hv hu)) in
+        (λ e. let w = t .0 e in record { off = w .0 .0; not-above = w .0 .1; not-below = w .1 }, λ a. t .1 ((a .off, a .not-above), a .not-below))
 
 module _
     {n m : ℕ} {ends color parent nd pre low high : List ℕ} {d : ℕ → ℕ}

@@ -13,7 +13,7 @@ use Rattle.table.specs.Table.{endA, endB}
 use Rattle.rules.specs.Basics.{ABSENT, MAX-NUMBER, at, bounded, isRoot}
 use Rattle.rules.specs.BoundLaws.{Names}
 use Rattle.rules.specs.Range.{placeHeard, localOf, unitAt, localAt, endPlace, globalFirst, rangeFirst, littleFirst, bigFirst, odd, movesLittle, movesBig, withLittle, withBig, rangeLater, littleLater, bigLater, globalLater}
-use Rattle.rules.specs.Aux.{linkJoinsRound, joinsParent, parentJoinsRound, heardOver, leastJoined, auxRound}
+use Rattle.rules.specs.Aux.{within, joinsEnds, linkJoinsRound, joinsParent, parentJoinsRound, heardOver, leastJoined, auxRound}
 use Rattle.rules.specs.Labels.{namingUnit, classRound, labelOf, labelRound}
 use Rattle.reach.specs.Partial.{Value, read, minus, both, nots, ands, ors, ifs, folds, overs}
 use Rattle.reach.specs.ExactRules
@@ -177,11 +177,23 @@ module _ (n : ℕ) (parent : List ℕ) (names : (v : ℕ) → v < n → Names n 
       heards n f g la (lb (not-true (isRoot parent a) (and-right (not (eqb mark 0)) (not (isRoot parent a)) r))) value h lv)
       (λ q. read n value h lv)
 
+  withins : (nd pre : List ℕ) {x y : Value} {u v : ℕ} → x ≡ some u → y ≡ some v → u < n → v < n
+      → ExactRules.within? n nd pre x y ≡ some (within nd pre u v)
+  unfolding ExactRules.within?
+  withins nd pre e f lu lv =
+      ands (both leb (read n pre e lu) (read n pre f lv)) (λ q. both ltb (read n pre f lv) (both _+_ (read n pre e lu) (read n nd e lu)))
+
+  joins-ends : (nd pre : List ℕ) {x y : Value} {a b : ℕ} → x ≡ some a → y ≡ some b → a < n → b < n
+      → ExactRules.joinsEnds? n parent nd pre x y ≡ some (joinsEnds parent nd pre a b)
+  unfolding ExactRules.joinsEnds?
+  joins-ends nd pre e f la lb =
+      ands (ands (off n e f la lb parent) (λ q. nots (withins nd pre e f la lb))) (λ q. nots (withins nd pre f e lb la))
+
   module _ (m : ℕ) (ends : List ℕ) (belowA : (j : ℕ) → j < m → endA ends j < n) (belowB : (j : ℕ) → j < m → endB ends j < n) where
-    pub link-joins : (joins : List ℕ) → ExactRules.linkJoinsRound? n m ends parent joins ≡ some (linkJoinsRound m ends parent joins)
+    pub link-joins : (nd pre joins : List ℕ) → ExactRules.linkJoinsRound? n m ends parent nd pre joins ≡ some (linkJoinsRound m ends parent nd pre joins)
     unfolding ExactRules.linkJoinsRound? linkJoinsRound
-    link-joins joins =
-        overs m _ _ joins (λ j k. marked (off n (end-a m ends refl k) (end-b m ends refl k) (belowA j k) (belowB j k) parent))
+    link-joins nd pre joins =
+        overs m _ _ joins (λ j k. marked (joins-ends nd pre (end-a m ends refl k) (end-b m ends refl k) (belowA j k) (belowB j k)))
 
     least-joined : (linkJoins parentJoins value : List ℕ) (v : ℕ) → v < n
         → ExactRules.leastJoined? n m ends parent linkJoins parentJoins value (some v) ≡ some (leastJoined n m ends parent linkJoins parentJoins value v)

@@ -54,7 +54,7 @@ module _ (s : State) (b : Base s) where
   exact : Reached s → Step.lastRound s ≡ Step.ruleEnds s → (s .clock .stage ≡ FINISHED → ⊥) → Exact s
   exact (in1 i) u h =
       record { ends = ends-else 1 (i .stage) (omega arith); tables = Step.components s; plain = step-at 1 tt s (i .stage); exact = tables-at 1 _ s (i .stage) ∙ components-exact s b }
-  exact (in2 i) u h = record { ends = ends-else 2 (i .stage) (omega arith); tables = Step.tree s; plain = step-at 2 tt s (i .stage); exact = tables-at 2 _ s (i .stage) ∙ tree-exact s b }
+  exact (in2 i) u h = record { ends = ends-else 2 (i .stage) (omega arith); tables = Step.tree s; plain = step-at 2 tt s (i .stage); exact = tables-at 2 _ s (i .stage) ∙ tree-exact s b i }
   exact (in3 i) u h =
       record { ends = ends-else 3 (i .stage) (omega arith); tables = Step.tour s; plain = step-at 3 tt s (i .stage); exact = tables-at 3 _ s (i .stage) ∙ tour-exact s b (i .treed) }
   exact (in4 i) u h =

@@ -4,7 +4,7 @@
 use mathlib.Core.Bool.{cond}
 use mathlib.Core.Option.{Option, none, some}
 use mathlib.Core.List.{List}
-use Prim.Native.Nat.{ℕ, suc, _*_, _^_, min}
+use Prim.Native.Nat.{ℕ, zero, suc, _*_, _^_, min}
 use lib.Dec.{eqb, ltb}
 use lib.IntN.{ℤ, pos, negsuc}
 use Rattle.rules.specs.Components.{colorSaid}
@@ -82,6 +82,22 @@ distRound? n m made ends levels color dist = over? n (λ (v : Value). if? (visit
 
 unfoldable pub treeEnds? : ℕ → ℕ → ℕ → List ℕ → List ℤ → List ℕ → List ℕ → Test
 treeEnds? n m made ends levels color dist = not? (any? n (visits? n m made ends levels color dist))
+
+-- with a plan (document 02, T-05)
+
+unfoldable pub onward? : Value → Value
+onward? x = if? (eq? x absent) absent (plus? x (some 1))
+
+unfoldable pub stepsTo? : ℕ → List ℕ → Value → ℕ → Value → Value
+stepsTo? n plan c zero v = absent
+stepsTo? n plan c (suc k) v =
+    if? (eq? v c) (some 0) (if? (eq? (at? n plan v) absent) absent (onward? (stepsTo? n plan c k (at? n plan v))))
+
+unfoldable pub plannedParents? : ℕ → List ℕ → List ℕ → Option (List ℕ)
+plannedParents? n plan parent = over? n (at? n plan) parent
+
+unfoldable pub plannedDists? : ℕ → List ℕ → List ℕ → List ℕ → Option (List ℕ)
+plannedDists? n plan color dist = over? n (λ (v : Value). stepsTo? n plan (at? n color v) n v) dist
 
 -- ---- stage 3
 
@@ -262,8 +278,15 @@ globalLater? op i n global =
 
 -- ---- stage 8: the parent of a root is not looked up
 
-unfoldable pub linkJoinsRound? : ℕ → ℕ → List ℕ → List ℕ → List ℕ → Option (List ℕ)
-linkJoinsRound? n m ends parent joins = over? m (λ (j : Value). mark? (offTree? n parent (endA? m ends j) (endB? m ends j))) joins
+unfoldable pub within? : ℕ → List ℕ → List ℕ → Value → Value → Test
+within? n nd pre u v = and? (le? (at? n pre u) (at? n pre v)) (lt? (at? n pre v) (plus? (at? n pre u) (at? n nd u)))
+
+unfoldable pub joinsEnds? : ℕ → List ℕ → List ℕ → List ℕ → Value → Value → Test
+joinsEnds? n parent nd pre a b = and? (and? (offTree? n parent a b) (not? (within? n nd pre a b))) (not? (within? n nd pre b a))
+
+unfoldable pub linkJoinsRound? : ℕ → ℕ → List ℕ → List ℕ → List ℕ → List ℕ → List ℕ → Option (List ℕ)
+linkJoinsRound? n m ends parent nd pre joins =
+    over? m (λ (j : Value). mark? (joinsEnds? n parent nd pre (endA? m ends j) (endB? m ends j))) joins
 
 unfoldable pub joinsParent? : ℕ → List ℕ → List ℕ → List ℕ → List ℕ → List ℕ → Value → Test
 joinsParent? n parent nd pre low high u =

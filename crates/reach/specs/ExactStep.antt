@@ -11,7 +11,8 @@ use Rattle.rules.specs.Aux.{auxEnds}
 use Rattle.machine.specs.State.{State}
 use Rattle.state.specs.declared.groups.Clock.{Clock}
 use Rattle.machine.specs.State.{units, links, finished, withClock, withComponents, withTree, withTour, withRanking, withOrder, withRange, withGlobal, withAux, withLabels}
-use Rattle.reach.specs.Partial.{Value, Test, _>>=_}
+use Rattle.machine.specs.Step.{planned}
+use Rattle.reach.specs.Partial.{Value, Test, _>>=_, or?}
 use Rattle.reach.specs.ExactRules
 
 -- ---- the tables of each stage after a round
@@ -24,11 +25,20 @@ components? s = do
   color ← colors? s
   some (withComponents (record { color = color }) s)
 
-unfoldable pub tree? : State → Option State
-tree? s = do
+unfoldable pub treeSearched? : State → Option State
+treeSearched? s = do
   parent ← ExactRules.parentRound? (units s) (links s) (s .clock .made) (s .table .ends) (s .table .levels) (s .components .color) (s .tree .dist) (s .tree .parent)
   dist ← ExactRules.distRound? (units s) (links s) (s .clock .made) (s .table .ends) (s .table .levels) (s .components .color) (s .tree .dist)
   some (withTree (record { parent = parent; dist = dist }) s)
+
+unfoldable pub treePlanned? : State → Option State
+treePlanned? s = do
+  parent ← ExactRules.plannedParents? (units s) (s .plan .parent) (s .tree .parent)
+  dist ← ExactRules.plannedDists? (units s) (s .plan .parent) (s .components .color) (s .tree .dist)
+  some (withTree (record { parent = parent; dist = dist }) s)
+
+unfoldable pub tree? : State → Option State
+tree? s = cond (planned s) (treePlanned? s) (treeSearched? s)
 
 unfoldable pub tourNext? : State → Option State
 tourNext? s = do
@@ -100,7 +110,7 @@ range? s = cond (eqb (s .clock .made) 0) (rangeBegun? s) (rangeDoubled? (s .cloc
 unfoldable pub auxEdges? : State → Option State
 auxEdges? s = do
   parents ← ExactRules.parentJoinsRound? (units s) (s .tree .parent) (s .order .nd) (s .order .pre) (s .range .low) (s .range .high) (s .aux .parents)
-  joins ← ExactRules.linkJoinsRound? (units s) (links s) (s .table .ends) (s .tree .parent) (s .aux .links)
+  joins ← ExactRules.linkJoinsRound? (units s) (links s) (s .table .ends) (s .tree .parent) (s .order .nd) (s .order .pre) (s .aux .links)
   some (withAux (record { parents = parents; links = joins; color = s .aux .color }) s)
 
 unfoldable pub auxColors? : State → Option (List ℕ)
@@ -131,7 +141,7 @@ unfoldable pub ruleEnds? : State → Test
 ruleEnds? s =
     cond (eqb (s .clock .stage) 1) (colors? s >>= λ after. some (colorEnds (units s) (s .clock .made) (s .components .color) after))
     (cond (eqb (s .clock .stage) 2)
-    (ExactRules.treeEnds? (units s) (links s) (s .clock .made) (s .table .ends) (s .table .levels) (s .components .color) (s .tree .dist))
+    (or? (some (planned s)) (ExactRules.treeEnds? (units s) (links s) (s .clock .made) (s .table .ends) (s .table .levels) (s .components .color) (s .tree .dist)))
     (cond (eqb (s .clock .stage) 3) (some (eqb (s .clock .made) 1))
     (cond (eqb (s .clock .stage) 4) (ExactRules.rankingEnds? (2 * units s) (s .ranking .jump))
     (cond (eqb (s .clock .stage) 5) (some (eqb (s .clock .made) 1))

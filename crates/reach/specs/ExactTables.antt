@@ -37,12 +37,15 @@ use Rattle.reach.specs.Doubling
 use Rattle.reach.specs.Doubling.{Potential, Ranked}
 use Rattle.reach.specs.Segments.{SegmentsAt, Spans, lastPlace, place-spans}
 use Rattle.reach.specs.Invariant
-use Rattle.reach.specs.Invariant.{Base, Treed, Numbered, In6, In7, Reached}
+use Rattle.reach.specs.Planned.{Fits, plan-names}
+use Rattle.reach.specs.Colors.{Colored}
+use Rattle.reach.specs.Invariant.{Base, Treed, Numbered, PlanFits, In2, In6, In7, Reached}
 use Rattle.reach.specs.RankingOf.{second-potential}
-use Rattle.reach.specs.Partial.{conds}
+use Rattle.reach.specs.Partial.{conds, ors}
 use Rattle.reach.specs.ExactRules
 use Rattle.reach.specs.ExactStep
 use Rattle.reach.specs.ExactLaws1 as Laws1
+use Rattle.reach.specs.ExactPlanned as LawsP
 use Rattle.reach.specs.ExactLaws2 as Laws2
 use Rattle.reach.specs.ExactLaws3 as Laws3
 
@@ -107,7 +110,7 @@ module _ (s : State) (b : Base s) where
       conds (eqb (s .clock .stage) 1) (λ q. rw colors-exact refl)
       (λ q.
       conds (eqb (s .clock .stage) 2)
-      (λ q. Laws1.tree-ends (units s) (links s) (s .table .ends) (b .site .belowA) (b .site .belowB) (s .table .levels) fair (s .clock .made) (s .tree .dist) (s .components .color))
+      (λ q. ors refl (λ _. Laws1.tree-ends (units s) (links s) (s .table .ends) (b .site .belowA) (b .site .belowB) (s .table .levels) fair (s .clock .made) (s .tree .dist) (s .components .color)))
       (λ q.
       conds (eqb (s .clock .stage) 3) (λ q. refl)
       (λ q.
@@ -134,14 +137,32 @@ module _ (s : State) (b : Base s) where
   unfolding ExactStep.components? Step.components
   components-exact = rw (colors-exact s b) refl
 
-  pub tree-exact : ExactStep.tree? s ≡ some (Step.tree s)
-  unfolding ExactStep.tree? Step.tree
-  tree-exact =
+  searched-exact : ExactStep.treeSearched? s ≡ some (Step.treeSearched s)
+  unfolding ExactStep.treeSearched? Step.treeSearched
+  searched-exact =
       rw (
         Laws1.parent-round (units s) (links s) (s .table .ends) (b .site .belowA) (b .site .belowB) (s .table .levels) (fair s b) (s .clock .made) (s .tree .dist) (s .components .color) (s .tree .parent),
         Laws1.dist-round (units s) (links s) (s .table .ends) (b .site .belowA) (b .site .belowB) (s .table .levels) (fair s b) (s .clock .made) (s .tree .dist) (s .components .color),
       )
       refl
+
+  planned-exact : Fits (units s) (links s) (s .table .ends) (s .plan .parent) → Colored (units s) (links s) (s .table .ends) (s .components .color)
+      → ExactStep.treePlanned? s ≡ some (Step.treePlanned s)
+  unfolding ExactStep.treePlanned? Step.treePlanned
+  planned-exact fits colored =
+      rw (
+        LawsP.planned-parents (units s) (s .plan .parent) (s .tree .parent),
+        LawsP.planned-dists (units s) (s .plan .parent) (plan-names (b .site) fits) (s .components .color) (s .tree .dist),
+      )
+      refl
+
+  pub tree-exact : In2 s → ExactStep.tree? s ≡ some (Step.tree s)
+  unfolding ExactStep.tree? Step.tree
+  tree-exact i = conds (Step.planned s) (λ q. go q (i .plan)) (λ q. searched-exact)
+    where
+      go : Step.planned s ≡ true → PlanFits s → ExactStep.treePlanned? s ≡ some (Step.treePlanned s)
+      go q (inl p) = absurd (not-both (Step.planned s) q p)
+      go q (inr (p, fits)) = planned-exact fits (i .colored)
 
 -- ---- stages 3 and 5
 
@@ -327,7 +348,7 @@ module _ (s : State) (b : Base s) where
   edges-exact t =
       rw (
         Laws3.parent-joins (units s) (s .tree .parent) (names s b t) (s .order .nd) (s .order .pre) (s .range .low) (s .range .high) (s .aux .parents),
-        Laws3.link-joins (units s) (s .tree .parent) (names s b t) (links s) (s .table .ends) (b .site .belowA) (b .site .belowB) (s .aux .links),
+        Laws3.link-joins (units s) (s .tree .parent) (names s b t) (links s) (s .table .ends) (b .site .belowA) (b .site .belowB) (s .order .nd) (s .order .pre) (s .aux .links),
       )
       refl
 

@@ -1,6 +1,6 @@
 -- What holds of every state that a load reaches, stage by stage: what the stages before have left, and how far this one has come.
 use mathlib.Core.Path.{_≡_}
-use mathlib.Core.Bool.{true, cond}
+use mathlib.Core.Bool.{true, false, cond}
 use mathlib.Core.Logic.{_⊎_}
 use mathlib.Core.List.{List}
 use Prim.Native.Nat.{ℕ, _+_, _*_, _-_, _≤_, _<_, min, max}
@@ -12,14 +12,16 @@ use Rattle.lists.specs.FoldLaws.{AtLeast}
 use Rattle.rules.specs.Tour.{isInto, isArc, follower, predecessor}
 use Rattle.rules.specs.Range.{localAt}
 use Rattle.rules.specs.Labels.{namingUnit}
-use Rattle.graph.specs.Forest.{Anc, OffTree, Classes}
+use Rattle.graph.specs.Forest.{Classes}
 use Rattle.machine.specs.State.{State}
 use Rattle.machine.specs.State.{units, links, FINISHED}
+use Rattle.machine.specs.Step.{planned}
 use Rattle.reach.specs.Site.{Site, Link}
 use Rattle.reach.specs.Rooted.{Rooted}
 use Rattle.reach.specs.Sized.{Sized}
 use Rattle.reach.specs.Colors.{ColorsAt, Colored}
 use Rattle.reach.specs.BreadthFirst.{TreeAt}
+use Rattle.reach.specs.Planned.{Fits}
 use Rattle.reach.specs.SizeAndOrder.{nd}
 use Rattle.reach.specs.Potentials.{rankOf, forwardSum}
 use Rattle.reach.specs.Doubling.{Ranked, asked}
@@ -35,12 +37,14 @@ pub record Fresh (s : State) : Type 0 where
   pub parents : (v : ℕ) → v < units s → at (s .tree .parent) v ≡ ABSENT
   pub distances : (v : ℕ) → v < units s → at (s .tree .dist) v ≡ ABSENT
 
--- stage 2's tree, with the one law that breadth-first gives: a link off the tree joins units of which neither is the other's ancestor
+-- no tree of the planner's was given, or one that passed 18
+abbrev pub PlanFits : State → Type 0
+PlanFits s = (planned s ≡ false) ⊎ ((planned s ≡ true) × Fits (units s) (links s) (s .table .ends) (s .plan .parent))
+
+-- stage 2's tree: a forest along links, rooted at the colour units
 pub record Treed (s : State) : Type 0 where
   pub depth : ℕ → ℕ
   pub rooted : Rooted (units s) (links s) (s .table .ends) (s .components .color) (s .tree .parent) depth
-  pub unrelated : (u v : ℕ) → OffTree (Link (links s) (s .table .ends)) (at (s .tree .parent)) depth u v
-      → (Anc (at (s .tree .parent)) depth u v → ⊥) × (Anc (at (s .tree .parent)) depth v u → ⊥)
 
 -- round one of stage 3
 abbrev Followers : State → Type 0
@@ -77,6 +81,7 @@ pub record Numbered (s : State) : Type 0 where
 pub record In1 (s : State) : Type 0 where
   pub stage : s .clock .stage ≡ 1
   pub quiet : s .clock .requests ≡ 0
+  pub plan : PlanFits s
   pub fresh : Fresh s
   pub colors : (s .clock .made ≡ 0)
       ⊎ ((1 ≤ s .clock .made) × ColorsAt (units s) (links s) (s .table .ends) (s .components .color) (s .clock .made))
@@ -84,6 +89,7 @@ pub record In1 (s : State) : Type 0 where
 pub record In2 (s : State) : Type 0 where
   pub stage : s .clock .stage ≡ 2
   pub quiet : s .clock .requests ≡ 0
+  pub plan : PlanFits s
   pub colored : Colored (units s) (links s) (s .table .ends) (s .components .color)
   pub tree : ((s .clock .made ≡ 0) × Fresh s)
       ⊎ ((1 ≤ s .clock .made) × TreeAt (units s) (links s) (s .table .ends) (s .components .color) (s .tree .parent) (s .tree .dist) (s .clock .made))

@@ -3,6 +3,9 @@ pub mod Rooted
 pub mod Sized
 pub mod Colors
 pub mod BreadthFirst
+pub mod Planned
+pub mod PlanCause
+pub mod PlanCauseProof
 pub mod SizeAndOrder
 pub mod Potentials
 pub mod TourOf
@@ -24,13 +27,17 @@ pub mod Rounds7and8
 pub mod Rounds9and10
 pub mod Loaded
 pub mod Started
+pub mod PlannedStart
 pub mod Reach
 pub mod AnyLevels
 pub mod AnyLevelsProof
+pub mod AnyPlan
+pub mod AnyPlanProof
 pub mod Partial
 pub mod ExactRules
 pub mod ExactStep
 pub mod ExactLaws1
+pub mod ExactPlanned
 pub mod ExactLaws2
 pub mod ExactLaws3
 pub mod ExactTables

@@ -32,7 +32,7 @@ module _ (input : Input) (e : storedLoadRefusal input ≡ 0) where
   pub same-links : (u v : ℕ) → Link (linkCount (input .words)) (endsOf (input .words)) u v ↔ Link (linkCount (input .words)) (input .words) u v
   same-links u v = (λ (j, l, s). (j, l, rw (end-a j l, end-b j l) at s), λ (j, l, s). (j, l, rw (end-a j l, end-b j l) s))
 
-  site-loaded : Site (input .units) (linkCount (input .words)) (endsOf (input .words))
+  pub site-loaded : Site (input .units) (linkCount (input .words)) (endsOf (input .words))
   site-loaded =
       record {
         someUnit = p .someUnit;
@@ -44,15 +44,28 @@ module _ (input : Input) (e : storedLoadRefusal input ≡ 0) where
         once = λ j k d lj lk s. p .once j k d lj lk (rw (end-a j lj, end-b j lj, end-a k lk, end-b k lk) at s);
       }
 
+  -- the site over the table's own words
+  pub site-words : Site (input .units) (linkCount (input .words)) (input .words)
+  site-words =
+      record {
+        someUnit = p .someUnit;
+        fewUnits = p .fewUnits;
+        fewLinks = p .fewLinks;
+        belowA = λ j l. p .endsExist (2 * j) (omega (arith, p .pairs));
+        belowB = λ j l. p .endsExist (2 * j + 1) (omega (arith, p .pairs));
+        differ = λ j l q. p .endsDiffer j l q;
+        once = λ j k d lj lk s. p .once j k d lj lk s;
+      }
+
   pub base-loaded : Base (loaded input)
   unfolding loaded begun
   base-loaded = record { site = site-loaded; sized = loaded-sized input; levels = loaded-kept input e .levels }
 
-  absent-at : (v : ℕ) → v < (input .units) → at (absents 256) v ≡ ABSENT
+  pub absent-at : (v : ℕ) → v < (input .units) → at (absents 256) v ≡ ABSENT
   unfolding absents
   absent-at v l = getD-replicate 256 v ABSENT 0 (omega (arith, p .fewUnits))
 
   pub reached-loaded : Reached (loaded input)
   unfolding loaded begun
   reached-loaded =
-      in1 (record { stage = refl; quiet = refl; fresh = record { parents = absent-at; distances = absent-at }; colors = inl refl })
+      in1 (record { stage = refl; quiet = refl; plan = inl refl; fresh = record { parents = absent-at; distances = absent-at }; colors = inl refl })

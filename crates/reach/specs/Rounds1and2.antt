@@ -1,6 +1,6 @@
 -- Rounds of stages 1 and 2.
 use mathlib.Core.Path.{_≡_, refl, sym, ap, _∙_}
-use mathlib.Core.Bool.{Bool, true, false, cond}
+use mathlib.Core.Bool.{Bool, true, false, cond, _||_}
 use mathlib.Core.Logic.{_⊎_, inl, inr}
 use mathlib.Core.List.{List}
 use Prim.Native.Nat.{ℕ, suc, _+_, _≤_, _<_, max}
@@ -15,13 +15,14 @@ use Rattle.rules.specs.Tree.{parentRound, distRound, treeEnds}
 use Rattle.machine.specs.State.{State}
 use Rattle.machine.specs.State.{MAX-REQUESTS, units, links}
 use Rattle.machine.specs.Step
-use Rattle.machine.specs.StageLaws.{ticked, step-at, ends-at, requests-at}
+use Rattle.machine.specs.StageLaws.{ticked, step-at, ends-at, requests-at, tree-planned, tree-searched}
 use Rattle.reach.specs.Site.{Site}
 use Rattle.reach.specs.Rooted.{Rooted}
 use Rattle.reach.specs.Sized.{Sized}
 use Rattle.reach.specs.Colors
 use Rattle.reach.specs.BreadthFirst
-use Rattle.reach.specs.Invariant.{Base, Fresh, Treed, In1, In2, In3, Reached, in1, in2, in3}
+use Rattle.reach.specs.Planned.{Fits, depthIn, planned-rooted}
+use Rattle.reach.specs.Invariant.{Base, Fresh, PlanFits, Treed, In1, In2, In3, Reached, in1, in2, in3}
 use Rattle.reach.specs.Ticks.{Goes, goes-within, goes-over, stage-on, made-on, stage-over, made-over, requests-next}
 
 -- ---- stage 1
@@ -55,6 +56,7 @@ module _ (s : State) (b : Base s) (i : In1 s) where
       (record {
         stage = stage-on (Step.lastRound s) (Step.roundRequests s) (s .clock) e ∙ i .stage;
         quiet = quiet-1 (Step.lastRound s);
+        plan = i .plan;
         fresh = fresh-1;
         colors = inr (rw (made-on (Step.lastRound s) (Step.roundRequests s) (s .clock) e) (omega arith, rw (add-one (s .clock .made)) c));
       })
@@ -68,6 +70,7 @@ module _ (s : State) (b : Base s) (i : In1 s) where
       (record {
         stage = stage-over (Step.lastRound s) (Step.roundRequests s) (s .clock) e ∙ omega (arith, i .stage);
         quiet = quiet-1 (Step.lastRound s);
+        plan = i .plan;
         colored = c;
         tree = inl (made-over (Step.lastRound s) (Step.roundRequests s) (s .clock) e, fresh-1);
       })
@@ -108,13 +111,14 @@ module _ (s : State) (b : Base s) (i : In2 s) where
       ∙ omega (arith, i .quiet, requests-at 2 s (i .stage))
 
   on-2 : Step.lastRound s ≡ false → BreadthFirst.TreeAt (units s) (links s) (s .table .ends) (s .components .color) parents′ dists′ (suc (s .clock .made))
-      → Reached (ticked s (Step.tree s))
-  unfolding Step.tree parents′ dists′
+      → Reached (ticked s (Step.treeSearched s))
+  unfolding Step.treeSearched parents′ dists′
   on-2 e t =
       in2
       (record {
         stage = stage-on (Step.lastRound s) (Step.roundRequests s) (s .clock) e ∙ i .stage;
         quiet = quiet-2 (Step.lastRound s);
+        plan = i .plan;
         colored = i .colored;
         tree = inr (rw (made-on (Step.lastRound s) (Step.roundRequests s) (s .clock) e) (omega arith, rw (add-one (s .clock .made)) t));
       })
@@ -122,8 +126,8 @@ module _ (s : State) (b : Base s) (i : In2 s) where
   over-2 : Step.lastRound s ≡ true
       → Rooted (units s) (links s) (s .table .ends) (s .components .color) parents′ (BreadthFirst.depthOf (units s) dists′)
       × BreadthFirst.Leveled (links s) (s .table .ends) (BreadthFirst.depthOf (units s) dists′)
-      → Reached (ticked s (Step.tree s))
-  unfolding Step.tree parents′ dists′
+      → Reached (ticked s (Step.treeSearched s))
+  unfolding Step.treeSearched parents′ dists′
   over-2 e (rooted, leveled) =
       in3
       (record {
@@ -133,17 +137,47 @@ module _ (s : State) (b : Base s) (i : In2 s) where
             record {
               depth = BreadthFirst.depthOf (units s) dists′;
               rooted = rooted;
-              unrelated = λ u v o. BreadthFirst.off-unrelated (b .site) leveled rooted o;
             };
         tour = inl (made-over (Step.lastRound s) (Step.roundRequests s) (s .clock) e);
       })
 
-  pub goes-2 : Goes s
+  parent-room : units s ≤ length (s .tree .parent)
+  parent-room = omega (arith, b .site .fewUnits, b .sized .byUnit .1 .0)
+
+  dist-room : units s ≤ length (s .tree .dist)
+  dist-room = omega (arith, b .site .fewUnits, b .sized .byUnit .1 .1 .0)
+
+  -- a planner's tree: one round takes it over
+  over-planned : Step.lastRound s ≡ true → Fits (units s) (links s) (s .table .ends) (s .plan .parent) → Reached (ticked s (Step.treePlanned s))
+  unfolding Step.treePlanned
+  over-planned e fits =
+      in3
+      (record {
+        stage = stage-over (Step.lastRound s) (Step.roundRequests s) (s .clock) e ∙ omega (arith, i .stage);
+        quiet = quiet-2 (Step.lastRound s);
+        treed =
+            record {
+              depth = depthIn (units s) (s .plan .parent);
+              rooted = planned-rooted (b .site) fits (i .colored) (s .tree .parent) (s .tree .dist) parent-room dist-room;
+            };
+        tour = inl (made-over (Step.lastRound s) (Step.roundRequests s) (s .clock) e);
+      })
+
+  goes-planned : Step.planned s ≡ true → Fits (units s) (links s) (s .table .ends) (s .plan .parent) → Goes s
+  goes-planned e fits =
+      goes-over s (Step.treePlanned s) within-2 (step-at 2 tt s (i .stage) ∙ ap (ticked s) (tree-planned s e)) (ends-at 2 s (i .stage) ∙ ap (λ (p : Bool). p || treeEnds (units s) (links s) (s .clock .made) (s .table .ends) (s .table .levels) (s .components .color) (s .tree .dist)) e)
+      (λ q. over-planned q fits)
+
+  -- the survey's own tree
+  goes-searched : Step.planned s ≡ false → Goes s
   unfolding parents′ dists′
-  goes-2 = go (i .tree) (either (Step.ruleEnds s))
+  goes-searched p = go (i .tree) (either (Step.ruleEnds s))
     where
+      is : Step.step s ≡ ticked s (Step.treeSearched s)
+      is = step-at 2 tt s (i .stage) ∙ ap (ticked s) (tree-searched s p)
+
       rule : Step.ruleEnds s ≡ treeEnds (units s) (links s) (s .clock .made) (s .table .ends) (s .table .levels) (s .components .color) (s .tree .dist)
-      rule = ends-at 2 s (i .stage)
+      rule = ends-at 2 s (i .stage) ∙ ap (λ (q : Bool). q || treeEnds (units s) (links s) (s .clock .made) (s .table .ends) (s .table .levels) (s .components .color) (s .tree .dist)) p
 
       Later : Type 0
       Later = (1 ≤ s .clock .made) × BreadthFirst.TreeAt (units s) (links s) (s .table .ends) (s .components .color) (s .tree .parent) (s .tree .dist) (s .clock .made)
@@ -151,10 +185,16 @@ module _ (s : State) (b : Base s) (i : In2 s) where
       go : ((s .clock .made ≡ 0) × Fresh s) ⊎ Later → (Step.ruleEnds s ≡ true) ⊎ (Step.ruleEnds s ≡ false) → Goes s
       go (inl (z, f)) r =
           let e : Step.ruleEnds s ≡ false = rule ∙ rw z (BreadthFirst.first-goes-on (b .site) (s .table .levels) (i .colored) (s .tree .dist)) in
-          let first = BreadthFirst.first (b .site) (s .table .levels) (i .colored) (s .tree .parent) (s .tree .dist) (omega (arith, b .site .fewUnits, b .sized .byUnit .1 .0))
-          (omega (arith, b .site .fewUnits, b .sized .byUnit .1 .1 .0)) (f .parents) (f .distances) in
-          goes-within s (Step.tree s) within-2 (step-at 2 tt s (i .stage)) e (rw (i .stage) (omega (arith, b .site .someUnit))) (λ q. on-2 q (rw z first))
+          let first = BreadthFirst.first (b .site) (s .table .levels) (i .colored) (s .tree .parent) (s .tree .dist) parent-room dist-room (f .parents) (f .distances) in
+          goes-within s (Step.treeSearched s) within-2 is e (rw (i .stage) (omega (arith, b .site .someUnit))) (λ q. on-2 q (rw z first))
       go (inr (l, t)) (inr r) =
-          goes-within s (Step.tree s) within-2 (step-at 2 tt s (i .stage)) r (rw (i .stage) (omega (arith, BreadthFirst.bound (b .site) (s .table .levels) (i .colored) t l (sym rule ∙ r)))) (λ q. on-2 q (BreadthFirst.next (b .site) (s .table .levels) (i .colored) t l))
+          goes-within s (Step.treeSearched s) within-2 is r (rw (i .stage) (omega (arith, BreadthFirst.bound (b .site) (s .table .levels) (i .colored) t l (sym rule ∙ r)))) (λ q. on-2 q (BreadthFirst.next (b .site) (s .table .levels) (i .colored) t l))
       go (inr (l, t)) (inl r) =
-          goes-over s (Step.tree s) within-2 (step-at 2 tt s (i .stage)) r (λ q. over-2 q (BreadthFirst.done (b .site) (s .table .levels) (i .colored) t l (sym rule ∙ r)))
+          goes-over s (Step.treeSearched s) within-2 is r (λ q. over-2 q (BreadthFirst.done (b .site) (s .table .levels) (i .colored) t l (sym rule ∙ r)))
+
+  pub goes-2 : Goes s
+  goes-2 = go (i .plan)
+    where
+      go : PlanFits s → Goes s
+      go (inl p) = goes-searched p
+      go (inr (p, fits)) = goes-planned p fits

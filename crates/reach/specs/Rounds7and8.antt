@@ -12,10 +12,10 @@ use Rattle.lists.specs.Tests.{either}
 use Rattle.lists.specs.Tables.{getD-over}
 use Rattle.numbers.specs.Lg.{lg}
 use Rattle.table.specs.Table.{endA, endB}
-use Rattle.rules.specs.Basics.{at, offTree}
+use Rattle.rules.specs.Basics.{at}
 use Rattle.lists.specs.FoldLaws.{AtLeast, min-choice, max-choice}
 use Rattle.rules.specs.Range.{localAt, localOf, globalFirst, rangeFirst, littleFirst, bigFirst, rangeLater, littleLater, bigLater, globalLater, rangeEnds}
-use Rattle.rules.specs.Aux.{linkJoinsRound, joinsParent, parentJoinsRound}
+use Rattle.rules.specs.Aux.{joinsEnds, linkJoinsRound, joinsParent, parentJoinsRound}
 use Rattle.machine.specs.State.{State}
 use Rattle.state.specs.declared.groups.Range.{Range}
 use Rattle.state.specs.declared.groups.Global.{Global}
@@ -25,8 +25,7 @@ use Rattle.machine.specs.StageLaws.{ticked, range-first, range-later, step-at, 
 use Rattle.reach.specs.Segments
 use Rattle.reach.specs.Segments.{SegmentsAt, Spans, lastPlace, place-spans, first-round, over-descendants}
 use Rattle.reach.specs.Ordered.{Ordered, Ranged}
-use Rattle.reach.specs.OffTheTree.{off-exact}
-use Rattle.reach.specs.AuxEdges.{joins-exact}
+use Rattle.reach.specs.AuxEdges.{across-exact, joins-exact}
 use Rattle.reach.specs.AuxColors.{Marked}
 use Rattle.reach.specs.Invariant.{Base, Numbered, In7, In8, Reached, in7, in8, in9}
 use Rattle.reach.specs.Ticks.{Goes, goes-within, goes-over, stage-on, made-on, stage-over, made-over, requests-next}
@@ -88,7 +87,7 @@ module _ (s : State) (b : Base s) (i : In7 s) where
   numbered-7 : (r : Range) (g : Global) → Numbered (ticked s (withRange r (withGlobal g s)))
   numbered-7 r g =
       record {
-        treed = record { depth = i .numbered .treed .depth; rooted = i .numbered .treed .rooted; unrelated = i .numbered .treed .unrelated };
+        treed = record { depth = i .numbered .treed .depth; rooted = i .numbered .treed .rooted };
         ordered = i .numbered .ordered;
       }
 
@@ -240,16 +239,16 @@ module _ (s : State) (b : Base s) (i : In8 s) where
   mark-exact true h y e = (λ n. h .0 refl, λ a. omega arith)
   mark-exact {A} false h y e = (λ n. absurd (n e), λ a. absurd (false≢true (h .1 a)))
 
-  marked-8 : Marked (units s) (links s) (s .table .ends) (s .tree .parent) (linkJoinsRound (links s) (s .table .ends) (s .tree .parent) (s .aux .links))
+  marked-8 : Marked (units s) (links s) (s .table .ends) (s .tree .parent) (linkJoinsRound (links s) (s .table .ends) (s .tree .parent) (s .order .nd) (s .order .pre) (s .aux .links))
       (parentJoinsRound (units s) (s .tree .parent) (s .order .nd) (s .order .pre) (s .range .low) (s .range .high) (s .aux .parents)) (i .numbered .treed .depth)
   unfolding linkJoinsRound parentJoinsRound
   marked-8 =
       record {
         linkMarks =
             λ j l.
-            mark-exact (offTree (s .tree .parent) (endA (s .table .ends) j) (endB (s .table .ends) j))
-            (off-exact (b .site) (i .numbered .treed .rooted) (endA (s .table .ends) j) (endB (s .table .ends) j) (j, l, inl (refl, refl))) _
-            (getD-over (links s) (λ (k : ℕ). cond (offTree (s .tree .parent) (endA (s .table .ends) k) (endB (s .table .ends) k)) 1 0) (s .aux .links) j 0 l
+            mark-exact (joinsEnds (s .tree .parent) (s .order .nd) (s .order .pre) (endA (s .table .ends) j) (endB (s .table .ends) j))
+            (across-exact (b .site) (i .numbered .treed .rooted) (i .numbered .ordered) (endA (s .table .ends) j) (endB (s .table .ends) j) (j, l, inl (refl, refl))) _
+            (getD-over (links s) (λ (k : ℕ). cond (joinsEnds (s .tree .parent) (s .order .nd) (s .order .pre) (endA (s .table .ends) k) (endB (s .table .ends) k)) 1 0) (s .aux .links) j 0 l
             (omega (arith, l, b .site .fewLinks, b .sized .byLink .0)));
         parentMarks =
             λ u l.
@@ -257,7 +256,6 @@ module _ (s : State) (b : Base s) (i : In8 s) where
             (joins-exact (b .site) (i .numbered .treed .rooted) (i .numbered .ordered) (i .ranged) u l) _
             (getD-over (units s) (λ (v : ℕ). cond (joinsParent (s .tree .parent) (s .order .nd) (s .order .pre) (s .range .low) (s .range .high) v) 1 0) (s .aux .parents) u 0 l
             (omega (arith, l, b .site .fewUnits, b .sized .byUnit .1 .1 .1 .1 .1 .1 .1 .1 .1 .1 .1 .0)));
-        unrelated = i .numbered .treed .unrelated;
       }
 
   over-8 : Step.lastRound s ≡ true → Reached (ticked s (Step.auxEdges s))
@@ -269,7 +267,7 @@ module _ (s : State) (b : Base s) (i : In8 s) where
         few = omega (arith, requests-next (Step.lastRound s) (Step.roundRequests s) (s .clock) (omega (arith, i .few, requests-at 8 s (i .stage))), i .few, requests-at 8 s (i .stage));
         numbered =
             record {
-              treed = record { depth = i .numbered .treed .depth; rooted = i .numbered .treed .rooted; unrelated = i .numbered .treed .unrelated };
+              treed = record { depth = i .numbered .treed .depth; rooted = i .numbered .treed .rooted };
               ordered = i .numbered .ordered;
             };
         marked = marked-8;

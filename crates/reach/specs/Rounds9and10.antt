@@ -42,7 +42,7 @@ module _ (s : State) (b : Base s) (i : In9 s) where
   unfolding Step.auxComponents
   numbered-9 =
       record {
-        treed = record { depth = i .numbered .treed .depth; rooted = i .numbered .treed .rooted; unrelated = i .numbered .treed .unrelated };
+        treed = record { depth = i .numbered .treed .depth; rooted = i .numbered .treed .rooted };
         ordered = i .numbered .ordered;
       }
 
@@ -138,7 +138,7 @@ module _ (s : State) (b : Base s) (i : In10 s) where
         few = same-10 (Step.lastRound s);
         numbered =
             record {
-              treed = record { depth = i .numbered .treed .depth; rooted = i .numbered .treed .rooted; unrelated = i .numbered .treed .unrelated };
+              treed = record { depth = i .numbered .treed .depth; rooted = i .numbered .treed .rooted };
               ordered = i .numbered .ordered;
             };
         classes = i .classes;

@@ -1,12 +1,14 @@
 -- The tables of a state have the lengths of their arrays, and a step keeps them.
-use mathlib.Core.Path.{_≡_}
+use mathlib.Core.Path.{_≡_, _∙_}
 use mathlib.Core.List.{List, [], _∷_}
-use Prim.Native.Nat.{ℕ}
-use lib.ListN.{length, length-replicate}
+use Prim.Native.Nat.{ℕ, _≤_}
+use native.Mathlib.Omega.{arith}
+use lib.ListN.{length, drop, length-replicate, length-append, length-drop}
 use Rattle.lists.specs.All.{All, cond-keeps}
 use Rattle.lists.specs.Tables.{length-over}
 use Rattle.rules.specs.Components.{colorRound}
 use Rattle.rules.specs.Tree.{parentRound, distRound}
+use Rattle.rules.specs.Planned.{plannedParents, plannedDists}
 use Rattle.rules.specs.Tour.{nextRound, predRound, firstSums, firstJumps}
 use Rattle.rules.specs.Ranking.{sumRound, jumpRound}
 use Rattle.rules.specs.Order.{forwardRound, ndRound, secondSums, secondJumps, preRound}
@@ -15,7 +17,7 @@ use Rattle.rules.specs.Aux.{linkJoinsRound, parentJoinsRound, auxRound}
 use Rattle.rules.specs.Labels.{classRound, labelRound}
 use Rattle.machine.specs.State.{State}
 use Rattle.machine.specs.State.{finished}
-use Rattle.machine.specs.Load.{Input, storedLoadRefusal, absents, zeros, begun, loaded}
+use Rattle.machine.specs.Load.{Input, storedLoadRefusal, absents, zeros, begun, loaded, parentsOf, plannedLoaded}
 use Rattle.machine.specs.Step
 use Rattle.machine.specs.StageLaws.{each-round}
 
@@ -35,6 +37,7 @@ unitIndexed s =
     ∷ s .global .high
     ∷ s .aux .parents
     ∷ s .aux .color
+    ∷ s .plan .parent
     ∷ []
 
 abbrev arcIndexed : State → List (List ℕ)
@@ -63,10 +66,23 @@ pub loaded-sized : (input : Input) → Sized (loaded input)
 unfolding loaded begun
 loaded-sized input =
     record {
-      byUnit = (absents-long 256, (absents-long 256, (absents-long 256, (zeros-long 256, (zeros-long 256, (zeros-long 256, (zeros-long 256, (zeros-long 256, (zeros-long 256, (zeros-long 256, (zeros-long 256, (zeros-long 256, (absents-long 256, tt)))))))))))));
+      byUnit = (absents-long 256, (absents-long 256, (absents-long 256, (zeros-long 256, (zeros-long 256, (zeros-long 256, (zeros-long 256, (zeros-long 256, (zeros-long 256, (zeros-long 256, (zeros-long 256, (zeros-long 256, (absents-long 256, (absents-long 256, tt))))))))))))));
       byArc = (absents-long 512, (absents-long 512, (absents-long 512, (zeros-long 512, (zeros-long 512, tt)))));
       byLink = (zeros-long 1024, (absents-long 1024, (absents-long 1024, tt)));
     }
+
+-- and with a plan of at most 256 parents
+pub planned-sized : (input : Input) (ps : List ℕ) → length ps ≤ 256 → Sized (plannedLoaded input ps)
+unfolding plannedLoaded loaded begun
+planned-sized input ps few =
+    record {
+      byUnit = (absents-long 256, (absents-long 256, (absents-long 256, (zeros-long 256, (zeros-long 256, (zeros-long 256, (zeros-long 256, (zeros-long 256, (zeros-long 256, (zeros-long 256, (zeros-long 256, (zeros-long 256, (absents-long 256, (plan-long, tt))))))))))))));
+      byArc = loaded-sized input .byArc;
+      byLink = loaded-sized input .byLink;
+    }
+  where
+    plan-long : length (parentsOf ps) ≡ 256
+    plan-long = length-append ps (drop (length ps) (absents 256)) ∙ omega (arith, length-drop (length ps) (absents 256), absents-long 256, few)
 
 module _ (s : State) (z : Sized s) where
   components-sized : Sized (Step.components s)
@@ -78,9 +94,18 @@ module _ (s : State) (z : Sized s) where
         byLink = z .byLink;
       }
 
-  tree-sized : Sized (Step.tree s)
-  unfolding Step.tree parentRound distRound
-  tree-sized =
+  treeSearched-sized : Sized (Step.treeSearched s)
+  unfolding Step.treeSearched parentRound distRound
+  treeSearched-sized =
+      record {
+        byUnit = (z .byUnit .0, (rw length-over (z .byUnit .1 .0), (rw length-over (z .byUnit .1 .1 .0), z .byUnit .1 .1 .1)));
+        byArc = z .byArc;
+        byLink = z .byLink;
+      }
+
+  treePlanned-sized : Sized (Step.treePlanned s)
+  unfolding Step.treePlanned plannedParents plannedDists
+  treePlanned-sized =
       record {
         byUnit = (z .byUnit .0, (rw length-over (z .byUnit .1 .0), (rw length-over (z .byUnit .1 .1 .0), z .byUnit .1 .1 .1)));
         byArc = z .byArc;
@@ -200,7 +225,8 @@ module _ (s : State) (z : Sized s) where
       each-round Sized s
       (record {
         components = components-sized;
-        tree = tree-sized;
+        treeSearched = treeSearched-sized;
+        treePlanned = treePlanned-sized;
         tourNext = tourNext-sized;
         tourPred = tourPred-sized;
         ranking = ranking-sized;

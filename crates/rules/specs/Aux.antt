@@ -10,12 +10,19 @@ use Rattle.rules.specs.Basics.{ABSENT, at, isRoot, offTree, heard}
 
 -- ---- stage 8
 
--- a link off the tree joins its ends (case 2)
-abbrev pub linkJoin : List ℕ → List ℕ → ℕ → ℕ
-linkJoin ends parent j = cond (offTree parent (endA ends j) (endB ends j)) 1 0
+-- v is u or one of its descendants: place(u) ≤ place(v) < place(u) + descendants(u)
+abbrev pub within : List ℕ → List ℕ → ℕ → ℕ → Bool
+within nd pre u v = leb (at pre u) (at pre v) && ltb (at pre v) (at pre u + at nd u)
 
-unfoldable pub linkJoinsRound : ℕ → List ℕ → List ℕ → List ℕ → List ℕ
-linkJoinsRound m ends parent joins = over m (linkJoin ends parent) joins
+-- a link off the tree joins its ends if neither is the other's ancestor (case 2; T-05)
+abbrev pub joinsEnds : List ℕ → List ℕ → List ℕ → ℕ → ℕ → Bool
+joinsEnds parent nd pre a b = offTree parent a b && not (within nd pre a b) && not (within nd pre b a)
+
+abbrev pub linkJoin : List ℕ → List ℕ → List ℕ → List ℕ → ℕ → ℕ
+linkJoin ends parent nd pre j = cond (joinsEnds parent nd pre (endA ends j) (endB ends j)) 1 0
+
+unfoldable pub linkJoinsRound : ℕ → List ℕ → List ℕ → List ℕ → List ℕ → List ℕ → List ℕ
+linkJoinsRound m ends parent nd pre joins = over m (linkJoin ends parent nd pre) joins
 
 -- u joins its parent p, if p is no root, when low(u) < place(p) or high(u) ≥ place(p) + descendants(p) (case 3)
 unfoldable pub joinsParent : List ℕ → List ℕ → List ℕ → List ℕ → List ℕ → ℕ → Bool

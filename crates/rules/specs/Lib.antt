@@ -9,6 +9,8 @@ pub mod ParentChoice
 pub mod BestParent
 pub mod EqualLevels
 pub mod ParentExamples
+pub mod Planned
+pub mod PlannedLaws
 pub mod Tour
 pub mod CyclicOrder
 pub mod Ranking

@@ -24,7 +24,7 @@ use Rattle.rules.specs.Tour.{arcUnit, isInto, isArc, treeNeighbor, least
 use Rattle.rules.specs.Ranking.{asks, sumRound, jumpRound}
 use Rattle.rules.specs.Order.{reverseArc, forwardRound, descendants, ndRound, secondSums, secondJumps, placeOf, preRound}
 use Rattle.rules.specs.Range.{placeHeard, localOf, unitAt, localAt, endPlace, globalFirst, rangeFirst, littleFirst, bigFirst, odd, movesLittle, movesBig, segment, segmentBefore, withLittle, withBig, rangeLater, littleLater, bigLater, globalLater}
-use Rattle.rules.specs.Aux.{linkJoinsRound, joinsParent, parentJoinsRound, joined, heardOver, leastJoined, auxSaid, auxRound}
+use Rattle.rules.specs.Aux.{joinsEnds, linkJoinsRound, joinsParent, parentJoinsRound, joined, heardOver, leastJoined, auxSaid, auxRound}
 use Rattle.rules.specs.Labels.{classRound, labelOf, labelRound}
 
 -- ---- stage 1
@@ -312,9 +312,9 @@ pub parent-join-numbers : (n : ℕ) (parent nd pre low high joins : List ℕ) �
 unfolding parentJoinsRound
 parent-join-numbers n parent nd pre low high joins w = mark-numbers n (joinsParent parent nd pre low high) joins w
 
-pub link-join-numbers : (m : ℕ) (ends parent joins : List ℕ) → All Number joins → All Number (linkJoinsRound m ends parent joins)
+pub link-join-numbers : (m : ℕ) (ends parent nd pre joins : List ℕ) → All Number joins → All Number (linkJoinsRound m ends parent nd pre joins)
 unfolding linkJoinsRound
-link-join-numbers m ends parent joins w = mark-numbers m (λ (j : ℕ). offTree parent (endA ends j) (endB ends j)) joins w
+link-join-numbers m ends parent nd pre joins w = mark-numbers m (λ (j : ℕ). joinsEnds parent nd pre (endA ends j) (endB ends j)) joins w
 
 pub aux-names : (n m made : ℕ) (ends parent linkJoins parentJoins color : List ℕ) → 0 < n → All (Names n) color
     → All (Names n) (auxRound n m made ends parent linkJoins parentJoins color)

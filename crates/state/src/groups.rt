@@ -39,6 +39,12 @@ pub struct Tree {
     pub dist: [u16; 256],
 }
 
+// A tree drawn by the planner (document 02, T-05): its parents, and whether it was given, any number but 0.
+pub struct Plan {
+    pub given: u16,
+    pub parent: [u16; 256],
+}
+
 // Stage 3: follower and predecessor of each arc.
 pub struct Tour {
     pub next: [u16; 512],

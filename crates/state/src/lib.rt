@@ -8,6 +8,7 @@ pub use groups::Components;
 pub use groups::Global;
 pub use groups::Labels;
 pub use groups::Order;
+pub use groups::Plan;
 pub use groups::Range;
 pub use groups::Ranking;
 pub use groups::Table;

@@ -36,11 +36,14 @@ pub(crate) fn tree_stage(words: &mut [u16; STATE_WORDS], budget: u16) -> u16
     let table = words::table_at(words);
     let levels = words::levels_at(words);
     let components = words::components_at(words);
+    let plan = words::plan_at(words);
     let Tree { parent, dist } = words::tree_at(words);
     let r = tree::run(
         table.units,
         table.links,
         budget,
+        plan.given,
+        &plan.parent,
         &table.ends,
         &levels,
         &components.color,

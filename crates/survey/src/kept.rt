@@ -40,6 +40,8 @@ impl Survey {
             &self.labels.class,
             &self.labels.label,
             &self.table.levels,
+            self.plan.given,
+            &self.plan.parent,
         )
     }
 }
@@ -72,16 +74,18 @@ pub(crate) fn kept<'a>(
     class: &'a [u16; 1024],
     label: &'a [u16; 1024],
     levels: &'a [i16; 1024],
+    given: u16,
+    plan: &'a [u16; 256],
 ) -> bool
     ensures { λ r. ⌜ r
-        ≡ wellFormed (record { table = record { units = units; links = links; ends = now (ends .entry); levels = now (levels .entry) }; clock = clock; components = record { color = now (color .entry) }; tree = record { parent = now (parent .entry); dist = now (dist .entry) }; tour = record { next = now (next .entry); pred = now (pred .entry) }; ranking = record { jump = now (jump .entry); sum = now (sum .entry) }; order = record { forward = now (forward .entry); nd = now (nd .entry); pre = now (pre .entry) }; range = record { low = now (low .entry); high = now (high .entry); little = now (little .entry); big = now (big .entry) }; global = record { low = now (least .entry); high = now (greatest .entry) }; aux = record { parents = now (parents .entry); links = now (linked .entry); color = now (classes .entry) }; labels = record { class = now (class .entry); label = now (label .entry) } }) ⌝ }
+        ≡ wellFormed (record { table = record { units = units; links = links; ends = now (ends .entry); levels = now (levels .entry) }; clock = clock; components = record { color = now (color .entry) }; plan = record { given = given; parent = now (plan .entry) }; tree = record { parent = now (parent .entry); dist = now (dist .entry) }; tour = record { next = now (next .entry); pred = now (pred .entry) }; ranking = record { jump = now (jump .entry); sum = now (sum .entry) }; order = record { forward = now (forward .entry); nd = now (nd .entry); pre = now (pre .entry) }; range = record { low = now (low .entry); high = now (high .entry); little = now (little .entry); big = now (big .entry) }; global = record { low = now (least .entry); high = now (greatest .entry) }; aux = record { parents = now (parents .entry); links = now (linked .entry); color = now (classes .entry) }; labels = record { class = now (class .entry); label = now (label .entry) } }) ⌝ }
 {
     if !clock::front_ok(units, links, ends, clock) {
         return false;
     }
     let count = units as u32;
     let ended = bounds::names_ok(count, ends);
-    let named = four_ok(count, color, parent, classes, class);
+    let named = five_ok(count, color, parent, classes, class, plan);
     let arcs = three_ok(2 * count, next, pred, jump);
     let labels = bounds::names_ok(links as u32, label);
     let dists = bounds::dists_ok(dist);
@@ -94,7 +98,7 @@ pub(crate) fn kept<'a>(
         values::both(names, dists),
         values::both(sums, values::both(ranges, joins)),
     );
-    values::both(entries, heard)
+    values::both(values::both(entries, heard), given <= 2048)
 }
 
 // Every entry of three tables names one of `count` things or is absent.
@@ -112,6 +116,20 @@ fn four_ok<'a>(count: u32, a: &'a [u16], b: &'a [u16], c: &'a [u16], d: &'a [u16
     ensures { λ r. ⌜ r ≡ every (every (nameOk count)) (now (a .entry) ∷ now (b .entry) ∷ now (c .entry) ∷ now (d .entry) ∷ []) ⌝ }
 {
     values::both(bounds::names_ok(count, a), three_ok(count, b, c, d))
+}
+
+// The same of five.
+fn five_ok<'a>(
+    count: u32,
+    a: &'a [u16],
+    b: &'a [u16],
+    c: &'a [u16],
+    d: &'a [u16],
+    e: &'a [u16],
+) -> bool
+    ensures { λ r. ⌜ r ≡ every (every (nameOk count)) (now (a .entry) ∷ now (b .entry) ∷ now (c .entry) ∷ now (d .entry) ∷ now (e .entry) ∷ []) ⌝ }
+{
+    values::both(bounds::names_ok(count, a), four_ok(count, b, c, d, e))
 }
 
 // No entry of four tables exceeds 2,048.

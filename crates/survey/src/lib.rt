@@ -13,6 +13,7 @@ pub use state::Components;
 pub use state::Global;
 pub use state::Labels;
 pub use state::Order;
+pub use state::Plan;
 pub use state::Range;
 pub use state::Ranking;
 pub use state::Reply;

@@ -76,6 +76,8 @@ impl Survey {
             &self.labels.class,
             &self.labels.label,
             &self.table.levels,
+            self.plan.given,
+            &self.plan.parent,
         );
         let refused = refusal(well, self.clock.stage);
         if refused != 0 {
@@ -119,10 +121,13 @@ impl Survey {
                 2 => {
                     let parent = self.tree.parent;
                     let dist = self.tree.dist;
+                    let given = self.plan.given;
                     let r = tree::run(
                         units,
                         links,
                         left,
+                        given,
+                        &self.plan.parent,
                         &self.table.ends,
                         &self.table.levels,
                         &self.components.color,

@@ -5,6 +5,7 @@ use state::Components;
 use state::Global;
 use state::Labels;
 use state::Order;
+use state::Plan;
 use state::Range;
 use state::Ranking;
 use state::Table;
@@ -18,6 +19,7 @@ pub struct Survey {
     pub table: Table,
     pub clock: Clock,
     pub components: Components,
+    pub plan: Plan,
     pub tree: Tree,
     pub tour: Tour,
     pub ranking: Ranking,
@@ -40,6 +42,7 @@ impl Survey {
     {
         let clock = begin::clock();
         let components = begin::components();
+        let plan = begin::unplanned();
         let tree = begin::tree();
         let tour = begin::tour();
         let ranking = begin::ranking();
@@ -52,6 +55,7 @@ impl Survey {
             table,
             clock,
             components,
+            plan,
             tree,
             tour,
             ranking,

@@ -4,7 +4,7 @@ use words::STATE_WORDS;
 ghost use mathlib.Core.Path.{_≡_};
 ghost use Prim.Native.Nat.{ℕ};
 ghost use lib.ListN.{length};
-ghost use Rattle.machine.specs.Calls.{numberOf, loadAnswer, storedLoadAnswer};
+ghost use Rattle.machine.specs.Calls.{numberOf, loadAnswer, storedLoadAnswer, plannedLoadAnswer};
 ghost use Rattle.words.specs.Layout.{stateOf};
 ghost use Rattle.files.specs.File.{linesOf, unitsIn, linkFrames, readRefusal, readWords, readLevels, writeRefusal, writtenFile};
 ghost use Rattle.lent.specs.FileFace.{wordSaid};
@@ -50,6 +50,21 @@ pub extern "C" fn link_survey_load_stored(
     ensures words { λ _. ⌜ stateOf (now (state .exit)) ≡ storedLoadAnswer (record { units = units; words = now (table .entry); levels = now (levels .entry) }) (stateOf (now (state .entry))) .state ⌝ }
 {
     lent::load_stored(state, units, table, levels)
+}
+
+// Load with a table of parents drawn by the planner: 4 to 6, 15, 16, 7 to 9, 17, 18, 22.
+#[no_mangle]
+pub extern "C" fn link_survey_load_planned(
+    state: &mut [u16; STATE_WORDS],
+    units: u16,
+    table: &[u16],
+    levels: &[i16],
+    parents: &[u16],
+) -> u32
+    ensures number { λ r. ⌜ r ≡ numberOf (plannedLoadAnswer (record { units = units; words = now (table .entry); levels = now (levels .entry) }) (now (parents .entry)) (stateOf (now (state .entry))) .reply) ⌝ }
+    ensures words { λ _. ⌜ stateOf (now (state .exit)) ≡ plannedLoadAnswer (record { units = units; words = now (table .entry); levels = now (levels .entry) }) (now (parents .entry)) (stateOf (now (state .entry))) .state ⌝ }
+{
+    lent::load_planned(state, units, table, levels, parents)
 }
 
 // One round: 10, 11.

@@ -1,3 +1,4 @@
 pub mod Chosen
 pub mod Losses
+pub mod Climb
 pub mod Rounds

@@ -1,9 +1,12 @@
-// Stage 2, tree: breadth first. One pass over the links gives each unit the key of its candidate, one over the units both tables and the end.
+// Stage 2, tree: breadth first, or taken over from the planner (document 02, T-05). Of breadth first one pass over the links gives each unit the key of its candidate, one over the units both tables and the end.
 use state::Clock;
 use table::ABSENT;
 use values::bounds;
+
+mod climb;
+
 ghost use mathlib.Core.Path.{_≡_};
-ghost use mathlib.Core.Bool.{cond, not};
+ghost use mathlib.Core.Bool.{true, cond, not};
 ghost use Prim.Native.Nat.{ℕ, _<_, _≤_, min};
 ghost use lib.ListN.{length, getD};
 ghost use Rattle.lists.specs.Tables.{over};
@@ -15,7 +18,8 @@ ghost use Rattle.rules.specs.Tree.{visitedBefore, loss, keyOf, unitOf, NO-KEY, 
 ghost use Rattle.rules.specs.TreeLaws.{visitsBy, parentBy, distBy};
 ghost use Rattle.machine.specs.StageRun.{stageRun};
 ghost use Rattle.tree.specs.Chosen.{offersIf};
-ghost use Rattle.tree.specs.Rounds.{on, one};
+ghost use Rattle.rules.specs.Planned.{plannedParents, plannedDists};
+ghost use Rattle.tree.specs.Rounds.{on, parentsAfter, distsAfter, endsAfter, one};
 
 // Where a unit has no candidate: past every key, and the unit in it is absent.
 const NO_KEY: u32 = 4294967295;
@@ -40,6 +44,8 @@ pub fn run<'a>(
     units: u16,
     links: u16,
     budget: u16,
+    given: u16,
+    plan: &'a [u16; 256],
     ends: &'a [u16; 2048],
     levels: &'a [i16; 1024],
     color: &'a [u16; 256],
@@ -47,7 +53,7 @@ pub fn run<'a>(
     parent: [u16; 256],
     dist: [u16; 256],
 ) -> Ran
-    ensures { λ r. ⌜ r ≡ stageRun (on units links (now (ends .entry))) (one units links (now (ends .entry)) (now (levels .entry)) (now (color .entry))) budget
+    ensures { λ r. ⌜ r ≡ stageRun (on units links (now (ends .entry))) (one units links given (now (plan .entry)) (now (ends .entry)) (now (levels .entry)) (now (color .entry))) budget
         (record { parent = parent; dist = dist; clock = clock; made = 0 }) ⌝ }
 {
     let fits = bounds::links_fit(units, links, ends);
@@ -56,7 +62,18 @@ pub fn run<'a>(
     let mut c = clock;
     let mut made: u16 = 0;
     while clock::goes_on(fits, units, 2, made, budget, c) {
-        let new = round(units, links, c.made, ends, levels, color, above, far);
+        let new = round(
+            units,
+            links,
+            c.made,
+            given,
+            plan,
+            ends,
+            levels,
+            color,
+            above,
+            far,
+        );
         let after = clock::ticked(units, 2, new.ends, 0, c);
         let new_parent = new.parent;
         let new_dist = new.dist;
@@ -73,8 +90,63 @@ pub fn run<'a>(
     }
 }
 
-// A round.
+// A round: the planner's where a tree is given.
 fn round<'a>(
+    units: u16,
+    links: u16,
+    made: u16,
+    given: u16,
+    plan: &'a [u16],
+    ends: &'a [u16],
+    levels: &'a [i16],
+    color: &'a [u16],
+    parent: [u16; 256],
+    dist: [u16; 256],
+) -> After
+    requires { ⌜ (units ≤ 256) × (length (now color) ≡ 256) × EndsWithin units links (now ends) × (length (now ends) ≡ 2048) × (length (now levels) ≡ 1024) × (length (now plan) ≡ 256) ⌝ }
+    ensures parents { λ r. ⌜ r .parent ≡ parentsAfter units links made given (now (plan .entry)) (now (ends .entry)) (now (levels .entry)) (now (color .entry)) dist parent ⌝ }
+    ensures dists { λ r. ⌜ r .dist ≡ distsAfter units links made given (now (plan .entry)) (now (ends .entry)) (now (levels .entry)) (now (color .entry)) dist ⌝ }
+    ensures ends { λ r. ⌜ r .ends ≡ endsAfter units links made given (now (ends .entry)) (now (levels .entry)) (now (color .entry)) dist ⌝ }
+{
+    if given != 0 {
+        return take_over(units, plan, color, parent, dist);
+    }
+    search(units, links, made, ends, levels, color, parent, dist)
+}
+
+// The planner's tree, taken over whole.
+fn take_over<'a>(
+    units: u16,
+    plan: &'a [u16],
+    color: &'a [u16],
+    parent: [u16; 256],
+    dist: [u16; 256],
+) -> After
+    requires { ⌜ (units ≤ 256) × (length (now plan) ≡ 256) × (length (now color) ≡ 256) ⌝ }
+    ensures parents { λ r. ⌜ r .parent ≡ plannedParents units (now (plan .entry)) parent ⌝ }
+    ensures dists { λ r. ⌜ r .dist ≡ plannedDists units (now (plan .entry)) (now (color .entry)) dist ⌝ }
+    ensures ends { λ r. ⌜ r .ends ≡ true ⌝ }
+{
+    let mut new_parent = parent;
+    let mut new_dist = dist;
+    let mut v = 0;
+    while v < units {
+        let at = v as usize;
+        let d = climb::steps(plan, color[at], units, v);
+        let up = plan[at];
+        new_parent[at] = up;
+        new_dist[at] = d;
+        v += 1;
+    }
+    After {
+        parent: new_parent,
+        dist: new_dist,
+        ends: true,
+    }
+}
+
+// Breadth first.
+fn search<'a>(
     units: u16,
     links: u16,
     made: u16,

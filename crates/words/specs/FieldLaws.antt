@@ -27,8 +27,8 @@ ends-before (n ∷ ns) (suc i) (suc j) h =
     let r : extent (take i ns) + getD ns i 0 ≤ extent (take j ns) = ends-before ns i j (omega arith) in
     omega arith
 
-within : (i : ℕ) → i < 25 → place i + size i ≤ STATE-WORDS
-within i h = ends-before sizes i 25 h
+within : (i : ℕ) → i < 27 → place i + size i ≤ STATE-WORDS
+within i h = ends-before sizes i 27 h
 
 -- ---- one field laid over words, and any field read
 
@@ -80,13 +80,13 @@ module _ (at : ℕ) (xs ws : List ℕ) (fits : at + length xs ≤ length ws) whe
 
 -- there is such a field, and the table is as long
 abbrev pub Fits : ℕ × List ℕ → Type 0
-Fits p = T (ltb (p .0) 25) × (length (p .1) ≡ size (p .0))
+Fits p = T (ltb (p .0) 27) × (length (p .1) ≡ size (p .0))
 
 one-laid : (p : ℕ × List ℕ) (ws : List ℕ) → length ws ≡ STATE-WORDS → Fits p → length (laid (place (p .0)) (p .1) ws) ≡ STATE-WORDS
-one-laid p ws state fit = laid-length (place (p .0)) (p .1) ws (rw (fit .1, state) (within (p .0) (ltb→lt (p .0) 25 (fit .0)))) ∙ state
+one-laid p ws state fit = laid-length (place (p .0)) (p .1) ws (rw (fit .1, state) (within (p .0) (ltb→lt (p .0) 27 (fit .0)))) ∙ state
 
 -- field j after field i was laid
-field-laid : (i j : ℕ) (xs ws : List ℕ) → length ws ≡ STATE-WORDS → i < 25 → j < 25 → length xs ≡ size i
+field-laid : (i j : ℕ) (xs ws : List ℕ) → length ws ≡ STATE-WORDS → i < 27 → j < 27 → length xs ≡ size i
     → field j (laid (place i) xs ws) ≡ cond (eqb i j) xs (field j ws)
 field-laid i j xs ws state hi hj e = by (eqb i j) refl (ltb i j) refl
   where
@@ -108,13 +108,13 @@ field-laid i j xs ws state hi hj e = by (eqb i j) refl (ltb i j) refl
 
 -- ---- the state by its fields
 
-same-fields : (f g : ℕ → List ℕ) → ((j : ℕ) → j < 25 → f j ≡ g j) → stateBy f ≡ stateBy g
+same-fields : (f g : ℕ → List ℕ) → ((j : ℕ) → j < 27 → f j ≡ g j) → stateBy f ≡ stateBy g
 same-fields f g same =
     rw (at 0 tt, at 1 tt, at 2 tt, at 3 tt, at 4 tt, at 5 tt, at 6 tt, at 7 tt, at 8 tt, at 9 tt, at 10 tt, at 11 tt)
-    (rw (at 12 tt, at 13 tt, at 14 tt, at 15 tt, at 16 tt, at 17 tt, at 18 tt, at 19 tt, at 20 tt, at 21 tt, at 22 tt, at 23 tt, at 24 tt) refl)
+    (rw (at 12 tt, at 13 tt, at 14 tt, at 15 tt, at 16 tt, at 17 tt, at 18 tt, at 19 tt, at 20 tt, at 21 tt, at 22 tt, at 23 tt, at 24 tt, at 25 tt, at 26 tt) refl)
   where
-    at : (j : ℕ) → T (ltb j 25) → f j ≡ g j
-    at j h = same j (ltb→lt j 25 h)
+    at : (j : ℕ) → T (ltb j 27) → f j ≡ g j
+    at j h = same j (ltb→lt j 27 h)
 
 -- a number among the counts or in the clock
 pub number-in : (at n i : ℕ) (ws : List ℕ) → i < n → getD ws (at + i) 0 ≡ getD (part at n ws) i 0
@@ -140,12 +140,12 @@ all-laid : (ps : List (ℕ × List ℕ)) (ws : List ℕ) → length ws ≡ STATE
 all-laid [] ws state fit = state
 all-laid (p ∷ ps) ws state fit = all-laid ps (laid (place (p .0)) (p .1) ws) (one-laid p ws state (fit .0)) (fit .1)
 
-fields-after : (ps : List (ℕ × List ℕ)) (ws : List ℕ) → length ws ≡ STATE-WORDS → AllFit ps → (j : ℕ) → j < 25
+fields-after : (ps : List (ℕ × List ℕ)) (ws : List ℕ) → length ws ≡ STATE-WORDS → AllFit ps → (j : ℕ) → j < 27
     → field j (laidAll ps ws) ≡ chosen ps j (field j ws)
 fields-after [] ws state fit j h = refl
 fields-after (p ∷ ps) ws state fit j h =
     fields-after ps (laid (place (p .0)) (p .1) ws) (one-laid p ws state (fit .0)) (fit .1) j h
-    ∙ ap (λ (old : List ℕ). chosen ps j old) (field-laid (p .0) j (p .1) ws state (ltb→lt (p .0) 25 (fit .0 .0)) h (fit .0 .1))
+    ∙ ap (λ (old : List ℕ). chosen ps j old) (field-laid (p .0) j (p .1) ws state (ltb→lt (p .0) 27 (fit .0 .0)) h (fit .0 .1))
 
 -- the state of words over which fields were laid: each is the last table laid there, or the old one
 pub laid-fields : (ps : List (ℕ × List ℕ)) (ws after : List ℕ) → after ≡ laidAll ps ws → length ws ≡ STATE-WORDS → AllFit ps

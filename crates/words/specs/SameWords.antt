@@ -13,9 +13,9 @@ use Rattle.machine.specs.State.{State}
 use Rattle.words.specs.Layout.{sizes, extent, place, part, field, STATE-WORDS, stateOf}
 use Rattle.words.specs.Rows.{row, two-parts}
 
--- the fields of a state, in the order of the sizes, the words of its levels last
-abbrev fieldsOf : State → List ℕ → List (List ℕ)
-fieldsOf s levels =
+-- the fields of a state, in the order of the sizes, with the words of its levels and whether a plan was given
+abbrev fieldsOf : State → List ℕ → List ℕ → List (List ℕ)
+fieldsOf s levels given =
     (s .table .units ∷ s .table .links ∷ [])
     ∷ s .table .ends
     ∷ (s .clock .stage ∷ s .clock .made ∷ s .clock .rounds ∷ s .clock .requests ∷ [])
@@ -41,6 +41,8 @@ fieldsOf s levels =
     ∷ s .labels .class
     ∷ s .labels .label
     ∷ levels
+    ∷ s .plan .parent
+    ∷ given
     ∷ []
 
 abbrev joined : List (List ℕ) → List ℕ
@@ -49,12 +51,17 @@ joined (t ∷ ts) = t ++ joined ts
 
 -- the words of a state
 unfoldable pub wordsOf : State → List ℕ
-wordsOf s = joined (fieldsOf s (toWords (s .table .levels)))
+wordsOf s = joined (fieldsOf s (toWords (s .table .levels)) (s .plan .given ∷ []))
 
 row-joined : (at : ℕ) (ns ws : List ℕ) → joined (row at ns ws) ≡ part at (extent ns) ws
 unfolding part
 row-joined at [] ws = refl
 row-joined at (n ∷ ns) ws = ap (λ (l : List ℕ). part at n ws ++ l) (row-joined (at + n) ns ws) ∙ sym (two-parts at n (extent ns) ws)
+
+of-one : (l : List ℕ) → length l ≡ 1 → getD l 0 0 ∷ [] ≡ l
+of-one [] e = absurd (omega (arith, e))
+of-one (x ∷ []) e = refl
+of-one (x ∷ y ∷ l) e = absurd (omega (arith, e))
 
 of-two : (l m : List ℕ) → length l ≡ 2 → getD l 0 0 ∷ getD l 1 0 ∷ m ≡ l ++ m
 of-two [] m e = absurd (omega (arith, e))
@@ -95,13 +102,17 @@ module _ (ws : List ℕ) (e : length ws ≡ STATE-WORDS) (h : (i : ℕ) → getD
   levels : toWords (fromWords (field 24 ws)) ≡ field 24 ws
   levels = words-kept (field 24 ws) (part-words (place 24) 1024 ws h)
 
+  given : getD (field 26 ws) 0 0 ∷ [] ≡ field 26 ws
+  given = of-one (field 26 ws) (part-long (place 26) 1 ws (omega (arith, e)))
+
   pub words-back : wordsOf (stateOf ws) ≡ ws
   unfolding wordsOf stateOf part clock rest
   words-back =
-      ap (λ (l : List ℕ). joined (fieldsOf (stateOf ws) l)) levels
+      ap (λ (l : List ℕ). joined (fieldsOf (stateOf ws) l (getD (field 26 ws) 0 0 ∷ []))) levels
+      ∙ (ap (λ (l : List ℕ). joined (fieldsOf (stateOf ws) (field 24 ws) l)) given
       ∙ (of-two (field 0 ws) (field 1 ws ++ (clock ++ rest)) (part-long (place 0) 2 ws (omega (arith, e)))
       ∙ (ap (λ (l : List ℕ). field 0 ws ++ (field 1 ws ++ l)) (of-four (field 2 ws) rest (part-long (place 2) 4 ws (omega (arith, e))))
-      ∙ (row-joined 0 sizes ws ∙ take-all STATE-WORDS ws (omega (arith, e)))))
+      ∙ (row-joined 0 sizes ws ∙ take-all STATE-WORDS ws (omega (arith, e))))))
 
 pub same-words : (a b : List ℕ) → length a ≡ STATE-WORDS → length b ≡ STATE-WORDS → ((i : ℕ) → getD a i 0 < 65536) → ((i : ℕ) → getD b i 0 < 65536)
     → stateOf a ≡ stateOf b → a ≡ b

@@ -32,19 +32,22 @@ fn entries_ok(units: u16, links: u16, words: &[u16; STATE_WORDS]) -> bool
     let ends = names_ok(count, layout::ENDS, 2048, words);
     let trees = names_ok(count, layout::COLOR, layout::TREES, words);
     let classes = names_ok(count, layout::CLASSES, layout::NAMED, words);
+    let drawn = names_ok(count, layout::PLAN, 256, words);
     let arcs = names_ok(2 * count, layout::NEXT, layout::ARCS, words);
     let labels = names_ok(links as u32, layout::LABEL, 1024, words);
     let dists = dists_ok(layout::DIST, 256, words);
     let numbers = numbers_ok(layout::SUM, layout::NUMBERS, words);
     let levels = levels_ok(layout::LEVELS, 1024, words);
-    let named = values::both(ends, values::both(trees, classes));
-    values::both(
+    let given = numbers_ok(layout::GIVEN, 1, words);
+    let named = values::both(ends, values::both(values::both(trees, classes), drawn));
+    let entries = values::both(
         values::both(
             values::both(values::both(values::both(named, arcs), labels), dists),
             numbers,
         ),
         levels,
-    )
+    );
+    values::both(entries, given)
 }
 
 // Every one of n words from a place on names one of `count` things or is absent.

@@ -47,6 +47,14 @@ pub fn lay_components(color: &[u16; 256], words: &mut [u16; STATE_WORDS])
     copies::lay(color, layout::COLOR, words);
 }
 
+// The planner's tree.
+pub fn lay_plan(given: u16, parent: &[u16; 256], words: &mut [u16; STATE_WORDS])
+    ensures { λ _. ⌜ stateOf (now (words .exit)) ≡ State.withPlan (record { given = given; parent = now (parent .entry) }) (stateOf (now (words .entry))) ⌝ }
+{
+    copies::lay(parent, layout::PLAN, words);
+    copies::lay(&[given], layout::GIVEN, words);
+}
+
 // Stage 2.
 pub fn lay_tree<'a>(parent: &'a [u16; 256], dist: &'a [u16; 256], words: &mut [u16; STATE_WORDS])
     ensures { λ _. ⌜ stateOf (now (words .exit)) ≡ State.withTree (record { parent = now (parent .entry); dist = now (dist .entry) }) (stateOf (now (words .entry))) ⌝ }

@@ -51,8 +51,12 @@ pub(crate) const LABEL: usize = CLASS + 1024;
 
 pub(crate) const LEVELS: usize = LABEL + 1024;
 
+pub(crate) const PLAN: usize = LEVELS + 1024;
+
+pub(crate) const GIVEN: usize = PLAN + 256;
+
 // The words of a state.
-pub const STATE_WORDS: usize = LEVELS + 1024;
+pub const STATE_WORDS: usize = GIVEN + 1;
 
 // Tables of one kind that stand in a row: units, list places, classes, and numbers.
 pub(crate) const TREES: usize = DIST - COLOR;

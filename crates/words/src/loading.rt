@@ -5,7 +5,7 @@ ghost use mathlib.Core.Path.{_≡_};
 ghost use mathlib.Core.Bool.{cond};
 ghost use lib.Dec.{eqb};
 ghost use Rattle.table.specs.Table.{storedRefusal, refusalAs};
-ghost use Rattle.machine.specs.Load.{loadRefusal, storedLoadRefusal, loaded};
+ghost use Rattle.machine.specs.Load.{loadRefusal, storedLoadRefusal, loaded, plannedLoadRefusal, plannedLoaded};
 ghost use Rattle.words.specs.Layout.{stateOf};
 ghost use Rattle.words.specs.Begun.{frontBegun, backBegun};
 
@@ -28,7 +28,43 @@ pub fn load_stored(units: u16, table: &[u16], levels: &[i16], words: &mut [u16; 
     load_as(false, units, table, levels, words)
 }
 
-// Either.
+// With a table of parents drawn by the planner: 4 to 6, 15, 16, 7 to 9, 17, 18, 22.
+pub fn load_planned(
+    units: u16,
+    table: &[u16],
+    levels: &[i16],
+    parents: &[u16],
+    words: &mut [u16; STATE_WORDS],
+) -> u8
+    ensures number { λ r. ⌜ r ≡ plannedLoadRefusal (record { units = units; words = now (table .entry); levels = now (levels .entry) }) (now (parents .entry)) ⌝ }
+    ensures words { λ _. ⌜ stateOf (now (words .exit))
+        ≡ cond (eqb (plannedLoadRefusal (record { units = units; words = now (table .entry); levels = now (levels .entry) }) (now (parents .entry))) 0) (plannedLoaded (record { units = units; words = now (table .entry); levels = now (levels .entry) }) (now (parents .entry))) (stateOf (now (words .entry))) ⌝ }
+{
+    let refused = plan::refusal(units, table, levels, parents);
+    if refused != 0 {
+        return refused;
+    }
+    lay_planned(units, table, levels, parents, words);
+    0
+}
+
+// The state of a table and parents that pass, over any words.
+fn lay_planned(
+    units: u16,
+    table: &[u16],
+    levels: &[i16],
+    parents: &[u16],
+    words: &mut [u16; STATE_WORDS],
+)
+    requires { ⌜ plannedLoadRefusal (record { units = units; words = now table; levels = now levels }) (now parents) ≡ 0 ⌝ }
+    ensures { λ _. ⌜ stateOf (now (words .exit)) ≡ plannedLoaded (record { units = units; words = now (table .entry); levels = now (levels .entry) }) (now (parents .entry)) ⌝ }
+{
+    lay_loaded(units, table, levels, words);
+    let drawn = begin::plan(parents);
+    lay::lay_plan(drawn.given, &drawn.parent, words);
+}
+
+// Either of the first two.
 fn load_as(
     fresh: bool,
     units: u16,
@@ -59,7 +95,7 @@ fn lay_loaded(units: u16, table: &[u16], levels: &[i16], words: &mut [u16; STATE
     back(words);
 }
 
-// The groups of the stages 1 to 6.
+// The groups of the stages 1 to 6, and no tree of the planner's.
 fn front(words: &mut [u16; STATE_WORDS])
     ensures { λ _. ⌜ stateOf (now (words .exit)) ≡ frontBegun (stateOf (now (words .entry))) ⌝ }
 {
@@ -73,6 +109,8 @@ fn front(words: &mut [u16; STATE_WORDS])
     lay::lay_ranking(&ranking.jump, &ranking.sum, words);
     let order = begin::order();
     lay::lay_order(&order.forward, &order.nd, &order.pre, words);
+    let plan = begin::unplanned();
+    lay::lay_plan(plan.given, &plan.parent, words);
 }
 
 // Those of the stages 7 to 10.

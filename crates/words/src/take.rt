@@ -8,6 +8,7 @@ use state::Components;
 use state::Global;
 use state::Labels;
 use state::Order;
+use state::Plan;
 use state::Range;
 use state::Ranking;
 use state::Tour;
@@ -60,6 +61,17 @@ pub fn components_at(words: &[u16; STATE_WORDS]) -> Components
 {
     let color = copies::units_at(words, layout::COLOR);
     Components { color }
+}
+
+// The planner's tree.
+pub fn plan_at(words: &[u16; STATE_WORDS]) -> Plan
+    ensures { λ r. ⌜ r ≡ stateOf (now (words .entry)) .plan ⌝ }
+{
+    let parent = copies::units_at(words, layout::PLAN);
+    Plan {
+        given: words[layout::GIVEN],
+        parent,
+    }
 }
 
 // Stage 2.

@@ -17,15 +17,24 @@ fn naming_unit(parent: &[u16; 256], pre: &[u16; 256], [a, b]: [u16; 2]) -> u16 {
 }
 
 impl Survey {
-    /// Stage 8: a link off the tree joins its ends, and a unit its parent where case 3 says so.
+    /// Stage 8: a link off the tree joins its ends where neither is the other's ancestor (T-05), and a unit its parent where
+    /// case 3 says so.
     pub(super) fn aux_edges_round(&mut self) -> bool {
-        for (join, &link) in self.aux_links.iter_mut().zip(&self.ends[..usize::from(self.links)]) {
-            *join = u16::from(off_tree(&self.parent, link));
+        for j in 0..usize::from(self.links) {
+            let [a, b] = self.ends[j];
+            let apart = off_tree(&self.parent, [a, b]) && !self.within(a, b) && !self.within(b, a);
+            self.aux_links[j] = u16::from(apart);
         }
         for v in 0..self.n() {
             self.aux_parents[v] = u16::from(self.joins_parent(v));
         }
         true
+    }
+
+    /// Whether v's place is among those of u and its descendants.
+    fn within(&self, u: u16, v: u16) -> bool {
+        let (first, place) = (self.pre[usize::from(u)], self.pre[usize::from(v)]);
+        first <= place && place - first < self.nd[usize::from(u)]
     }
 
     fn joins_parent(&self, v: usize) -> bool {

@@ -6,8 +6,34 @@ use std::cmp::Reverse;
 impl Survey {
     /// Ends with the first round that visits none.
     pub(super) fn tree_round(&mut self) -> bool {
+        if self.given != 0 {
+            self.take_over();
+            return true;
+        }
         let visited = if self.made == 0 { self.visit_roots() } else { self.visit_neighbours() };
         !visited
+    }
+
+    /// The planner's tree (T-05): a distance is the steps up to the unit that the colour names, absent where the chain never gets there.
+    fn take_over(&mut self) {
+        for v in 0..self.n() {
+            self.parent[v] = self.plan[v];
+            self.dist[v] = self.steps(v as u16, self.color[v]);
+        }
+    }
+
+    fn steps(&self, from: u16, to: u16) -> u16 {
+        let mut at = from;
+        for far in 0..self.units {
+            if at == to {
+                return far;
+            }
+            at = match self.plan[usize::from(at)] {
+                ABSENT => return ABSENT,
+                parent => parent,
+            };
+        }
+        ABSENT
     }
 
     fn visit_roots(&mut self) -> bool {

@@ -98,7 +98,28 @@ impl Rules<'_> {
         if self.made == 0 { at(&self.s.color, v) == v } else { at(&self.s.dist, v) == NONE && self.chosen_parent(v) != NONE }
     }
 
+    /// Document 02, T-05: a tree drawn by the planner is given.
+    fn planned(&self) -> bool {
+        self.s.given != 0
+    }
+
+    /// The steps up the plan to the colour unit, among the first k units of the chain.
+    fn steps(&self, to: u32, k: u32, v: u32) -> u32 {
+        match at(&self.s.plan, v) {
+            _ if k == 0 => NONE,
+            _ if v == to => 0,
+            NONE => NONE,
+            parent => match self.steps(to, k - 1, parent) {
+                NONE => NONE,
+                steps => steps + 1,
+            },
+        }
+    }
+
     fn parent(&self, v: u32) -> u32 {
+        if self.planned() {
+            return at(&self.s.plan, v);
+        }
         match (self.visits(v), self.made) {
             (false, _) => at(&self.s.parent, v),
             (true, 0) => NONE,
@@ -107,6 +128,9 @@ impl Rules<'_> {
     }
 
     fn dist(&self, v: u32) -> u32 {
+        if self.planned() {
+            return self.steps(at(&self.s.color, v), self.n, v);
+        }
         if self.visits(v) { self.made } else { at(&self.s.dist, v) }
     }
 
@@ -251,6 +275,11 @@ impl Rules<'_> {
 
     // ---- stages 8 to 10
 
+    fn within(&self, u: u32, v: u32) -> bool {
+        let (first, place) = (at(&self.s.pre, u), at(&self.s.pre, v));
+        first <= place && place < first + at(&self.s.nd, u)
+    }
+
     fn joins_parent(&self, u: u32) -> bool {
         let s = self.s;
         let p = at(&s.parent, u);
@@ -300,7 +329,7 @@ impl Rules<'_> {
         let s = self.s;
         match s.stage {
             1 => self.made != 0 && s.color[..n] == after.color[..n],
-            2 => !(0..self.n).any(|v| self.visits(v)),
+            2 => self.planned() || !(0..self.n).any(|v| self.visits(v)),
             4 | 6 => self.requests() == 0,
             7 => self.made == u32::from(lg(s.units)),
             8 => true,
@@ -365,7 +394,7 @@ pub fn step(s: &Survey) -> Survey {
             over(&mut new.aux_parents, n, |v| u32::from(r.joins_parent(v)));
             over(&mut new.aux_links, m, |j| {
                 let (a, b) = r.ends(j);
-                u32::from(off_tree(&s.parent, a, b))
+                u32::from(off_tree(&s.parent, a, b) && !r.within(a, b) && !r.within(b, a))
             });
         }
         (9, _) => over(&mut new.aux_color, n, |v| r.class(&r.said(&s.aux_color), v)),

@@ -11,10 +11,10 @@ use Rattle.joins.proofs.link_joins.Statement.{statement}
 use Rattle.joins.proofs.link_joins.Tie as tie
 
 abbrev Inv-loop : tie.InvT-loop
-Inv-loop units links ends parent new₀ j₀ new j = (j ≤ links) × (length new ≡ 1024) × (new ≡ over j (linkJoin ends parent) new₀)
+Inv-loop units links ends parent nd pre new₀ j₀ new j = (j ≤ links) × (length new ≡ 1024) × (new ≡ over j (linkJoin ends parent nd pre) new₀)
 
 abbrev μ-loop : tie.MeasureT-loop
-μ-loop units links ends parent new₀ j₀ new j = links - j
+μ-loop units links ends parent nd pre new₀ j₀ new j = links - j
 
 loop-holds : tie.Need-loop-holds Inv-loop μ-loop
 loop-holds c = search needs

@@ -58,10 +58,10 @@ use Rattle.seats.proofs.tick.Code as code
 
 -- the eight seats, as a slot and as a type
 abbrev seatsSlot : Slot 2
-seatsSlot = ArrayOf (ArrayOf (plain (λ _. u16)) (λ _. tt) 12038) (λ _. tt) 8
+seatsSlot = ArrayOf (ArrayOf (plain (λ _. u16)) (λ _. tt) 12295) (λ _. tt) 8
 
 abbrev Seats : RattleType
-Seats = Array (Array u16 tt 12038) tt 8
+Seats = Array (Array u16 tt 12295) tt 8
 
 abbrev stayed : Stays (tick.ended .signature .params) (tick.ended .kept)
 stayed = (stay-ref (0 ∷ []) tt (plain (λ _. T.the-row)), (gave-ref (1 ∷ []) tt seatsSlot, tt))

@@ -1,42 +1,29 @@
--- Each table from the chosen parents.
+-- The planner's tree where one is given, else the search's.
 use mathlib.Core.Path.{_∙_}
-use Prim.Native.Nat.{_≤_}
-use native.Mathlib.Omega.{arith}
-use lib.ListN.{length}
-use Rattle.table.specs.Table.{maxUnits}
-use Rattle.rules.specs.TreeLaws.{parent-round, dist-round, tree-ends}
+use Rattle.tree.specs.Rounds.{after-plan, after-search}
 use borrow.Author.Needs.{needs}
 use Rattle.tree.proofs.round.Statement.{statement}
 use Rattle.tree.proofs.round.Tie as tie
 
-slice-aggregate-chosen : tie.Need-slice-aggregate-chosen
-slice-aggregate-chosen c = search needs
-
-chosen-requires : tie.Need-chosen-requires
-chosen-requires c κs = search needs
-
-slice-aggregate-visit : tie.Need-slice-aggregate-visit
-slice-aggregate-visit c = search needs
-
-visit-requires : tie.Need-visit-requires
-visit-requires c κs = search needs
+take-over-requires : tie.Need-take-over-requires
+take-over-requires c κs = search needs
 
 returns : tie.Need-returns
 returns c =
-    let start = c .before .before .before .before .before .before in
-    let a = start .args in
-    let full : length (a .t8) ≤ maxUnits = omega (arith, start .good .1 .1 .1 .1 .1 .1 .1) in
-    let small : length (a .parent) ≤ maxUnits = omega (arith, start .good .1 .1 .1 .1 .1 .1 .0) in
-    let h = c .before .before .chosen in (
-      c .visit .ensures .0
-          ∙ parent-round (a .links) (a .made) (a .ends .now) (a .levels .now) (a .color .now) (a .t8) (h .result) full (h .ensures) (a .units) (a .parent) small,
-      (
-        c .visit .ensures .1 .0 ∙ dist-round (a .links) (a .made) (a .ends .now) (a .levels .now) (a .color .now) (a .t8) (h .result) full (h .ensures) (a .units),
-        c .visit .ensures .1 .1 ∙ tree-ends (a .links) (a .made) (a .ends .now) (a .levels .now) (a .color .now) (a .t8) (h .result) full (h .ensures) (a .units),
-      ),
-    )
+    let a = c .before .before .before .before .before .args in
+    let e = c .take-over .ensures in
+    let l = after-plan (a .units) (a .links) (a .made) (a .given) (a .plan .now) (a .ends .now) (a .levels .now) (a .color .now) (a .dist) (a .parent) (c .before .if1 .taken) in
+    (e .0 ∙ l .0, (e .1 .0 ∙ l .1 .0, e .1 .1 ∙ l .1 .1))
+
+search-requires : tie.Need-search-requires
+search-requires c κs = search needs
+
+returns-2 : tie.Need-returns-2
+returns-2 c =
+    let a = c .before .before .before .before .before .args in
+    let e = c .search .ensures in
+    let l = after-search (a .units) (a .links) (a .made) (a .given) (a .plan .now) (a .ends .now) (a .levels .now) (a .color .now) (a .dist) (a .parent) (c .before .if1 .left) in
+    (e .0 ∙ l .0, (e .1 .0 ∙ l .1 .0, e .1 .1 ∙ l .1 .1))
 
 pub round-spec : {M : Type 1} → statement M
-round-spec =
-    tie.close
-    (tie.spec slice-aggregate-chosen chosen-requires slice-aggregate-visit visit-requires returns)
+round-spec = tie.close (tie.spec take-over-requires returns search-requires returns-2)

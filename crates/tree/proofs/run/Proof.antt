@@ -11,12 +11,12 @@ use Rattle.tree.proofs.run.Statement.{statement}
 use Rattle.tree.proofs.run.Tie as tie
 
 abbrev Inv-loop : tie.InvT-loop
-Inv-loop units links budget ends levels color fits above₀ far₀ c₀ made₀ above far c made =
-    Turning (on units links ends) (one units links ends levels color) budget (record { parent = above₀; dist = far₀; clock = c₀; made = 0 }) made
+Inv-loop units links budget given plan ends levels color fits above₀ far₀ c₀ made₀ above far c made =
+    Turning (on units links ends) (one units links given plan ends levels color) budget (record { parent = above₀; dist = far₀; clock = c₀; made = 0 }) made
     (record { parent = above; dist = far; clock = c; made = made })
 
 abbrev μ-loop : tie.MeasureT-loop
-μ-loop units links budget ends levels color fits above₀ far₀ c₀ made₀ above far c made = budget - made
+μ-loop units links budget given plan ends levels color fits above₀ far₀ c₀ made₀ above far c made = budget - made
 
 -- the stage goes on where a round is made
 go : (c : tie.Then1 Inv-loop μ-loop)
@@ -34,25 +34,25 @@ goes-on-requires c κs = search needs
 
 round-requires : tie.Need-round-requires Inv-loop μ-loop
 round-requires c κs =
-    let g = go (c .before .before .before) in
-    let a = c .before .before .before .before .before .before .before .before .args in
-    (g .few, search needs, fit-within (a .units) (a .links) (a .ends .now) (search needs) (g .fit), search needs, search needs)
+    let g = go (c .before .before .before .before) in
+    let a = c .before .before .before .before .before .before .before .before .before .args in
+    (g .few, search needs, fit-within (a .units) (a .links) (a .ends .now) (search needs) (g .fit), search needs, search needs, search needs)
 
 ticked-requires : tie.Need-ticked-requires Inv-loop μ-loop
 ticked-requires c κs = search needs
 
 add-made : tie.Need-add-made Inv-loop μ-loop
-add-made c = omega (arith, go (c .before .before .before .before .before .before .before) .below, c .before .before .before .before .before .before .before .before .before .before .before .before .fits .budget)
+add-made c = omega (arith, go (c .before .before .before .before .before .before .before .before) .below, c .before .before .before .before .before .before .before .before .before .before .before .before .before .fits .budget)
 
 loop-less : tie.Need-loop-less Inv-loop μ-loop
-loop-less c = omega (arith, go (c .before .before .before .before .before .before .before) .below)
+loop-less c = omega (arith, go (c .before .before .before .before .before .before .before .before) .below)
 
 loop-again : tie.Need-loop-again Inv-loop μ-loop
 unfolding one
 loop-again c =
     let k = c .before .before in
     let r = k .before in
-    let t = r .before .before .before .before in
+    let t = r .before .before .before .before .before in
     let g = go t in
     turns-on _ _ _ _ _ _ _ (t .before .before .loop .inv) (g .test) (rw (k .ticked .ensures, g .inside, r .round .ensures .0, r .round .ensures .1 .0, r .round .ensures .1 .1))
 

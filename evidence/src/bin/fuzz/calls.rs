@@ -10,6 +10,7 @@ use plain::words::{LinkReply, LoadCall, PLAIN, State, StatusReply, UnitReply};
 pub enum Call {
     Load { units: u16, table: Vec<u16>, levels: Vec<i16> },
     LoadStored { units: u16, table: Vec<u16>, levels: Vec<i16> },
+    LoadPlanned { units: u16, table: Vec<u16>, levels: Vec<i16>, parents: Vec<u16> },
     Round,
     Run { budget: u16, made: u16 },
     Status { reply: StatusReply },
@@ -25,6 +26,7 @@ impl Call {
         match self {
             Call::Load { .. } => "load",
             Call::LoadStored { .. } => "load of a stored table",
+            Call::LoadPlanned { .. } => "load with a plan",
             Call::Round => "round",
             Call::Run { .. } => "run",
             Call::Status { .. } => "status",
@@ -55,6 +57,7 @@ pub fn both(state: &mut Lent<u16>, call: &Call) -> Result<u32, String> {
     let number = match call {
         Call::Load { units, table, levels } => loaded(state, [PROVED.load, PLAIN.load], *units, table, levels),
         Call::LoadStored { units, table, levels } => loaded(state, [PROVED.load_stored, PLAIN.load_stored], *units, table, levels),
+        Call::LoadPlanned { units, table, levels, parents } => planned(state, *units, table, levels, parents),
         Call::Round => agree((PROVED.round)(state.proved_array()), (PLAIN.round)(state.plain_array())),
         Call::Run { budget, made } => replied(&[*made], |lent| {
             let proved = (PROVED.run)(state.proved_array(), *budget, &mut lent.proved()[0]);
@@ -105,6 +108,20 @@ fn loaded(state: &mut Lent<u16>, [proved, plain]: [LoadCall; 2], units: u16, tab
     let number = agree(proved, plain)?;
     table.difference("table")?;
     levels.difference("levels")?;
+    Ok(number)
+}
+
+/// A load with a plan by both sides.
+fn planned(state: &mut Lent<u16>, units: u16, table: &[u16], levels: &[i16], parents: &[u16]) -> Result<u32, String> {
+    let mut table = Lent::new(table, WORD_MARGIN);
+    let mut levels = Lent::new(levels, LEVEL_MARGIN);
+    let mut parents = Lent::new(parents, WORD_MARGIN);
+    let proved = (PROVED.load_planned)(state.proved_array(), units, table.proved(), levels.proved(), parents.proved());
+    let plain = (PLAIN.load_planned)(state.plain_array(), units, table.plain(), levels.plain(), parents.plain());
+    let number = agree(proved, plain)?;
+    table.difference("table")?;
+    levels.difference("levels")?;
+    parents.difference("parents")?;
     Ok(number)
 }
 

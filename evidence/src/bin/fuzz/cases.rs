@@ -7,7 +7,7 @@ use plain::damage::{any_file, any_words, spoil_site};
 use plain::random::Random;
 use plain::sites::{Site, any_site};
 use plain::states::{any_kept, loaded};
-use plain::{FOREMAN_LINE, SERVICE_LINE, file_length, read_file, report_length, report_of_file};
+use plain::{ABSENT, FOREMAN_LINE, SERVICE_LINE, file_length, read_file, report_length, report_of_file};
 
 /// The place of the stage among the words of a state.
 const STAGE: usize = 2050;
@@ -173,9 +173,37 @@ fn write(random: &mut Random, tally: &mut Tally) -> Result<(), String> {
     Ok(())
 }
 
-/// Either load of a site.
+/// A table of parents: a forest along links grown from the least units in some order of the links, now and then with a parent or its length spoilt.
+fn any_parents(random: &mut Random, units: u16, table: &[u16]) -> Vec<u16> {
+    let mut parents = vec![ABSENT; usize::from(units)];
+    let mut seen = vec![false; parents.len()];
+    let mut links: Vec<[u16; 2]> = table.chunks_exact(2).map(|link| [link[0], link[1]]).filter(|link| link.iter().all(|&v| v < units)).collect();
+    for last in (1..links.len()).rev() {
+        links.swap(last, random.below(last + 1));
+    }
+    for root in 0..parents.len() {
+        seen[root] = true;
+        while let Some((v, w)) = links.iter().flat_map(|&[a, b]| [(a, b), (b, a)]).find(|&(v, w)| seen[usize::from(w)] && !seen[usize::from(v)]) {
+            (parents[usize::from(v)], seen[usize::from(v)]) = (w, true);
+        }
+    }
+    if random.once_in(3) && !parents.is_empty() {
+        let v = random.below(parents.len());
+        parents[v] = if random.once_in(2) { ABSENT } else { random.below(usize::from(units) + 1) as u16 };
+    }
+    if random.once_in(12) {
+        parents.resize(random.below(258), ABSENT);
+    }
+    parents
+}
+
+/// Any load of a site.
 fn any_load(random: &mut Random, site: Site) -> Call {
     let Site { units, table, levels } = site;
+    if units <= 64 && random.once_in(3) {
+        let parents = any_parents(random, units, &table);
+        return Call::LoadPlanned { units, table, levels, parents };
+    }
     if random.once_in(2) { Call::LoadStored { units, table, levels } } else { Call::Load { units, table, levels } }
 }
 

@@ -16,6 +16,9 @@ levels-at-requires c κs = search needs
 components-at-requires : tie.Need-components-at-requires
 components-at-requires c κs = search needs
 
+plan-at-requires : tie.Need-plan-at-requires
+plan-at-requires c κs = search needs
+
 tree-at-requires : tie.Need-tree-at-requires
 tree-at-requires c κs = search needs
 
@@ -34,12 +37,14 @@ lay-tree-requires c κs = search needs
 returns : tie.Need-returns
 returns c =
     let run = c .before .before .before .before .before .before .before .before in
-    let tree = run .before .before .before .before .before .before .before .before .before .before in
-    let levels = tree .before .before .before .before in
+    let tree = run .before .before .before .before .before .before .before .before .before .before .before .before in
+    let plan = tree .before .before in
+    let components = plan .before .before in
+    let levels = components .before .before in
     let start = levels .before .before .before .before in
     let s = stateOf (start .args .words .now) in
     moved (Rounds.stage s) (start .args .budget) (record { parent = s .tree .parent; dist = s .tree .dist; clock = s .clock; made = 0 }) _ s _ (start .pre) refl refl
-    (rw (run .before .clock-at .ensures, tree .tree-at .ensures, tree .before .before .components-at .ensures, levels .levels-at .ensures, levels .before .before .table-at .ensures) at (run .run .ensures))
+    (rw (run .before .clock-at .ensures, tree .tree-at .ensures, plan .plan-at .ensures, components .components-at .ensures, levels .levels-at .ensures, levels .before .before .table-at .ensures) at (run .run .ensures))
     (rw (c .lay-tree .ensures, c .before .before .before .before .before .lay-clock .ensures) refl)
 
 pub tree-stage-spec : {M : Type 1} → statement M
@@ -49,6 +54,7 @@ tree-stage-spec =
     table-at-requires
     levels-at-requires
     components-at-requires
+    plan-at-requires
     tree-at-requires
     clock-at-requires
     run-requires

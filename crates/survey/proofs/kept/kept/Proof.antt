@@ -1,5 +1,5 @@
 -- The front, then the entries, table by table.
-use mathlib.Core.Path.{sym, _∙_}
+use mathlib.Core.Path.{refl, sym, _∙_}
 use borrow.Author.Tests.{not-true, not-false}
 use Rattle.machine.specs.State.{State}
 use Rattle.machine.specs.KeptLaws.{kept-front, kept-parts}
@@ -11,7 +11,7 @@ use Rattle.survey.proofs.kept.kept.Tie as tie
 abbrev the : tie.Start → State
 the s =
     let a = s .args in
-    record { table = record { units = a .units; links = a .links; ends = a .ends .now; levels = a .levels .now }; clock = a .clock; components = record { color = a .color .now }; tree = record { parent = a .parent .now; dist = a .dist .now }; tour = record { next = a .next .now; pred = a .pred .now }; ranking = record { jump = a .jump .now; sum = a .sum .now }; order = record { forward = a .forward .now; nd = a .nd .now; pre = a .pre .now }; range = record { low = a .low .now; high = a .high .now; little = a .little .now; big = a .big .now }; global = record { low = a .least .now; high = a .greatest .now }; aux = record { parents = a .parents .now; links = a .linked .now; color = a .classes .now }; labels = record { class = a .class .now; label = a .label .now } }
+    record { table = record { units = a .units; links = a .links; ends = a .ends .now; levels = a .levels .now }; clock = a .clock; components = record { color = a .color .now }; plan = record { given = a .given; parent = a .plan .now }; tree = record { parent = a .parent .now; dist = a .dist .now }; tour = record { next = a .next .now; pred = a .pred .now }; ranking = record { jump = a .jump .now; sum = a .sum .now }; order = record { forward = a .forward .now; nd = a .nd .now; pre = a .pre .now }; range = record { low = a .low .now; high = a .high .now; little = a .little .now; big = a .big .now }; global = record { low = a .least .now; high = a .greatest .now }; aux = record { parents = a .parents .now; links = a .linked .now; color = a .classes .now }; labels = record { class = a .class .now; label = a .label .now } }
 
 front-ok-requires : tie.Need-front-ok-requires
 front-ok-requires c κs = search needs
@@ -22,8 +22,8 @@ returns c = sym (kept-front (the (c .before .before .before)) (sym (c .before .f
 names-ok-requires : tie.Need-names-ok-requires
 names-ok-requires c κs = search needs
 
-four-ok-requires : tie.Need-four-ok-requires
-four-ok-requires c κs = search needs
+five-ok-requires : tie.Need-five-ok-requires
+five-ok-requires c κs = search needs
 
 mul-three-ok : tie.Need-mul-three-ok
 mul-three-ok c = search needs
@@ -73,9 +73,12 @@ both-requires-7 c κs = search needs
 both-requires-8 : tie.Need-both-requires-8
 both-requires-8 c κs = search needs
 
+both-requires-9 : tie.Need-both-requires-9
+both-requires-9 c κs = search needs
+
 returns-2 : tie.Need-returns-2
 returns-2 c =
-    let v = c .before .before .before .before .before .before .before .before in
+    let v = c .before .before .before .before .before .before .before .before .before in
     let n3 = v .before .before in
     let n2 = n3 .before .before .before .before .before in
     let n1 = n2 .before .before .before .before .before in
@@ -83,14 +86,14 @@ returns-2 c =
     let l = d .before .before in
     let a = l .before .before in
     let f = a .before .before .before .before in
-    let e = f .before .before .before .before .before in
+    let e = f .before .before .before .before .before .before in
     let t = e .before .before in
-    kept-parts (the (t .before .before .before)) _ _ _ _ _ _ _ _ _ _ _ _ _ _ _ _ _
+    kept-parts (the (t .before .before .before)) _ _ _ _ _ _ _ _ _ _ _ _ _ _ _ _ _ _ _
     (sym (t .before .front-ok .ensures) ∙ not-false _ (t .if1 .left))
-    (e .names-ok .ensures) (f .four-ok .ensures) (a .three-ok .ensures) (l .names-ok2 .ensures) (d .dists-ok .ensures)
-    (n1 .numbers-ok .ensures) (n2 .numbers-ok2 .ensures) (n3 .numbers-ok3 .ensures) (v .all-in-range .ensures)
-    (c .before .before .before .before .before .before .before .both .ensures) (c .before .before .before .before .before .before .both2 .ensures) (c .before .before .before .before .before .both3 .ensures) (c .before .before .before .before .both4 .ensures)
-    (c .before .before .before .both5 .ensures) (c .before .before .both6 .ensures) (c .before .both7 .ensures) (c .both8 .ensures)
+    (e .names-ok .ensures) (f .five-ok .ensures) (a .three-ok .ensures) (l .names-ok2 .ensures) (d .dists-ok .ensures)
+    (n1 .numbers-ok .ensures) (n2 .numbers-ok2 .ensures) (n3 .numbers-ok3 .ensures) (v .all-in-range .ensures) refl
+    (c .before .before .before .before .before .before .before .before .both .ensures) (c .before .before .before .before .before .before .before .both2 .ensures) (c .before .before .before .before .before .before .both3 .ensures) (c .before .before .before .before .before .both4 .ensures)
+    (c .before .before .before .before .both5 .ensures) (c .before .before .before .both6 .ensures) (c .before .before .both7 .ensures) (c .before .both8 .ensures) (c .both9 .ensures)
 
 pub kept-spec : {M : Type 1} → statement M
 kept-spec =
@@ -99,7 +102,7 @@ kept-spec =
     front-ok-requires
     returns
     names-ok-requires
-    four-ok-requires
+    five-ok-requires
     mul-three-ok
     three-ok-requires
     names-ok-requires-2
@@ -116,4 +119,5 @@ kept-spec =
     both-requires-6
     both-requires-7
     both-requires-8
+    both-requires-9
     returns-2)

@@ -34,8 +34,14 @@ order-requires c κs = search needs
 lay-order-requires : tie.Need-lay-order-requires
 lay-order-requires c κs = search needs
 
+unplanned-requires : tie.Need-unplanned-requires
+unplanned-requires c κs = search needs
+
+lay-plan-requires : tie.Need-lay-plan-requires
+lay-plan-requires c κs = search needs
+
 returns : tie.Need-returns
-returns c = rw (c .lay-order .ensures, c .before .before .before .before .before .before .order .ensures, c .before .before .before .before .before .before .before .lay-ranking .ensures, c .before .before .before .before .before .before .before .before .before .before .before .before .ranking .ensures, c .before .before .before .before .before .before .before .before .before .before .before .before .before .lay-tour .ensures, c .before .before .before .before .before .before .before .before .before .before .before .before .before .before .before .before .before .before .tour .ensures, c .before .before .before .before .before .before .before .before .before .before .before .before .before .before .before .before .before .before .before .lay-tree .ensures, c .before .before .before .before .before .before .before .before .before .before .before .before .before .before .before .before .before .before .before .before .before .before .before .before .tree .ensures, c .before .before .before .before .before .before .before .before .before .before .before .before .before .before .before .before .before .before .before .before .before .before .before .before .before .lay-components .ensures, c .before .before .before .before .before .before .before .before .before .before .before .before .before .before .before .before .before .before .before .before .before .before .before .before .before .before .before .before .before .components .ensures) refl
+returns c = rw (c .lay-plan .ensures, c .before .before .before .before .unplanned .ensures, c .before .before .before .before .before .lay-order .ensures, c .before .before .before .before .before .before .before .before .before .before .before .order .ensures, c .before .before .before .before .before .before .before .before .before .before .before .before .lay-ranking .ensures, c .before .before .before .before .before .before .before .before .before .before .before .before .before .before .before .before .before .ranking .ensures, c .before .before .before .before .before .before .before .before .before .before .before .before .before .before .before .before .before .before .lay-tour .ensures, c .before .before .before .before .before .before .before .before .before .before .before .before .before .before .before .before .before .before .before .before .before .before .before .tour .ensures, c .before .before .before .before .before .before .before .before .before .before .before .before .before .before .before .before .before .before .before .before .before .before .before .before .lay-tree .ensures, c .before .before .before .before .before .before .before .before .before .before .before .before .before .before .before .before .before .before .before .before .before .before .before .before .before .before .before .before .before .tree .ensures, c .before .before .before .before .before .before .before .before .before .before .before .before .before .before .before .before .before .before .before .before .before .before .before .before .before .before .before .before .before .before .lay-components .ensures, c .before .before .before .before .before .before .before .before .before .before .before .before .before .before .before .before .before .before .before .before .before .before .before .before .before .before .before .before .before .before .before .before .before .before .components .ensures) refl
 
 pub front-spec : {M : Type 1} → statement M
 front-spec =
@@ -51,4 +57,6 @@ front-spec =
     lay-ranking-requires
     order-requires
     lay-order-requires
+    unplanned-requires
+    lay-plan-requires
     returns)

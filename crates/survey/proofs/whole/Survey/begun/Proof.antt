@@ -11,6 +11,9 @@ clock-requires c κs = search needs
 components-requires : tie.Need-components-requires
 components-requires c κs = search needs
 
+unplanned-requires : tie.Need-unplanned-requires
+unplanned-requires c κs = search needs
+
 tree-requires : tie.Need-tree-requires
 tree-requires c κs = search needs
 
@@ -40,7 +43,7 @@ unfolding begun
 returns c =
     let c4 = c .before .before .before .before in
     let c8 = c4 .before .before .before .before in
-    rw (c .labels .ensures, c .before .aux .ensures, c .before .before .global .ensures, c .before .before .before .range .ensures, c4 .order .ensures, c4 .before .ranking .ensures, c4 .before .before .tour .ensures, c4 .before .before .before .tree .ensures, c8 .components .ensures, c8 .before .clock .ensures) refl
+    rw (c .labels .ensures, c .before .aux .ensures, c .before .before .global .ensures, c .before .before .before .range .ensures, c4 .order .ensures, c4 .before .ranking .ensures, c4 .before .before .tour .ensures, c4 .before .before .before .tree .ensures, c8 .unplanned .ensures, c8 .before .components .ensures, c8 .before .before .clock .ensures) refl
 
 pub begun-spec : {M : Type 1} → statement M
 begun-spec =
@@ -48,6 +51,7 @@ begun-spec =
     (tie.spec
     clock-requires
     components-requires
+    unplanned-requires
     tree-requires
     tour-requires
     ranking-requires

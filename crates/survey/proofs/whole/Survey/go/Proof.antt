@@ -62,7 +62,7 @@ abbrev ran-2 : tie.After-struct-known2 Inv-loop μ-loop → tie.After-run2 Inv-l
 ran-2 c = c .before .before .before .before
 
 abbrev turn-2 : tie.After-struct-known2 Inv-loop μ-loop → tie.At-match-keys2 Inv-loop μ-loop
-turn-2 c = ran-2 c .before .before .before .before .before .before .before
+turn-2 c = ran-2 c .before .before .before .before .before .before .before .before
 
 abbrev ran-3 : tie.After-struct-known3 Inv-loop μ-loop → tie.After-run3 Inv-loop μ-loop
 ran-3 c = c .before .before .before .before .before .before

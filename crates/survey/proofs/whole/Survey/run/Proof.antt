@@ -13,7 +13,7 @@ kept-requires : tie.Need-kept-requires
 kept-requires c κs = search needs
 
 abbrev given : tie.After-refusal → State
-given w = of (w .before .before .before .before .before .before .before .before .before .before .before .before .before .before .before .before .before .before .before .before .before .before .before .before .before .before .before .args .t1)
+given w = of (w .before .before .before .before .before .before .before .before .before .before .before .before .before .before .before .before .before .before .before .before .before .before .before .before .before .before .before .before .args .t1)
 
 told : (w : tie.After-refusal) → w .refusal .result ≡ roundRefusal (given w)
 told w = refusal-told (given w) _ _ (w .before .kept .ensures) (w .refusal .ensures)

@@ -1,0 +1,64 @@
+-- Unit by unit.
+use mathlib.Core.Path.{_≡_, refl, _∙_}
+use Prim.Native.Nat.{_≤_, _-_}
+use Rattle.lists.specs.Folds.{some}
+use Rattle.lists.specs.Some.{some-all}
+use Rattle.plan.specs.Unfit.{unmarked, unmarked-more}
+use borrow.Author.Needs.{needs}
+use Rattle.plan.proofs.stray_parents.Statement.{statement}
+use Rattle.plan.proofs.stray_parents.Tie as tie
+
+abbrev Inv-loop : tie.InvT-loop
+Inv-loop units parents near stray₀ v₀ stray v = (v ≤ units) × (stray ≡ some v (unmarked parents near))
+
+abbrev μ-loop : tie.MeasureT-loop
+μ-loop units parents near stray₀ v₀ stray v = units - v
+
+loop-holds : tie.Need-loop-holds Inv-loop μ-loop
+loop-holds c = search needs
+
+at-requires : tie.Need-at-requires Inv-loop μ-loop
+at-requires c κs = search needs
+
+at-requires-2 : tie.Need-at-requires-2 Inv-loop μ-loop
+at-requires-2 c κs = search needs
+
+both-requires : tie.Need-both-requires Inv-loop μ-loop
+both-requires c κs = search needs
+
+either-requires : tie.Need-either-requires Inv-loop μ-loop
+either-requires c κs = search needs
+
+add-v : tie.Need-add-v Inv-loop μ-loop
+add-v c = search needs
+
+loop-less : tie.Need-loop-less Inv-loop μ-loop
+loop-less c = search needs
+
+loop-again : tie.Need-loop-again Inv-loop μ-loop
+loop-again c =
+    let b = c .before in
+    let near = b .before in
+    let up = near .before in
+    let s = up .before .before in
+    let a = s .before .before .before .args in
+    (search needs, unmarked-more (a .parents .now) (a .near .now) (s .loop .v) (s .loop .stray) (c .either .result) (b .both .result) (up .at .result) (near .at2 .result) (s .loop .inv .1) (up .at .ensures) (near .at2 .ensures) (b .both .ensures) (c .either .ensures))
+
+returns : tie.Need-returns Inv-loop μ-loop
+returns c = let s = c .before in let a = s .before .before .before .args in s .loop .inv .1 ∙ some-all _ _ (unmarked (a .parents .now) (a .near .now)) (s .loop .inv .0) (c .loop-test .left)
+
+pub stray-parents-spec : {M : Type 1} → statement M
+stray-parents-spec =
+    tie.close
+    (tie.spec
+    Inv-loop
+    μ-loop
+    loop-holds
+    at-requires
+    at-requires-2
+    both-requires
+    either-requires
+    add-v
+    loop-less
+    loop-again
+    returns)
