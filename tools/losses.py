@@ -76,6 +76,13 @@ class Losses:
             sets.setdefault(label, []).append(j)
         return [links for links in sets.values() if len(links) > 1]
 
+    def touched(self):
+        """For each label, ascending, the units that its links touch, less one."""
+        units = {}
+        for label, pair in zip(self.labels, self.site.links):
+            units.setdefault(label, set()).update(pair)
+        return [len(units[label]) - 1 for label in sorted(units)]
+
 
 def contradictions(losses, report):
     """Where a report of as many units and links says something else than the links of the file."""
@@ -125,6 +132,14 @@ def counted(k, thing):
     return f"{k} {thing}" if k == 1 else f"{k or 'no'} {thing}s"
 
 
+def summed(numbers):
+    """2 + 1 + 1 = 4; past a few, equal ones are counted: 1 × 12 + 30 × 1 = 42"""
+    terms = [str(k) for k in numbers]
+    if len(numbers) > 6:
+        terms = [f"{numbers.count(k)} × {k}" for k in sorted(set(numbers), reverse=True)]
+    return f"{' + '.join(terms)} = {sum(numbers)}" if len(numbers) > 1 else str(sum(numbers))
+
+
 def parted(left):
     """The smallest part first."""
     left = sorted(left, key=lambda part: (len(part), part))
@@ -148,3 +163,4 @@ def words(losses, report):
         yield f"link {j} ({a}-{b}) is lone: its loss {parted(left)}"
     for links in losses.backed():
         yield f"links {listed(links)} back each other up"
+    yield f"by parts: {summed(losses.touched())}, the {counted(site.units, 'unit')} less {counted(len(losses.groups), 'group')}"

@@ -84,6 +84,7 @@ class Sites(Drawn):
                 "unit 2 is a single point: its loss parts 3 from 0, 1",
                 "link 3 (2-3) is lone: its loss parts 3 from 0, 1, 2",
                 "links 0, 1, 2 back each other up",
+                "by parts: 2 + 1 = 3, the 4 units less 1 group",
             ],
         )
 
@@ -97,6 +98,7 @@ class Sites(Drawn):
                 "unit 2 is a single point: its loss parts 0, 1 from 3, 4",
                 "links 0, 1, 2 back each other up",
                 "links 3, 4, 5 back each other up",
+                "by parts: 2 + 2 = 4, the 5 units less 1 group",
             ],
         )
 
@@ -111,6 +113,12 @@ class Sites(Drawn):
                 self.assertEqual(said.count("is a single point"), singles)
                 self.assertEqual(said.count("is lone"), lones)
                 labels = [line[6:10] for line in report if line.startswith(b"13")]
+                # T-14: the last line's sum is the units less the groups, which the report tells by colours
+                units = [line for line in report if line.startswith(b"12")]
+                groups = sum(line[2:6] == line[6:10] for line in units)
+                last = said.splitlines()[-1]
+                self.assertTrue(last.startswith("by parts: "), last)
+                self.assertEqual(int(last.split(",")[0].split()[-1]), len(units) - groups)
                 self.assertEqual(said.count("back each other up"), len({k for k in labels if labels.count(k) > 1}))
                 root = ElementTree.fromstring(drawing)
                 kinds = [group.get("class") or "" for group in root.iter(SVG + "g")]

@@ -15,6 +15,7 @@ use Rattle.machine.specs.RunLaws.{Total, total}
 use Rattle.machine.specs.Report.{unitColor, unitParent, unitPlace, unitSingle, linkLabel, linkLone, flag, reportLength}
 use Rattle.machine.specs.Calls.{loadAnswer, storedLoadAnswer, plannedLoadAnswer, statusAnswer, unitAnswer, linkAnswer, reportAnswer, reported}
 use Rattle.reach.specs.Reach.{SurveyRight}
+use Rattle.reach.specs.PartsRight.{PartsRight}
 use Rattle.claim.specs.Play.{Call, play, used, asked}
 
 -- some load, called on any state whatever, was not refused and handed back s: load, that of a stored table (document 02, T-10), or that with a planner's table
@@ -51,6 +52,8 @@ pub record EndRight (input : Input) (e : State) (u : ℕ) : Type 0 where
       → take 15 (drop (13 + 23 * (input .units) + 15 * j) (reported e out)) ≡ lineFor (linkAnswer j e .reply)
   -- equal labels are a common ring, lone links are on none, single points are articulation points
   pub right : SurveyRight input e
+  -- T-14: the parts add up
+  pub parts : PartsRight input e
 
 -- what holds of a list of calls from a load that handed back s
 pub record Claim (input : Input) (s : State) (calls : List Call) (e : State) (u : ℕ) : Type 0 where

@@ -25,6 +25,7 @@ use Rattle.machine.specs.Calls.{Answer, numberOf, answered, loadAnswer, storedL
 use Rattle.reach.specs.Started.{Started, loaded-started}
 use Rattle.reach.specs.PlannedStart.{planned-started}
 use Rattle.reach.specs.Reach.{survey-right, table-steps, rounds-steps}
+use Rattle.reach.specs.PartsRightProof.{parts-right}
 use Rattle.claim.specs.Play.{Call, play, used, asked}
 use Rattle.claim.specs.PlayLaws.{Spent, play-spent}
 use Rattle.claim.specs.Claim.{Loaded, fresh, stored, planned, lineFor, EndRight, Claim, Demand3}
@@ -177,6 +178,7 @@ module _ (input : Input) (s₀ : State) (S : Started input s₀) (calls : List C
           unitWritten = unit-written;
           linkWritten = link-written;
           right = rw (spent .state, over) (survey-right S .3);
+          parts = rw (spent .state, over) (parts-right S (total s₀) (total-least s₀ w .ends));
         }
 
   claim-started : Claim input s₀ calls e u

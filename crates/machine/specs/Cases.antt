@@ -26,6 +26,7 @@ use Rattle.rules.specs.Range
 use Rattle.rules.specs.Range.{localOf, unitAt, localAt, globalFirst, rangeFirst, littleFirst, bigFirst, withLittle, withBig, rangeLater, littleLater, bigLater, globalLater, rangeEnds}
 use Rattle.rules.specs.Aux.{linkJoinsRound, joinsParent, parentJoinsRound, leastJoined, auxRound, auxEnds}
 use Rattle.rules.specs.Labels.{namingUnit, classRound, labelOf, labelRound, lone, single}
+use Rattle.machine.specs.Parts.{parts, groups}
 use Rattle.machine.specs.State.{State}
 use Rattle.machine.specs.State.{units, links, finished}
 use Rattle.machine.specs.Load.{Input, bare, storedLoadRefusal, loadRefusal, loaded, begun, absents, zeros, silences, plannedLoadRefusal, plannedLoaded}
@@ -43,6 +44,8 @@ pub data Figure : Type 0 where
   Labels Places : List ℕ → Figure
   -- the lone links, and the single points: these and no others
   Lone Singles : List ℕ → Figure
+  -- the sum over all labels of the units touched, less one, and the groups (document 02, T-14)
+  Parts : ℕ → ℕ → Figure
   -- the whole report
   Report : List ℕ → Figure
 
@@ -80,6 +83,7 @@ shows s e rounds (Labels l) = equal (take (links e) (e .labels .label)) l
 shows s e rounds (Places l) = equal (take (units e) (e .order .pre)) l
 shows s e rounds (Lone l) = equal (passing (links e) (linkLone e)) l
 shows s e rounds (Singles l) = equal (passing (units e) (unitSingle e)) l
+shows s e rounds (Parts k g) = eqb (parts (units e) (links e) (e .table .ends) (e .labels .label)) k && eqb (groups (units e) (e .components .color)) g
 shows s e rounds (Report l) = equal (report e) l
 
 abbrev showsAll : State → State → ℕ → List Figure → Bool
@@ -158,10 +162,10 @@ cases =
     ∷ site 4 (0 ∷ 1 ∷ 1 ∷ 2 ∷ 2 ∷ 3 ∷ 3 ∷ 0 ∷ []) (Labels (0 ∷ 0 ∷ 0 ∷ 0 ∷ []) ∷ Singles [] ∷ [])
     -- E
     ∷ site 5 (0 ∷ 1 ∷ 1 ∷ 2 ∷ 0 ∷ 2 ∷ 2 ∷ 3 ∷ 3 ∷ 4 ∷ 2 ∷ 4 ∷ [])
-    (Labels (0 ∷ 0 ∷ 0 ∷ 3 ∷ 3 ∷ 3 ∷ []) ∷ Singles (2 ∷ []) ∷ [])
+    (Labels (0 ∷ 0 ∷ 0 ∷ 3 ∷ 3 ∷ 3 ∷ []) ∷ Singles (2 ∷ []) ∷ Parts 4 1 ∷ [])
     -- F
     ∷ site 6 (0 ∷ 1 ∷ 1 ∷ 2 ∷ 0 ∷ 2 ∷ 3 ∷ 4 ∷ 4 ∷ 5 ∷ 3 ∷ 5 ∷ [])
-    (Labels (0 ∷ 0 ∷ 0 ∷ 3 ∷ 3 ∷ 3 ∷ []) ∷ Singles [] ∷ [])
+    (Labels (0 ∷ 0 ∷ 0 ∷ 3 ∷ 3 ∷ 3 ∷ []) ∷ Singles [] ∷ Parts 4 2 ∷ [])
     -- G
     ∷ site 5 (0 ∷ 3 ∷ 3 ∷ 1 ∷ 1 ∷ 2 ∷ 1 ∷ 4 ∷ []) (Places (0 ∷ 2 ∷ 4 ∷ 1 ∷ 3 ∷ []) ∷ [])
     -- H
@@ -204,7 +208,7 @@ cases =
     ∷ []
 
 pub cases-hold : holdAll cases ≡ true
-unfolding caseB inRange storedRefusal freshRefusal endMissing equalEnds joinedIn repeatedLink isEnd unlinkedBelow lg lgFrom lineOf hexesOf sumOf checkByte Ceilings.countdown leastHeard colorRound colorEnds loss bestKey chosenParent visits parentRound distRound treeEnds leastNeighbor greaterNeighbor neighborAfter follower isStart predecessor nextRound predRound firstSums firstJumps sumRound jumpRound requestsOf rankingEnds forwardRound descendants ndRound secondSums secondJumps placeOf preRound localOf unitAt localAt globalFirst rangeFirst littleFirst bigFirst withLittle withBig rangeLater littleLater bigLater globalLater rangeEnds linkJoinsRound joinsParent parentJoinsRound leastJoined auxRound auxEnds namingUnit classRound labelOf labelRound lone single loaded begun absents zeros silences planUnfit plannedLoadRefusal plannedLoaded plannedParents plannedDists Step.components Step.treeSearched Step.treePlanned Step.tree Step.tourNext Step.tourPred Step.tour Step.ranking Step.marksForward Step.marksDescendants Step.marks Step.places Step.rangeBegun Step.rangeDoubled Step.range Step.auxEdges Step.auxComponents Step.labelClasses Step.labelPositions Step.labels Step.ruleEnds Step.lastRound Step.roundTables Step.roundRequests Step.nextClock Step.step ran report headLine unitLine linkLine tailLine
+unfolding caseB inRange storedRefusal freshRefusal endMissing equalEnds joinedIn repeatedLink isEnd unlinkedBelow lg lgFrom lineOf hexesOf sumOf checkByte Ceilings.countdown leastHeard colorRound colorEnds loss bestKey chosenParent visits parentRound distRound treeEnds leastNeighbor greaterNeighbor neighborAfter follower isStart predecessor nextRound predRound firstSums firstJumps sumRound jumpRound requestsOf rankingEnds forwardRound descendants ndRound secondSums secondJumps placeOf preRound localOf unitAt localAt globalFirst rangeFirst littleFirst bigFirst withLittle withBig rangeLater littleLater bigLater globalLater rangeEnds linkJoinsRound joinsParent parentJoinsRound leastJoined auxRound auxEnds namingUnit classRound labelOf labelRound lone single parts groups loaded begun absents zeros silences planUnfit plannedLoadRefusal plannedLoaded plannedParents plannedDists Step.components Step.treeSearched Step.treePlanned Step.tree Step.tourNext Step.tourPred Step.tour Step.ranking Step.marksForward Step.marksDescendants Step.marks Step.places Step.rangeBegun Step.rangeDoubled Step.range Step.auxEdges Step.auxComponents Step.labelClasses Step.labelPositions Step.labels Step.ruleEnds Step.lastRound Step.roundTables Step.roundRequests Step.nextClock Step.step ran report headLine unitLine linkLine tailLine
 cases-hold = refl
 
 -- ---- a row out of the table

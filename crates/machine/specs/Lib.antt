@@ -16,6 +16,7 @@ pub mod StageRun
 pub mod StageSteps
 pub mod RunLaws
 pub mod Report
+pub mod Parts
 pub mod ReportLaws
 pub mod Calls
 pub mod AnswerLaws

@@ -11,7 +11,7 @@ use Rattle.rules.specs.Basics.{ABSENT, at}
 use Rattle.lists.specs.FoldLaws.{AtLeast}
 use Rattle.rules.specs.Tour.{isInto, isArc, follower, predecessor}
 use Rattle.rules.specs.Range.{localAt}
-use Rattle.rules.specs.Labels.{namingUnit}
+use Rattle.rules.specs.Labels.{namingUnit, labelOf}
 use Rattle.graph.specs.Forest.{Classes}
 use Rattle.machine.specs.State.{State}
 use Rattle.machine.specs.State.{units, links, FINISHED}
@@ -45,6 +45,7 @@ PlanFits s = (planned s ≡ false) ⊎ ((planned s ≡ true) × Fits (units s) (
 pub record Treed (s : State) : Type 0 where
   pub depth : ℕ → ℕ
   pub rooted : Rooted (units s) (links s) (s .table .ends) (s .components .color) (s .tree .parent) depth
+  pub colored : Colored (units s) (links s) (s .table .ends) (s .components .color)
 
 -- round one of stage 3
 abbrev Followers : State → Type 0
@@ -164,6 +165,13 @@ pub record In11 (s : State) : Type 0 where
   pub stage : s .clock .stage ≡ FINISHED
   pub few : s .clock .requests ≤ 8158
   pub right : Right (units s) (links s) (s .table .ends) (s .labels .label)
+  -- the tree and its classes are still there
+  pub numbered : Numbered s
+  pub classes : Classes (Link (links s) (s .table .ends)) (at (s .tree .parent)) (numbered .treed .depth) (at (s .aux .color))
+  pub named : (j : ℕ) → j < links s
+      → at (s .labels .class) j
+      ≡ at (s .aux .color) (namingUnit (s .tree .parent) (s .order .pre) (Rattle.table.specs.Table.endA (s .table .ends) j) (Rattle.table.specs.Table.endB (s .table .ends) j))
+  pub labelled : (j : ℕ) → j < links s → at (s .labels .label) j ≡ labelOf (links s) (s .labels .class) j
 
 pub data Reached (s : State) : Type 0 where
   in1 : In1 s → Reached s

@@ -88,13 +88,13 @@ module _
         link-at : (j : ℕ) → j < m → Link m ends (endA ends j) (endB ends j)
         link-at j l = (j, l, inl (refl, refl))
 
-        class-of : (j : ℕ) → j < m → ClassOf (Link m ends) (at parent) d cl (endA ends j) (endB ends j) (at class j)
+        pub class-of : (j : ℕ) → j < m → ClassOf (Link m ends) (at parent) d cl (endA ends j) (endB ends j) (at class j)
         class-of j l = rw (class-is j l) (naming-class (endA ends j) (endB ends j) (link-at j l))
 
         -- ---- labels are classes
 
         -- the label is a position of the class
-        label-class : (j : ℕ) → j < m → (labelOf m class j < m) × (at class (labelOf m class j) ≡ at class j)
+        pub label-class : (j : ℕ) → j < m → (labelOf m class j < m) × (at class (labelOf m class j) ≡ at class j)
         unfolding labelOf
         label-class j l = go (least-is m f ABSENT)
           where
@@ -115,7 +115,7 @@ module _
                 by (inl q) = let g : labelOf m class j ≡ k = e ∙ cond-true (eqb (at class k) (at class j)) k ABSENT q in (omega arith, rw g (eqb-true (at class k) (at class j) q))
                 by (inr q) = let g : labelOf m class j ≡ ABSENT = e ∙ cond-false (eqb (at class k) (at class j)) k ABSENT q in absurd (omega (arith, site .fewLinks, small))
 
-        labels-as-classes : (j k : ℕ) → j < m → k < m → (at label j ≡ at label k) ↔ (at class j ≡ at class k)
+        pub labels-as-classes : (j k : ℕ) → j < m → k < m → (at label j ≡ at label k) ↔ (at class j ≡ at class k)
         unfolding labelOf
         labels-as-classes j k hj hk = (there, back)
           where
@@ -156,7 +156,7 @@ module _
             b = blocks-other (site-graph site) (rooted .forest) classes (different j k hj hk n) (class-of j hj) (class-of k hk)
 
         -- a link has the class of its position
-        class-at-link : (x y c : ℕ) → Link m ends x y → ClassOf (Link m ends) (at parent) d cl x y c
+        pub class-at-link : (x y c : ℕ) → Link m ends x y → ClassOf (Link m ends) (at parent) d cl x y c
             → (k : ℕ) × (k < m) × SameLink (endA ends k) (endB ends k) x y × (at class k ≡ c)
         class-at-link x y c (k, l, s) h =
             (k, l, s, class-same (site-graph site) (rooted .forest) (classes .along-aux) (link-at k l) s (class-of k l) h)
@@ -191,14 +191,14 @@ module _
             b = bridge (site-graph site) (rooted .forest) classes (class-of j hj)
 
         -- a link that ends at u, with its other end and its class
-        at-unit : (u j : ℕ) → j < m → touches ends u j ≡ true → (a : ℕ) × ClassOf (Link m ends) (at parent) d cl u a (at class j)
+        pub at-unit : (u j : ℕ) → j < m → touches ends u j ≡ true → (a : ℕ) × ClassOf (Link m ends) (at parent) d cl u a (at class j)
         at-unit u j l e = go (or-exact (eqb (endA ends j) u) (eqb (endB ends j) u) (eq-exact (endA ends j) u) (eq-exact (endB ends j) u) .0 e)
           where
             go : (endA ends j ≡ u) ⊎ (endB ends j ≡ u) → (a : ℕ) × ClassOf (Link m ends) (at parent) d cl u a (at class j)
             go (inl q) = (endB ends j, rw q at (class-of j l))
             go (inr q) = (endA ends j, rw q at (class-flip (site-graph site) (rooted .forest) (classes .along-aux) (class-of j l)))
 
-        link-touches : (u a j : ℕ) → SameLink (endA ends j) (endB ends j) u a → touches ends u j ≡ true
+        pub link-touches : (u a j : ℕ) → SameLink (endA ends j) (endB ends j) u a → touches ends u j ≡ true
         link-touches u a j (inl s) = or-exact (eqb (endA ends j) u) (eqb (endB ends j) u) (eq-exact (endA ends j) u) (eq-exact (endB ends j) u) .1 (inl (s .0))
         link-touches u a j (inr s) = or-exact (eqb (endA ends j) u) (eqb (endB ends j) u) (eq-exact (endA ends j) u) (eq-exact (endB ends j) u) .1 (inr (s .1))
 

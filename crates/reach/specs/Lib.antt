@@ -17,6 +17,7 @@ pub mod OffTheTree
 pub mod AuxEdges
 pub mod AuxColors
 pub mod LabelsRight
+pub mod PartsAddUp
 pub mod Invariant
 pub mod Ticks
 pub mod Rounds1and2
@@ -29,6 +30,8 @@ pub mod Loaded
 pub mod Started
 pub mod PlannedStart
 pub mod Reach
+pub mod PartsRight
+pub mod PartsRightProof
 pub mod AnyLevels
 pub mod AnyLevelsProof
 pub mod AnyPlan

@@ -137,6 +137,7 @@ module _ (s : State) (b : Base s) (i : In2 s) where
             record {
               depth = BreadthFirst.depthOf (units s) dists′;
               rooted = rooted;
+              colored = i .colored;
             };
         tour = inl (made-over (Step.lastRound s) (Step.roundRequests s) (s .clock) e);
       })
@@ -159,6 +160,7 @@ module _ (s : State) (b : Base s) (i : In2 s) where
             record {
               depth = depthIn (units s) (s .plan .parent);
               rooted = planned-rooted (b .site) fits (i .colored) (s .tree .parent) (s .tree .dist) parent-room dist-room;
+              colored = i .colored;
             };
         tour = inl (made-over (Step.lastRound s) (Step.roundRequests s) (s .clock) e);
       })

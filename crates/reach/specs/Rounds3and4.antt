@@ -47,7 +47,7 @@ module _ (s : State) (b : Base s) (i : In3 s) where
       (record {
         stage = stage-on (Step.lastRound s) (Step.roundRequests s) (s .clock) e ∙ i .stage;
         quiet = quiet-3 (Step.lastRound s);
-        treed = record { depth = i .treed .depth; rooted = i .treed .rooted };
+        treed = record { depth = i .treed .depth; rooted = i .treed .rooted; colored = i .treed .colored };
         tour =
             inr (
               made-on (Step.lastRound s) (Step.roundRequests s) (s .clock) e ∙ omega arith,
@@ -94,7 +94,7 @@ module _ (s : State) (b : Base s) (i : In3 s) where
         stage = stage-over (Step.lastRound s) (Step.roundRequests s) (s .clock) e ∙ omega (arith, i .stage);
         toured =
             record {
-              treed = record { depth = i .treed .depth; rooted = i .treed .rooted };
+              treed = record { depth = i .treed .depth; rooted = i .treed .rooted; colored = i .treed .colored };
               followers = f;
               predecessors = λ a l. getD-over (2 * units s) (predecessor (units s) (s .tree .parent) (s .tour .next)) (s .tour .pred) a 0 l (arcs-fit (length (s .tour .pred)) (b .sized .byArc .1 .0) a l);
             };
@@ -131,7 +131,7 @@ module _ (s : State) (b : Base s) (i : In4 s) where
   unfolding Step.ranking
   toured-4 =
       record {
-        treed = record { depth = i .toured .treed .depth; rooted = i .toured .treed .rooted };
+        treed = record { depth = i .toured .treed .depth; rooted = i .toured .treed .rooted; colored = i .toured .treed .colored };
         followers = i .toured .followers;
         predecessors = i .toured .predecessors;
       }

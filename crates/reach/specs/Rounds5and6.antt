@@ -57,7 +57,7 @@ module _ (s : State) (b : Base s) (i : In5 s) where
         few = same-5 (Step.lastRound s);
         toured =
             record {
-              treed = record { depth = i .toured .treed .depth; rooted = i .toured .treed .rooted };
+              treed = record { depth = i .toured .treed .depth; rooted = i .toured .treed .rooted; colored = i .toured .treed .colored };
               followers = i .toured .followers;
               predecessors = i .toured .predecessors;
             };
@@ -123,7 +123,7 @@ module _ (s : State) (b : Base s) (i : In5 s) where
       in6
       (record {
         stage = stage-over (Step.lastRound s) (Step.roundRequests s) (s .clock) e ∙ omega (arith, i .stage);
-        treed = record { depth = i .toured .treed .depth; rooted = i .toured .treed .rooted };
+        treed = record { depth = i .toured .treed .depth; rooted = i .toured .treed .rooted; colored = i .toured .treed .colored };
         few = omega (arith, same-5 (Step.lastRound s));
         sizes =
             λ v l.
@@ -178,7 +178,7 @@ module _ (s : State) (b : Base s) (i : In6 s) where
       in6
       (record {
         stage = stage-on (Step.lastRound s) (Step.roundRequests s) (s .clock) e ∙ i .stage;
-        treed = record { depth = i .treed .depth; rooted = i .treed .rooted };
+        treed = record { depth = i .treed .depth; rooted = i .treed .rooted; colored = i .treed .colored };
         few = few-6 (Step.lastRound s) _ (made-on (Step.lastRound s) (Step.roundRequests s) (s .clock) e);
         sizes = i .sizes;
         ranked = ranked-6 _ (made-on (Step.lastRound s) (Step.roundRequests s) (s .clock) e);
@@ -217,7 +217,7 @@ module _ (s : State) (b : Base s) (i : In6 s) where
           early = omega (arith, made-over (Step.lastRound s) (Step.roundRequests s) (s .clock) e);
           numbered =
               record {
-                treed = record { depth = i .treed .depth; rooted = i .treed .rooted };
+                treed = record { depth = i .treed .depth; rooted = i .treed .rooted; colored = i .treed .colored };
                 ordered = ordered-6;
               };
           segments = inl (made-over (Step.lastRound s) (Step.roundRequests s) (s .clock) e);

@@ -87,7 +87,7 @@ module _ (s : State) (b : Base s) (i : In7 s) where
   numbered-7 : (r : Range) (g : Global) → Numbered (ticked s (withRange r (withGlobal g s)))
   numbered-7 r g =
       record {
-        treed = record { depth = i .numbered .treed .depth; rooted = i .numbered .treed .rooted };
+        treed = record { depth = i .numbered .treed .depth; rooted = i .numbered .treed .rooted; colored = i .numbered .treed .colored };
         ordered = i .numbered .ordered;
       }
 
@@ -267,7 +267,7 @@ module _ (s : State) (b : Base s) (i : In8 s) where
         few = omega (arith, requests-next (Step.lastRound s) (Step.roundRequests s) (s .clock) (omega (arith, i .few, requests-at 8 s (i .stage))), i .few, requests-at 8 s (i .stage));
         numbered =
             record {
-              treed = record { depth = i .numbered .treed .depth; rooted = i .numbered .treed .rooted };
+              treed = record { depth = i .numbered .treed .depth; rooted = i .numbered .treed .rooted; colored = i .numbered .treed .colored };
               ordered = i .numbered .ordered;
             };
         marked = marked-8;

@@ -42,7 +42,7 @@ module _ (s : State) (b : Base s) (i : In9 s) where
   unfolding Step.auxComponents
   numbered-9 =
       record {
-        treed = record { depth = i .numbered .treed .depth; rooted = i .numbered .treed .rooted };
+        treed = record { depth = i .numbered .treed .depth; rooted = i .numbered .treed .rooted; colored = i .numbered .treed .colored };
         ordered = i .numbered .ordered;
       }
 
@@ -138,7 +138,7 @@ module _ (s : State) (b : Base s) (i : In10 s) where
         few = same-10 (Step.lastRound s);
         numbered =
             record {
-              treed = record { depth = i .numbered .treed .depth; rooted = i .numbered .treed .rooted };
+              treed = record { depth = i .numbered .treed .depth; rooted = i .numbered .treed .rooted; colored = i .numbered .treed .colored };
               ordered = i .numbered .ordered;
             };
         classes = i .classes;
@@ -161,6 +161,14 @@ module _ (s : State) (b : Base s) (i : In10 s) where
         right =
             labels-right (b .site) (i .numbered .treed .rooted) (i .numbered .ordered) (i .classes) (s .labels .class) _ f
             (λ j l. getD-over (links s) (labelOf (links s) (s .labels .class)) (s .labels .label) j 0 l (links-fit (length (s .labels .label)) (b .sized .byLink .1 .1 .0) j l));
+        numbered =
+            record {
+              treed = record { depth = i .numbered .treed .depth; rooted = i .numbered .treed .rooted; colored = i .numbered .treed .colored };
+              ordered = i .numbered .ordered;
+            };
+        classes = i .classes;
+        named = f;
+        labelled = λ j l. getD-over (links s) (labelOf (links s) (s .labels .class)) (s .labels .label) j 0 l (links-fit (length (s .labels .label)) (b .sized .byLink .1 .1 .0) j l);
       })
 
   pub goes-10 : Goes s
