@@ -45,12 +45,16 @@ fn vectors() {
         let stream = read(&format!("data/{name}"));
         let mut numbers = stream.split_ascii_whitespace().map(|word| word.parse::<i64>().unwrap());
         for _ in 0..numbers.next().unwrap() {
-            assert_eq!(numbers.next(), Some(1), "{name}: another call than a load");
+            let call = numbers.next().unwrap();
             let units = numbers.next().unwrap().try_into().unwrap();
             let (table, levels, parents) = (list::<u16>(&mut numbers), list::<i16>(&mut numbers), list::<u16>(&mut numbers));
-            assert!(parents.is_empty());
             let mut survey = Survey::new();
-            survey.load(units, &table, &levels).unwrap();
+            if call == 2 {
+                survey.load_planned(units, &table, &levels, &parents).unwrap();
+            } else {
+                assert!(call == 1 && parents.is_empty(), "{name}: another call than a load");
+                survey.load(units, &table, &levels).unwrap();
+            }
             loop {
                 said += &foreman(&survey);
                 said += &service(&survey);

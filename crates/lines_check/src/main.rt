@@ -139,7 +139,81 @@ fn loaded<'a>(
     answer.survey
 }
 
-// A case: the call (1: a load), the unit count, the list of words, the list of levels, the list of parents (none).
+// The same with a table of so many parents (T-05).
+fn planned<'a>(
+    units: u16,
+    words: &'a [u16],
+    count: usize,
+    levels: &'a [i16],
+    links: usize,
+    parents: &'a [u16],
+    drawn: usize,
+) -> Survey {
+    if parents.len() < drawn {
+        return Survey::new();
+    }
+    if words.len() < count {
+        return Survey::new();
+    }
+    if levels.len() < links {
+        return Survey::new();
+    }
+    let answer = Survey::new().load_planned(
+        units,
+        &words[..count],
+        &levels[..links],
+        &parents[..drawn],
+    );
+    answer.survey
+}
+
+// By the call of the case: 1 is a load, 2 the load with parents.
+fn begun<'a>(
+    call: u32,
+    units: u16,
+    words: &'a [u16],
+    count: usize,
+    levels: &'a [i16],
+    links: usize,
+    parents: &'a [u16],
+    drawn: usize,
+) -> Survey {
+    if call == 2 {
+        planned(units, words, count, levels, links, parents, drawn)
+    } else {
+        loaded(units, words, count, levels, links)
+    }
+}
+
+// The rest of a case, after its levels: the list of parents. Then both lines after the load and after each round.
+fn drawn<'a>(
+    stream: &'a [u8],
+    cursor: Cursor,
+    call: u32,
+    units: u16,
+    words: &'a [u16],
+    count: usize,
+    levels: &'a [i16],
+    links: usize,
+) -> Cursor {
+    let next = streams::next_number(stream, cursor);
+    let mut parents = [0u16; 256];
+    let after = list(stream, next.cursor, next.value, &mut parents);
+    let first = begun(
+        call,
+        units,
+        words,
+        count,
+        levels,
+        links,
+        &parents,
+        next.value as usize,
+    );
+    rounds(first);
+    after
+}
+
+// A case: the call, the unit count, the list of words, the list of levels, the list of parents.
 fn case(stream: &[u8], cursor: Cursor) -> Cursor {
     let call = streams::next_number(stream, cursor);
     let units = streams::next_number(stream, call.cursor);
@@ -149,16 +223,16 @@ fn case(stream: &[u8], cursor: Cursor) -> Cursor {
     let links = streams::next_number(stream, after);
     let mut levels = [0i16; 1024];
     let last = heights(stream, links.cursor, links.value, &mut levels);
-    let parents = streams::next_number(stream, last);
-    let first = loaded(
+    drawn(
+        stream,
+        last,
+        call.value,
         (units.value % 65536) as u16,
         &words,
         count.value as usize,
         &levels,
         links.value as usize,
-    );
-    rounds(first);
-    parents.cursor
+    )
 }
 
 // Every case of a stream, which begins with how many there are.

@@ -168,7 +168,14 @@ fn part_told(at: Sum, c: u16, units: u16, line: &mut [u8]) -> Sum {
 }
 
 // The part of position `j`, if it is a label.
-fn part_if<'a>(is: bool, words: &'a [u16], label: &'a [u16], j: u16, at: Sum, line: &mut [u8]) -> Sum {
+fn part_if<'a>(
+    is: bool,
+    words: &'a [u16],
+    label: &'a [u16],
+    j: u16,
+    at: Sum,
+    line: &mut [u8],
+) -> Sum {
     if is {
         part_told(at, j, part(words, label, j), line)
     } else {
@@ -181,7 +188,14 @@ fn parts<'a>(links: u16, words: &'a [u16], label: &'a [u16], begin: usize, line:
     let mut told = Sum { sum: 0, end: begin };
     let mut j: u16 = 0;
     while j < links {
-        told = part_if(slices::word(label, j as usize) == j, words, label, j, told, line);
+        told = part_if(
+            slices::word(label, j as usize) == j,
+            words,
+            label,
+            j,
+            told,
+            line,
+        );
         j += 1;
     }
     told
