@@ -72,11 +72,6 @@ no-lines (c ∷ s) e = go (first-line c s)
     go (ended p rest f l) = absurd (omega (arith, ap length (sym l ∙ e)))
     go (unended p l) = absurd (omega (arith, ap length (sym l ∙ e)))
 
-pub some-lines : (s : List ℕ) (l : Line) (ls : List Line) → linesOf s ≡ l ∷ ls → 0 < length s
-unfolding linesOf
-some-lines [] l ls e = absurd (omega (arith, ap length e))
-some-lines (c ∷ s) l ls e = omega arith
-
 -- ---- a whole line at the front
 
 -- what the test of a line says
