@@ -1,7 +1,6 @@
 // Rounds and runs. A run goes from stage to stage: the tables that a stage changes are taken out, its rounds are made on them, and they are put back; the
 // rest of the state stays where it is.
 use super::answer::Answer;
-use super::kept;
 use super::whole::Survey;
 use state::Aux;
 use state::Clock;
@@ -49,7 +48,7 @@ impl Survey {
         ensures { λ r. ⌜ answerOf r ≡ runAnswer budget (of self) ⌝ }
     {
         // The tables are lent where they stand: `well_formed` would copy the state.
-        let well = kept::kept(
+        let well = well_formed::kept(
             self.table.units,
             self.table.links,
             self.clock,

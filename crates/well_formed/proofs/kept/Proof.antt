@@ -4,8 +4,8 @@ use borrow.Author.Tests.{not-true, not-false}
 use Rattle.machine.specs.State.{State}
 use Rattle.machine.specs.KeptLaws.{kept-front, kept-parts}
 use borrow.Author.Needs.{needs}
-use Rattle.survey.proofs.kept.kept.Statement.{statement}
-use Rattle.survey.proofs.kept.kept.Tie as tie
+use Rattle.well_formed.proofs.kept.Statement.{statement}
+use Rattle.well_formed.proofs.kept.Tie as tie
 
 -- the state whose tables are lent
 abbrev the : tie.Start → State

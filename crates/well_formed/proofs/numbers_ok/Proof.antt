@@ -4,8 +4,8 @@ use mathlib.Core.Bool.{and-true}
 use borrow.Author.Needs.{needs}
 use Rattle.lists.specs.Folds.{every}
 use Rattle.rules.specs.Bounds.{numberOk}
-use Rattle.survey.proofs.kept.numbers_ok.Statement.{statement}
-use Rattle.survey.proofs.kept.numbers_ok.Tie as tie
+use Rattle.well_formed.proofs.numbers_ok.Statement.{statement}
+use Rattle.well_formed.proofs.numbers_ok.Tie as tie
 
 numbers-ok-requires : tie.Need-numbers-ok-requires
 numbers-ok-requires c κs = search needs

@@ -1,8 +1,8 @@
 -- One table more.
 use mathlib.Core.Path.{refl}
 use borrow.Author.Needs.{needs}
-use Rattle.survey.proofs.kept.five_ok.Statement.{statement}
-use Rattle.survey.proofs.kept.five_ok.Tie as tie
+use Rattle.well_formed.proofs.five_ok.Statement.{statement}
+use Rattle.well_formed.proofs.five_ok.Tie as tie
 
 names-ok-requires : tie.Need-names-ok-requires
 names-ok-requires c κs = search needs

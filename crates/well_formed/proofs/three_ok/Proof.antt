@@ -4,8 +4,8 @@ use mathlib.Core.Bool.{and-true}
 use borrow.Author.Needs.{needs}
 use Rattle.rules.specs.Bounds.{nameOk}
 use Rattle.lists.specs.Folds.{every}
-use Rattle.survey.proofs.kept.three_ok.Statement.{statement}
-use Rattle.survey.proofs.kept.three_ok.Tie as tie
+use Rattle.well_formed.proofs.three_ok.Statement.{statement}
+use Rattle.well_formed.proofs.three_ok.Tie as tie
 
 names-ok-requires : tie.Need-names-ok-requires
 names-ok-requires c κs = search needs
