@@ -19,7 +19,7 @@ pub fn load(state: &mut [u16; STATE_WORDS], units: u16, table: &[u16], levels: &
     ensures number { λ r. ⌜ r ≡ numberOf (loadAnswer (record { units = units; words = now (table .entry); levels = now (levels .entry) }) (stateOf (now (state .entry))) .reply) ⌝ }
     ensures words { λ _. ⌜ stateOf (now (state .exit)) ≡ loadAnswer (record { units = units; words = now (table .entry); levels = now (levels .entry) }) (stateOf (now (state .entry))) .state ⌝ }
 {
-    words::load(units, table, levels, state) as u32
+    loading::load(units, table, levels, state) as u32
 }
 
 // Load of a stored table: 4 to 6, 15, 16, 7 to 9.
@@ -27,7 +27,7 @@ pub fn load_stored(state: &mut [u16; STATE_WORDS], units: u16, table: &[u16], le
     ensures number { λ r. ⌜ r ≡ numberOf (storedLoadAnswer (record { units = units; words = now (table .entry); levels = now (levels .entry) }) (stateOf (now (state .entry))) .reply) ⌝ }
     ensures words { λ _. ⌜ stateOf (now (state .exit)) ≡ storedLoadAnswer (record { units = units; words = now (table .entry); levels = now (levels .entry) }) (stateOf (now (state .entry))) .state ⌝ }
 {
-    words::load_stored(units, table, levels, state) as u32
+    loading::load_stored(units, table, levels, state) as u32
 }
 
 // Load with a table of parents drawn by the planner: 4 to 6, 15, 16, 7 to 9, 17, 18, 22.
@@ -41,7 +41,7 @@ pub fn load_planned(
     ensures number { λ r. ⌜ r ≡ numberOf (plannedLoadAnswer (record { units = units; words = now (table .entry); levels = now (levels .entry) }) (now (parents .entry)) (stateOf (now (state .entry))) .reply) ⌝ }
     ensures words { λ _. ⌜ stateOf (now (state .exit)) ≡ plannedLoadAnswer (record { units = units; words = now (table .entry); levels = now (levels .entry) }) (now (parents .entry)) (stateOf (now (state .entry))) .state ⌝ }
 {
-    words::load_planned(units, table, levels, parents, state) as u32
+    loading::load_planned(units, table, levels, parents, state) as u32
 }
 
 // Status: 10. The reply is stage, countdown, all rounds, requests.

@@ -84,5 +84,5 @@ pub fn load(
     if 7 < seat {
         return 23;
     }
-    words::load(units, table, levels, &mut seats[seat as usize]) as u32
+    loading::load(units, table, levels, &mut seats[seat as usize]) as u32
 }

@@ -1,5 +1,4 @@
 pub mod Layout
-pub mod Begun
 pub mod FieldLaws
 pub mod CopyLaws
 pub mod LevelCopies

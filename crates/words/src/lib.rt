@@ -1,9 +1,8 @@
-// A state in the words that a caller lends: where each table lies, its groups taken out and laid down, the words of a load, and the kept test.
+// A state in the words that a caller lends: where each table lies, its groups taken out and laid down, and the kept test.
 mod copies;
 mod judged;
 mod lay;
 mod layout;
-mod loading;
 mod take;
 
 pub use judged::kept;
@@ -20,9 +19,6 @@ pub use lay::lay_table;
 pub use lay::lay_tour;
 pub use lay::lay_tree;
 pub use layout::STATE_WORDS;
-pub use loading::load;
-pub use loading::load_planned;
-pub use loading::load_stored;
 pub use take::aux_at;
 pub use take::clock_at;
 pub use take::components_at;

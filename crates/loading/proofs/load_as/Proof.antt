@@ -3,8 +3,8 @@ use mathlib.Core.Path.{refl, sym, _∙_}
 use borrow.Author.Tests.{ne-eqb, eq-eqb}
 use Rattle.table.specs.FreshLaws.{as-accepted}
 use borrow.Author.Needs.{needs}
-use Rattle.words.proofs.loading.load_as.Statement.{statement}
-use Rattle.words.proofs.loading.load_as.Tie as tie
+use Rattle.loading.proofs.load_as.Statement.{statement}
+use Rattle.loading.proofs.load_as.Tie as tie
 
 refusal-requires : tie.Need-refusal-requires
 refusal-requires c κs = search needs

@@ -8,8 +8,8 @@ use Rattle.table.specs.Passes.{passes, table-alone}
 use Rattle.machine.specs.Load.{Input, plannedLoaded}
 use Rattle.machine.specs.PlannedLoad.{PlanAccepted, plan-accepted}
 use borrow.Author.Needs.{needs}
-use Rattle.words.proofs.loading.lay_planned.Statement.{statement}
-use Rattle.words.proofs.loading.lay_planned.Tie as tie
+use Rattle.loading.proofs.lay_planned.Statement.{statement}
+use Rattle.loading.proofs.lay_planned.Tie as tie
 
 abbrev input : tie.Start → Input
 input s = record { units = s .args .units; words = s .args .table .now; levels = s .args .levels .now }

@@ -4,8 +4,8 @@ use lib.Seq.{take-all}
 use Rattle.machine.specs.Load.{begun, loaded}
 use Rattle.machine.specs.LoadLaws.{passed-fits}
 use borrow.Author.Needs.{needs}
-use Rattle.words.proofs.loading.lay_loaded.Statement.{statement}
-use Rattle.words.proofs.loading.lay_loaded.Tie as tie
+use Rattle.loading.proofs.lay_loaded.Statement.{statement}
+use Rattle.loading.proofs.lay_loaded.Tie as tie
 
 table-requires : tie.Need-table-requires
 table-requires c κs = search needs

@@ -1,13 +1,12 @@
-// Load on words, of a fresh table and of a stored one.
-use super::lay;
-use super::layout::STATE_WORDS;
+// Load on words: of a fresh table, of a stored one, and with a tree drawn by the planner.
+use words::STATE_WORDS;
 ghost use mathlib.Core.Path.{_≡_};
 ghost use mathlib.Core.Bool.{cond};
 ghost use lib.Dec.{eqb};
 ghost use Rattle.table.specs.Table.{storedRefusal, refusalAs};
 ghost use Rattle.machine.specs.Load.{loadRefusal, storedLoadRefusal, loaded, plannedLoadRefusal, plannedLoaded};
 ghost use Rattle.words.specs.Layout.{stateOf};
-ghost use Rattle.words.specs.Begun.{frontBegun, backBegun};
+ghost use Rattle.loading.specs.Begun.{frontBegun, backBegun};
 
 // Of a fresh table: 4 to 6, 15, 16, 7 to 9, 22. The number of the first check that fails, with the words as they were; else 0, and the words of the loaded
 // state.
@@ -61,7 +60,7 @@ fn lay_planned(
 {
     lay_loaded(units, table, levels, words);
     let drawn = begin::plan(parents);
-    lay::lay_plan(drawn.given, &drawn.parent, words);
+    words::lay_plan(drawn.given, &drawn.parent, words);
 }
 
 // Either of the first two.
@@ -89,8 +88,8 @@ fn lay_loaded(units: u16, table: &[u16], levels: &[i16], words: &mut [u16; STATE
     requires { ⌜ storedRefusal units (now table) (now levels) ≡ 0 ⌝ }
     ensures { λ _. ⌜ stateOf (now (words .exit)) ≡ loaded (record { units = units; words = now (table .entry); levels = now (levels .entry) }) ⌝ }
 {
-    lay::lay_table(begin::table(units, table, levels), words);
-    lay::lay_clock(begin::clock(), words);
+    words::lay_table(begin::table(units, table, levels), words);
+    words::lay_clock(begin::clock(), words);
     front(words);
     back(words);
 }
@@ -100,17 +99,17 @@ fn front(words: &mut [u16; STATE_WORDS])
     ensures { λ _. ⌜ stateOf (now (words .exit)) ≡ frontBegun (stateOf (now (words .entry))) ⌝ }
 {
     let components = begin::components();
-    lay::lay_components(&components.color, words);
+    words::lay_components(&components.color, words);
     let tree = begin::tree();
-    lay::lay_tree(&tree.parent, &tree.dist, words);
+    words::lay_tree(&tree.parent, &tree.dist, words);
     let tour = begin::tour();
-    lay::lay_tour(&tour.next, &tour.pred, words);
+    words::lay_tour(&tour.next, &tour.pred, words);
     let ranking = begin::ranking();
-    lay::lay_ranking(&ranking.jump, &ranking.sum, words);
+    words::lay_ranking(&ranking.jump, &ranking.sum, words);
     let order = begin::order();
-    lay::lay_order(&order.forward, &order.nd, &order.pre, words);
+    words::lay_order(&order.forward, &order.nd, &order.pre, words);
     let plan = begin::unplanned();
-    lay::lay_plan(plan.given, &plan.parent, words);
+    words::lay_plan(plan.given, &plan.parent, words);
 }
 
 // Those of the stages 7 to 10.
@@ -118,11 +117,11 @@ fn back(words: &mut [u16; STATE_WORDS])
     ensures { λ _. ⌜ stateOf (now (words .exit)) ≡ backBegun (stateOf (now (words .entry))) ⌝ }
 {
     let range = begin::range();
-    lay::lay_range(&range.low, &range.high, &range.little, &range.big, words);
+    words::lay_range(&range.low, &range.high, &range.little, &range.big, words);
     let global = begin::global();
-    lay::lay_global(&global.low, &global.high, words);
+    words::lay_global(&global.low, &global.high, words);
     let aux = begin::aux();
-    lay::lay_aux(&aux.parents, &aux.links, &aux.color, words);
+    words::lay_aux(&aux.parents, &aux.links, &aux.color, words);
     let labels = begin::labels();
-    lay::lay_labels(&labels.class, &labels.label, words);
+    words::lay_labels(&labels.class, &labels.label, words);
 }

@@ -2,8 +2,8 @@
 use mathlib.Core.Path.{refl, sym, _∙_}
 use borrow.Author.Tests.{ne-eqb, eq-eqb}
 use borrow.Author.Needs.{needs}
-use Rattle.words.proofs.loading.load_planned.Statement.{statement}
-use Rattle.words.proofs.loading.load_planned.Tie as tie
+use Rattle.loading.proofs.load_planned.Statement.{statement}
+use Rattle.loading.proofs.load_planned.Tie as tie
 
 refusal-requires : tie.Need-refusal-requires
 refusal-requires c κs = search needs

@@ -1,8 +1,8 @@
 -- Group by group.
 use mathlib.Core.Path.{refl}
 use borrow.Author.Needs.{needs}
-use Rattle.words.proofs.loading.back.Statement.{statement}
-use Rattle.words.proofs.loading.back.Tie as tie
+use Rattle.loading.proofs.back.Statement.{statement}
+use Rattle.loading.proofs.back.Tie as tie
 
 range-requires : tie.Need-range-requires
 range-requires c κs = search needs

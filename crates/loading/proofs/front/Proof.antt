@@ -1,8 +1,8 @@
 -- Group by group.
 use mathlib.Core.Path.{refl}
 use borrow.Author.Needs.{needs}
-use Rattle.words.proofs.loading.front.Statement.{statement}
-use Rattle.words.proofs.loading.front.Tie as tie
+use Rattle.loading.proofs.front.Statement.{statement}
+use Rattle.loading.proofs.front.Tie as tie
 
 components-requires : tie.Need-components-requires
 components-requires c κs = search needs
