@@ -56,6 +56,19 @@ class Documents(unittest.TestCase):
                     self.assertTrue(os.path.exists(os.path.join(os.path.dirname(document), target)))
 
 
+class Statements(unittest.TestCase):
+    def test_quoted(self):
+        """docs/THEOREMS.md quotes the lines that it names."""
+        text = contents(os.path.join(ROOT, "docs", "THEOREMS.md"))
+        blocks = re.findall(r"(?ms)^`(crates/[\w./]+)`, lines? (\d+)(?: to (\d+))?:\n\n```\n(.*?)\n```$", text)
+        self.assertEqual(len(blocks), text.count("\n```\n") // 2)
+        self.assertTrue(blocks)
+        for path, first, last, said in blocks:
+            with self.subTest(f"{path}: {first}"):
+                lines = contents(os.path.join(ROOT, path)).split("\n")
+                self.assertEqual(said, "\n".join(lines[int(first) - 1 : int(last or first)]))
+
+
 class PublicFunctions(unittest.TestCase):
     def test_contracts(self):
         found = 0
