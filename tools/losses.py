@@ -1,5 +1,15 @@
 """What the loss of a unit or of a link does to a site: by flooding what is left, never from a report."""
+from collections import namedtuple
+
 from survey_text import ABSENT
+
+# a single point (its unit as number, no ends) or a lone link (its position and ends), the parts that its loss leaves of its group, the
+# smallest first, and how many units it cuts off: all but those of the largest part
+Weak = namedtuple("Weak", "number ends parts cut")
+
+# the weak places of an earlier table that are none now: cured, or lost where those that hung together by it are apart now; then the
+# new ones, and the remaining ones, each beside what it was
+Changes = namedtuple("Changes", "cured lost new remaining")
 
 
 def neighbours_of(site):
@@ -76,12 +86,50 @@ class Losses:
             sets.setdefault(label, []).append(j)
         return [links for links in sets.values() if len(links) > 1]
 
+    def alone(self):
+        """The units that hear nobody; a site of one unit has none."""
+        return [part[0] for part in self.groups if len(part) == 1 and self.site.units > 1]
+
+    def pieces(self):
+        """The groups of more than one unit, the largest first."""
+        return sorted((part for part in self.groups if len(part) > 1), key=lambda part: (-len(part), part))
+
+    def weak(self):
+        """The weak places in working order: by the number of units cut off, the most first; then single points before lone links."""
+        found = [weak_place(v, None, left) for v, left in self.unit_parts.items()]
+        found += [weak_place(j, self.site.links[j], left) for j, left in self.link_parts.items()]
+        return sorted(found, key=lambda place: (-place.cut, place.ends is not None, place.number))
+
     def touched(self):
         """For each label, ascending, the units that its links touch, less one."""
         units = {}
         for label, pair in zip(self.labels, self.site.links):
             units.setdefault(label, set()).update(pair)
         return [len(units[label]) - 1 for label in sorted(units)]
+
+
+def weak_place(number, ends, left):
+    left = sorted(left, key=lambda part: (len(part), part))
+    return Weak(number, ends, left, sum(map(len, left[:-1])))
+
+
+def key_of(place):
+    """The same weak place in two tables: a unit by its number, a link by its two units, for its position may have moved."""
+    return place.number if place.ends is None else frozenset(place.ends)
+
+
+def changes(before, now):
+    """What became of the weak places, each list in working order."""
+    was, found = ({key_of(place): place for place in losses.weak()} for losses in (before, now))
+    near = neighbours_of(before.site)
+    group = part_numbers(now.groups)
+    cured, lost = [], []
+    for key, place in was.items():
+        if key not in found:
+            held = place.ends or [w for w, _ in near[place.number]]
+            (cured if len({group[v] for v in held if v in group}) < 2 else lost).append(place)
+    new = [place for key, place in found.items() if key not in was]
+    return Changes(cured, lost, new, [(was[key], place) for key, place in found.items() if key in was])
 
 
 def contradictions(losses, report):
@@ -114,18 +162,28 @@ def contradictions(losses, report):
 # ---- in words
 
 
-def listed(numbers):
-    """3, 5 to 9, 12: four or more in a row are shortened"""
+def named(v, names=None):
+    """3, or 3 (head N3)"""
+    return f"{v} ({names[v]})" if names and v in names else str(v)
+
+
+def listed(numbers, names=None):
+    """3, 5 to 9, 12: four or more in a row are shortened, but those with a name stand alone: 3, 5 (gate), 6 to 9"""
     runs = []
     for k in sorted(numbers):
-        if runs and k == runs[-1][1] + 1:
+        if runs and k == runs[-1][1] + 1 and not (names and (k in names or k - 1 in names)):
             runs[-1][1] = k
         else:
             runs.append([k, k])
     words = []
     for a, b in runs:
-        words += [f"{a} to {b}"] if b > a + 2 else [str(k) for k in range(a, b + 1)]
+        words += [f"{a} to {b}"] if b > a + 2 else [named(k, names) for k in range(a, b + 1)]
     return ", ".join(words)
+
+
+def units_of(numbers, names=None):
+    """unit 3, or units 3, 5 to 9"""
+    return f"unit{'' if len(numbers) == 1 else 's'} {listed(numbers, names)}"
 
 
 def counted(k, thing):
@@ -140,27 +198,15 @@ def summed(numbers):
     return f"{' + '.join(terms)} = {sum(numbers)}" if len(numbers) > 1 else str(sum(numbers))
 
 
-def parted(left):
-    """The smallest part first."""
+def parted(left, names=None):
+    """What a loss does: the smaller parts are named, the largest is counted."""
     left = sorted(left, key=lambda part: (len(part), part))
+    others = counted(len(left[-1]), "other")
     if len(left) == 2:
-        return f"parts {listed(left[0])} from {listed(left[1])}"
-    alone = [part[0] for part in left if len(part) == 1]
-    said = [f"each of {listed(alone)} alone"] if len(alone) > 1 else [str(v) for v in alone]
-    return f"leaves {len(left)} parts: " + "; ".join(said + [listed(part) for part in left if len(part) > 1])
-
-
-def words(losses, report):
-    site = losses.site
-    yield f"{counted(site.units, 'unit')}, {counted(len(site.links), 'link')}; {report.rounds} rounds, {counted(report.requests, 'ranking request')}"
-    yield f"{counted(len(losses.unit_parts), 'single point')}, {counted(len(losses.link_parts), 'lone link')}"
-    if len(losses.groups) > 1:
-        yield f"{len(losses.groups)} groups that no link joins: " + "; ".join(listed(part) for part in losses.groups)
-    for v, left in losses.unit_parts.items():
-        yield f"unit {v} is a single point: its loss {parted(left)}"
-    for j, left in losses.link_parts.items():
-        a, b = site.links[j]
-        yield f"link {j} ({a}-{b}) is lone: its loss {parted(left)}"
-    for links in losses.backed():
-        yield f"links {listed(links)} back each other up"
-    yield f"by parts: {summed(losses.touched())}, the {counted(site.units, 'unit')} less {counted(len(losses.groups), 'group')}"
+        return f"cuts off {units_of(left[0], names)} from {others}"
+    single = [part[0] for part in left if len(part) == 1]
+    if len(single) == len(left):
+        return f"leaves {len(left)} parts: {units_of(single, names)}, each alone"
+    said = [f"{units_of(single, names)}, each alone"] if len(single) > 1 else [units_of(part, names) for part in left if len(part) == 1]
+    said += [units_of(part, names) for part in left[:-1] if len(part) > 1]
+    return f"leaves {len(left)} parts: " + "; ".join(said + [others])

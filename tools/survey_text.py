@@ -5,7 +5,9 @@ wrap to 0 in eight bits. A number has two bytes, high byte first; a flag has one
 """
 from collections import namedtuple
 
-Site = namedtuple("Site", "units links levels")  # a count, a list of pairs of units, and the level of each link in dBm
+# a count, a list of pairs of units, the level of each link in dBm, and the kind of each link's line; without kinds, a link of the
+# lowest level counts as one of kind 02
+Site = namedtuple("Site", "units links levels kinds", defaults=(None,))
 Report = namedtuple("Report", "rounds requests units links")
 UnitLine = namedtuple("UnitLine", "color parent place single")
 LinkLine = namedtuple("LinkLine", "label lone")
@@ -18,7 +20,7 @@ LOWEST_LEVEL = -127  # what a link of kind 02 is read as, which has no level
 
 # bytes in a frame of each kind, the kind and the check byte included
 FILE_KINDS = {0x01: 4, 0x02: 6, 0x03: 7, 0x0F: 4}
-LINK_KINDS = 0x02, 0x03
+PLAIN_LINK, LINK_WITH_LEVEL = LINK_KINDS = 0x02, 0x03
 REPORT_KINDS = {0x11: 6, 0x12: 11, 0x13: 7, 0x1E: 3, 0x1F: 6}
 
 REFUSALS = {
@@ -92,7 +94,7 @@ def word(frame, at):
 
 def level_of(frame):
     """The level in a link's frame."""
-    if frame[0] == 0x02:
+    if frame[0] == PLAIN_LINK:
         return LOWEST_LEVEL
     return frame[5] - 256 if frame[5] >= 128 else frame[5]
 
@@ -120,6 +122,7 @@ def read_site(data):
     units = word(frames[0], 1)
     links = [(word(frame, 1), word(frame, 3)) for frame in frames[1:-1]]
     levels = [level_of(frame) for frame in frames[1:-1]]
+    kinds = [frame[0] for frame in frames[1:-1]]
     if word(frames[-1], 1) != len(links):
         raise Fault(f"line {len(frames)}: it counts {word(frames[-1], 1)} links, but the file has {len(links)}", 3)
     if len(links) > MAX_LINKS:
@@ -140,7 +143,27 @@ def read_site(data):
         i = first.setdefault((min(a, b), max(a, b)), j)
         if i != j:
             raise Fault(f"line {j + 2}: link {j} ({a}-{b}) joins the same two units as link {i}", 9)
-    return Site(units, links, levels)
+    return Site(units, links, levels, kinds)
+
+
+def line_of(*body):
+    """The line of a frame: its bytes, then the one that makes their sum wrap to 0."""
+    return bytes([*body, -sum(body) % 256]).hex().upper().encode("ascii") + b"\n"
+
+
+def kinds_of(site):
+    """The kind of each link's line."""
+    if site.kinds is not None:
+        return site.kinds
+    return [PLAIN_LINK if level == LOWEST_LEVEL else LINK_WITH_LEVEL for level in site.levels]
+
+
+def write_site(site):
+    """The survey file of a site: kind 03 for the links that have a level, kind 02 for those that have none."""
+    lines = [line_of(0x01, *divmod(site.units, 256))]
+    for kind, (a, b), level in zip(kinds_of(site), site.links, site.levels):
+        lines.append(line_of(kind, *divmod(a, 256), *divmod(b, 256), *([level % 256] if kind == LINK_WITH_LEVEL else [])))
+    return b"".join(lines) + line_of(0x0F, *divmod(len(site.links), 256))
 
 
 def read_report(data):

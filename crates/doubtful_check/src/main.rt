@@ -18,59 +18,11 @@ struct Said {
     cursor: Cursor,
 }
 
-// The next words, as many as `count`; those that have no room are left out.
-fn list(stream: &[u8], cursor: Cursor, count: u32, words: &mut [u16]) -> Cursor {
-    let mut c = cursor;
-    let mut i: u32 = 0;
-    while i < count {
-        let next = streams::next_number(stream, c);
-        slices::put(words, i as usize, (next.value % 65536) as u16);
-        let after = next.cursor;
-        c = after;
-        i += 1;
-    }
-    c
-}
-
-fn put(levels: &mut [i16], i: usize, level: i16) {
-    if i < levels.len() {
-        levels[i] = level;
-    }
-}
-
-// The next levels, in the same way.
-fn heights(stream: &[u8], cursor: Cursor, count: u32, levels: &mut [i16]) -> Cursor {
-    let mut c = cursor;
-    let mut i: u32 = 0;
-    while i < count {
-        let next = streams::next_level(stream, c);
-        put(levels, i as usize, next.value);
-        let after = next.cursor;
-        c = after;
-        i += 1;
-    }
-    c
-}
-
 fn say(line: &[u8], end: usize) {
     if line.len() < end {
         return;
     }
     io::write_all(STDOUT_FILENO, &line[..end]);
-}
-
-// The next marks, in the same way.
-fn bytes(stream: &[u8], cursor: Cursor, count: u32, marks: &mut [u8]) -> Cursor {
-    let mut c = cursor;
-    let mut i: u32 = 0;
-    while i < count {
-        let next = streams::next_number(stream, c);
-        slices::put_byte(marks, i as usize, (next.value % 256) as u8);
-        let after = next.cursor;
-        c = after;
-        i += 1;
-    }
-    c
 }
 
 // The number to be printed for a reply.
@@ -180,10 +132,10 @@ fn survey_of(stream: &[u8], cursor: Cursor) -> Site {
     let units = streams::next_number(stream, cursor);
     let count = streams::next_number(stream, units.cursor);
     let mut words = [0u16; 2048];
-    let after = list(stream, count.cursor, count.value, &mut words);
+    let after = streams::series::words(stream, count.cursor, count.value, &mut words);
     let links = streams::next_number(stream, after);
     let mut levels = [0i16; 1024];
-    let last = heights(stream, links.cursor, links.value, &mut levels);
+    let last = streams::series::levels(stream, links.cursor, links.value, &mut levels);
     let budget = streams::next_number(stream, last);
     let first = loaded(
         (units.value % 65536) as u16,
@@ -202,7 +154,7 @@ fn case(stream: &[u8], cursor: Cursor) -> Cursor {
     let site = survey_of(stream, cursor);
     let marked = streams::next_number(stream, site.cursor);
     let mut marks = [0u8; 2048];
-    let after = bytes(stream, marked.cursor, marked.value, &mut marks);
+    let after = streams::series::bytes(stream, marked.cursor, marked.value, &mut marks);
     let total = streams::next_number(stream, after);
     let mut line = io::buffer();
     questions(

@@ -15,40 +15,6 @@ struct Site {
     cursor: Cursor,
 }
 
-// The next words, as many as `count`; those that have no room are left out.
-fn list(stream: &[u8], cursor: Cursor, count: u32, words: &mut [u16]) -> Cursor {
-    let mut c = cursor;
-    let mut i: u32 = 0;
-    while i < count {
-        let next = streams::next_number(stream, c);
-        slices::put(words, i as usize, (next.value % 65536) as u16);
-        let after = next.cursor;
-        c = after;
-        i += 1;
-    }
-    c
-}
-
-fn put(levels: &mut [i16], i: usize, level: i16) {
-    if i < levels.len() {
-        levels[i] = level;
-    }
-}
-
-// The next levels, in the same way.
-fn heights(stream: &[u8], cursor: Cursor, count: u32, levels: &mut [i16]) -> Cursor {
-    let mut c = cursor;
-    let mut i: u32 = 0;
-    while i < count {
-        let next = streams::next_level(stream, c);
-        put(levels, i as usize, next.value);
-        let after = next.cursor;
-        c = after;
-        i += 1;
-    }
-    c
-}
-
 // A number after a space.
 fn more(n: u16, at: usize, line: &mut [u8]) -> usize {
     let after = text::byte(32, at, line);
@@ -153,10 +119,10 @@ fn survey_of(stream: &[u8], cursor: Cursor) -> Site {
     let units = streams::next_number(stream, cursor);
     let count = streams::next_number(stream, units.cursor);
     let mut words = [0u16; 2048];
-    let after = list(stream, count.cursor, count.value, &mut words);
+    let after = streams::series::words(stream, count.cursor, count.value, &mut words);
     let links = streams::next_number(stream, after);
     let mut levels = [0i16; 1024];
-    let last = heights(stream, links.cursor, links.value, &mut levels);
+    let last = streams::series::levels(stream, links.cursor, links.value, &mut levels);
     let budget = streams::next_number(stream, last);
     let first = loaded(
         (units.value % 65536) as u16,
@@ -176,7 +142,7 @@ fn case(stream: &[u8], cursor: Cursor) -> Cursor {
     let places = streams::next_number(stream, site.cursor);
     let count = streams::next_number(stream, places.cursor);
     let mut pairs = [0u16; 1024];
-    let after = list(stream, count.cursor, count.value, &mut pairs);
+    let after = streams::series::words(stream, count.cursor, count.value, &mut pairs);
     lend(
         site.survey,
         &pairs,

@@ -8,20 +8,6 @@ use streams::text;
 // What every lent word holds before the call.
 const MARK: u16 = 43981;
 
-// The next words, as many as `count`; those that have no room are left out.
-fn list(stream: &[u8], cursor: Cursor, count: u32, words: &mut [u16]) -> Cursor {
-    let mut c = cursor;
-    let mut i: u32 = 0;
-    while i < count {
-        let next = streams::next_number(stream, c);
-        slices::put(words, i as usize, (next.value % 65536) as u16);
-        let after = next.cursor;
-        c = after;
-        i += 1;
-    }
-    c
-}
-
 // A number after a space.
 fn more(n: u16, at: usize, line: &mut [u8]) -> usize {
     let after = text::byte(32, at, line);
@@ -82,7 +68,7 @@ fn case(stream: &[u8], cursor: Cursor) -> Cursor {
     let units = streams::next_number(stream, cursor);
     let count = streams::next_number(stream, units.cursor);
     let mut words = [0u16; 4096];
-    let after = list(stream, count.cursor, count.value, &mut words);
+    let after = streams::series::words(stream, count.cursor, count.value, &mut words);
     let places = streams::next_number(stream, after);
     lend(
         (units.value % 65536) as u16,

@@ -31,40 +31,6 @@ struct Said {
     cursor: Cursor,
 }
 
-// The next words, as many as `count`; those that have no room are left out.
-fn list(stream: &[u8], cursor: Cursor, count: u32, words: &mut [u16]) -> Cursor {
-    let mut c = cursor;
-    let mut i: u32 = 0;
-    while i < count {
-        let next = streams::next_number(stream, c);
-        slices::put(words, i as usize, (next.value % 65536) as u16);
-        let after = next.cursor;
-        c = after;
-        i += 1;
-    }
-    c
-}
-
-fn put(levels: &mut [i16], i: usize, level: i16) {
-    if i < levels.len() {
-        levels[i] = level;
-    }
-}
-
-// The next levels, in the same way.
-fn heights(stream: &[u8], cursor: Cursor, count: u32, levels: &mut [i16]) -> Cursor {
-    let mut c = cursor;
-    let mut i: u32 = 0;
-    while i < count {
-        let next = streams::next_level(stream, c);
-        put(levels, i as usize, next.value);
-        let after = next.cursor;
-        c = after;
-        i += 1;
-    }
-    c
-}
-
 fn say(line: &[u8], end: usize) {
     if line.len() < end {
         return;
@@ -206,7 +172,7 @@ fn questions<'a>(
 fn table_of(stream: &[u8], cursor: Cursor, words: &mut [u16]) -> Head {
     let units = streams::next_number(stream, cursor);
     let count = streams::next_number(stream, units.cursor);
-    let cursor = list(stream, count.cursor, count.value, words);
+    let cursor = streams::series::words(stream, count.cursor, count.value, words);
     Head {
         units: (units.value % 65536) as u16,
         count: count.value as usize,
@@ -224,7 +190,7 @@ fn survey_of<'a>(
 ) -> Site {
     let links = streams::next_number(stream, cursor);
     let mut levels = [0i16; 1024];
-    let last = heights(stream, links.cursor, links.value, &mut levels);
+    let last = streams::series::levels(stream, links.cursor, links.value, &mut levels);
     let budget = streams::next_number(stream, last);
     let first = loaded(units, words, count, &levels, links.value as usize);
     let survey = run(first, (budget.value % 65536) as u16);

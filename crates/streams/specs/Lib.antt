@@ -2,3 +2,4 @@ pub mod Stream
 pub mod StreamLaws
 pub mod Text
 pub mod TextLaws
+pub mod Series

@@ -1,5 +1,5 @@
-// Surveys each file that an argument names, round by round: a line with its name, then every table after the load and after each round.
-use files::Reading;
+// Surveys the table of each file that an argument names, round by round: a line with its name, then every table after the load and after each round.
+// "fault" stands for a stream that is none.
 use survey::Aux;
 use survey::Components;
 use survey::Global;
@@ -10,6 +10,7 @@ use survey::Reply;
 use survey::Survey;
 use survey::Tree;
 
+mod loads;
 mod say;
 
 // The tables by unit, by place and by link, a group or two at a time: a function that holds the whole state is long to prove.
@@ -98,33 +99,6 @@ fn rounds(first: Survey) {
     }
 }
 
-fn surveyed(units: u16, words: &[u16], levels: &[i16]) {
-    let answer = Survey::new().load_stored(units, words, levels);
-    let first = answer.survey;
-    rounds(first);
-}
-
-fn loaded(units: u16, links: usize, words: &[u16], levels: &[i16]) {
-    if words.len() / 2 < links {
-        return;
-    }
-    if levels.len() < links {
-        return;
-    }
-    let end = 2 * links;
-    surveyed(units, &words[..end], &levels[..links]);
-}
-
-fn read(file: &[u8]) {
-    let mut words = [0u16; 2048];
-    let mut levels = [0i16; 1024];
-    let found = files::read(file, &mut words, &mut levels);
-    match found {
-        Reading::Read { units, links } => loaded(units, links as usize, &words, &levels),
-        Reading::Refused(_) => (),
-    }
-}
-
 // The file of argument `i`.
 fn one(i: usize) {
     let mut name = io::buffer();
@@ -139,7 +113,7 @@ fn one(i: usize) {
     let mut input = io::large_buffer();
     let got = io::read_full(fd, &mut input);
     libc::close(fd);
-    read(&input[..got]);
+    rounds(loads::of(&input[..got]));
 }
 
 fn main() {

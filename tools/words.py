@@ -1,0 +1,139 @@
+"""The foreman's list: the weak places of a surveyed site in words and in working order, and first of all what stands apart."""
+import re
+import textwrap
+
+from losses import changes, counted, listed, named, parted, summed, units_of
+
+WIDE = 110  # a line is broken past so many characters
+SETS = 8  # so many sets of links that back each other up are told one by one
+ALTERED = 12  # so many links that came or went are told one by one
+LOUD = "!! "
+HELD = "\u00a0"  # a space at which no line is broken
+
+
+def wrapped(line):
+    """A line broken at spaces, but not within a name or before it; what follows begins below the words of the first."""
+    loud, lead = re.match(r"(!! )?( *\d+  (?=\S)| *)", line).groups("")
+    deeper = loud + " " * (len(lead) or 2)
+    line = re.sub(r"(\d) \(", rf"\1{HELD}(", line)
+    return textwrap.fill(line, WIDE, subsequent_indent=deeper, break_long_words=False, break_on_hyphens=False).replace(HELD, " ")
+
+
+def place_name(place, names):
+    """unit 2 (gate) is a single point, or link 3 (2-3: gate, unit 3) is lone"""
+    if place.ends is None:
+        return f"unit {named(place.number, names)} is a single point"
+    a, b = place.ends
+    ends = f"{a}-{b}"
+    if a in names or b in names:
+        ends += ": " + ", ".join(names.get(v, f"unit {v}") for v in (a, b))
+    return f"link {place.number} ({ends}) is lone"
+
+
+def links_of(links):
+    """link 2-3, or links 2-3, 5-6"""
+    return f"link{'' if len(links) == 1 else 's'} {', '.join(links)}"
+
+
+def in_short(places, names):
+    """units 2 (gate), 5; links 2-3, 5-6"""
+    units = [place.number for place in places if place.ends is None]
+    links = [f"{a}-{b}" for a, b in sorted(place.ends for place in places if place.ends)]
+    said = [units_of(units, names)] if units else []
+    return "; ".join(said + ([links_of(links)] if links else []))
+
+
+def weak_list(places, names, was=None):
+    """A line a place: how many units it cuts off, which it is, what its loss does; `was` has what the places were before."""
+    wide = max((len(str(place.cut)) for place in places), default=1)
+    for i, place in enumerate(places):
+        before = f" (before: {was[i].cut})" if was and was[i].cut != place.cut else ""
+        yield f"  {place.cut:>{wide}}  {place_name(place, names)}: its loss {parted(place.parts, names)}{before}"
+
+
+def apart(losses, names):
+    """Loud: the units that hear nobody, and the groups that no link joins."""
+    alone, pieces = losses.alone(), losses.pieces()
+    if alone:
+        yield f"{LOUD}{counted(len(alone), 'unit')} hear{'s' if len(alone) == 1 else ''} nobody: {listed(alone, names)}: switched on?"
+    if len(pieces) > 1:
+        yield f"{LOUD}the {'other ' if alone else ''}{sum(map(len, pieces))} units are in {len(pieces)} groups that no link joins:"
+        for part in pieces:
+            yield f"{LOUD}  {len(part)} units: {listed(part, names)}"
+
+
+def headline(losses):
+    size = f"{counted(losses.site.units, 'unit')}, {counted(len(losses.site.links), 'link')}"
+    return f"{size}: {counted(len(losses.unit_parts), 'single point')}, {counted(len(losses.link_parts), 'lone link')}"
+
+
+def weak_places(losses, names):
+    """The weak places of a site that is compared with none."""
+    places = losses.weak()
+    if places:
+        yield "weak places, the worst first; in front the number of units cut off:"
+        yield from weak_list(places, names)
+    elif losses.site.links:
+        whose = "all others" if len(losses.groups) == 1 else "all others of its group"
+        yield f"no weak place: any one unit or link may fail, and {whose} still reach each other"
+
+
+def altered(before, now, names):
+    """What came and went between two tables: units at the end, links wherever they stand."""
+    if now.units > before.units:
+        yield f"{units_of(range(before.units, now.units), names)} came"
+    if now.units < before.units:
+        yield f"{units_of(range(now.units, before.units))} went"
+    old, new = ({frozenset(pair): f"{pair[0]}-{pair[1]}" for pair in site.links} for site in (before, now))
+    for links, told in ([new[pair] for pair in new if pair not in old], "came"), ([old[pair] for pair in old if pair not in new], "went"):
+        if links:
+            more = f" and {len(links) - ALTERED} more" if len(links) > ALTERED else ""
+            yield f"{links_of(links[:ALTERED])}{more} {told}"
+
+
+def compared(losses, names, before, names_before):
+    """The weak places beside those of an earlier table of the site."""
+    yield "since the earlier table: " + ("; ".join(altered(before.site, losses.site, names)) or "the same units and links")
+    other = [v for v in names if v in names_before and names[v] != names_before[v]]
+    if other:
+        yield f"{LOUD}{units_of(other, names)} had another name there: units are compared by their numbers"
+    if len(before.groups) != len(losses.groups):
+        yield f"groups that no link joins: {len(before.groups)} before, {len(losses.groups)} now"
+    by = changes(before, losses)
+    told = [(by.lost, "lost")] if by.lost else []
+    told += [(by.cured, "cured"), (by.new, "new"), (by.remaining, "remaining")]
+    yield "weak places: " + ", ".join(f"{len(places)} {said}" for places, said in told)
+    if by.lost:
+        yield f"{LOUD}lost, for what hung together by it is apart now: {in_short(by.lost, names_before)}"
+    if by.cured:
+        yield f"cured: {in_short(by.cured, names_before)}"
+    if by.new:
+        yield "new, the worst first; in front the number of units cut off:"
+        yield from weak_list(by.new, names)
+    if by.remaining:
+        yield "remaining, the worst first; in front the number of units cut off:"
+        yield from weak_list([place for _, place in by.remaining], names, [was for was, _ in by.remaining])
+
+
+def backed(losses, names, full):
+    """What backs each other up, in short: links of one label are all the links among the units that they touch."""
+    sets = [(links, sorted({v for j in links for v in losses.site.links[j]})) for links in losses.backed()]
+    sets.sort(key=lambda each: (-len(each[0]), each[1]))
+    shown = sets if full or len(sets) <= SETS + 1 else sets[:SETS]
+    for links, units in shown:
+        yield f"the {len(links)} links among {units_of(units, names)} back each other up"
+    if len(sets) > len(shown):
+        most, least = len(sets[SETS][0]), len(sets[-1][0])
+        yield f"and {len(sets) - SETS} sets more do, of {most if most == least else f'{least} to {most}'} links each; --full tells them all"
+
+
+def words(losses, report, names=None, full=False, before=None, names_before=None):
+    """The lines of the list; `before` has the losses of an earlier table of the site."""
+    names, names_before = ({v: name.replace(" ", HELD) for v, name in (given or {}).items()} for given in (names, names_before))
+    yield from apart(losses, names)
+    yield headline(losses)
+    yield from weak_places(losses, names) if before is None else compared(losses, names, before, names_before)
+    yield from backed(losses, names, full)
+    yield f"the survey took {counted(report.rounds, 'round')} and {counted(report.requests, 'ranking request')}"
+    units, groups = counted(losses.site.units, "unit"), counted(len(losses.groups), "group")
+    yield f"by parts, for the planner: {summed(losses.touched())}, the {units} less {groups}"
