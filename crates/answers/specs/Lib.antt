@@ -2,5 +2,3 @@ pub mod Flags
 pub mod Sharing
 pub mod BitFolds
 pub mod LabelBits
-pub mod Lines
-pub mod Pairs

@@ -16,7 +16,7 @@ use Rattle.frames.specs.Bodies.{headBody, tailBody}
 use Rattle.frames.specs.FrameRests.{lineOver-fits, line-next}
 use Rattle.rules.specs.Labels.{single, lone}
 use Rattle.answers.specs.Flags.{flagTable, flag-at}
-use Rattle.answers.specs.Lines.{unitRow, labelRow, linesOf, linesOver, linesOver-fits}
+use Rattle.listing.specs.Lines.{unitRow, labelRow, linesOf, linesOver, linesOver-fits}
 use Rattle.machine.specs.State.{State}
 use Rattle.machine.specs.State.{units, links}
 use Rattle.machine.specs.Report.{unitSingle, linkLone, headLine, unitLine, linkLine, tailLine, report, reportLength, reportOver}

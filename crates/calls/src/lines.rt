@@ -23,7 +23,7 @@ fn unit_part<'a>(
     ensures lines { λ _. ⌜ now (out .exit) ≡ unitLines units links (now (ends .entry)) (now (label .entry)) (now (color .entry)) (now (parent .entry)) (now (place .entry)) (now (out .entry)) ⌝ }
 {
     let singles = answers::singles(units, links, ends, label);
-    answers::unit_lines(units, color, parent, place, &singles, out);
+    listing::unit_lines(units, color, parent, place, &singles, out);
     answers::count_flags(units, &singles)
 }
 
@@ -34,7 +34,7 @@ fn link_part(links: u16, label: &[u16], out: &mut [u8]) -> u16
     ensures lines { λ _. ⌜ now (out .exit) ≡ linkLines links (now (label .entry)) (now (out .entry)) ⌝ }
 {
     let lones = answers::lones(links, label);
-    answers::link_lines(links, label, &lones, out);
+    listing::link_lines(links, label, &lones, out);
     answers::count_flags(links, &lones)
 }
 
@@ -56,7 +56,7 @@ fn all<'a>(
 {
     let unit_end = 13 + 23 * (units as usize);
     let link_end = unit_end + 15 * (links as usize);
-    answers::head_line(rounds, requests, out);
+    listing::head_line(rounds, requests, out);
     let singles = unit_part(
         units,
         links,
@@ -68,7 +68,7 @@ fn all<'a>(
         &mut out[13..],
     );
     let lones = link_part(links, label, &mut out[unit_end..]);
-    answers::tail_line(singles, lones, &mut out[link_end..]);
+    listing::tail_line(singles, lones, &mut out[link_end..]);
 }
 
 // The report at the front of the slice; nothing where it does not fit, or a count is past its table, as in no well-formed state.

@@ -1,4 +1,1 @@
-pub mod Turns
-pub mod Strides
-pub mod Begins
 pub mod Rounds

@@ -5,9 +5,6 @@ ghost use mathlib.Core.Path.{_≡_};
 ghost use Rattle.machine.specs.StageRun.{stageRun};
 ghost use Rattle.range.specs.Rounds.{on, one};
 
-mod first;
-mod later;
-
 // The tables of the stage, those of the segments last, the clock, and the rounds made.
 pub struct Ran {
     pub low: [u16; 256],
@@ -54,7 +51,7 @@ pub fn run<'a>(
     while clock::goes_on(fits, units, 7, made, budget, c) {
         let after = clock::ticked(units, 7, c.made == most, 0, c);
         if c.made == 0 {
-            first::begin(
+            local_values::begin(
                 units,
                 links,
                 ends,
@@ -73,17 +70,16 @@ pub fn run<'a>(
             continue;
         }
         let i = c.made - 1;
-        later::units_move(
+        segments::double(
             i,
             units,
-            &lows,
-            &highs,
             &mut bottom,
             &mut top,
             &mut from,
             &mut to,
+            &mut lows,
+            &mut highs,
         );
-        later::segments_move(i, units, &mut lows, &mut highs);
         c = after;
         made += 1;
     }

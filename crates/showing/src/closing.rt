@@ -1,7 +1,8 @@
 // The ring from an order: up from the second link to the order's last unit, and down from it to the first.
-use super::end_a;
-use super::end_b;
-use super::order;
+use ring_tables::counts;
+use ring_tables::end_a;
+use ring_tables::end_b;
+use ring_tables::on;
 use values::tables;
 ghost use mathlib.Core.Path.{_≡_};
 ghost use Prim.Native.Nat.{ℕ, _+_, _≤_};
@@ -20,9 +21,9 @@ ghost use Rattle.ring.specs.Found.{LeansOne, Leans, Second};
 fn within<'a>(marks: &'a [u8], ends: &'a [u16], pos: &'a [u16], j: u16) -> bool
     ensures { λ r. ⌜ r ≡ within (sure (now (marks .entry))) (now (ends .entry)) (now (pos .entry)) j ⌝ }
 {
-    let a = order::on(pos, end_a(ends, j));
-    let b = order::on(pos, end_b(ends, j));
-    values::both(super::counts(marks, j), values::both(a, b))
+    let a = on(pos, end_a(ends, j));
+    let b = on(pos, end_b(ends, j));
+    values::both(counts(marks, j), values::both(a, b))
 }
 
 // Link `j`, where it is within the order: each of its ends leans on the other.

@@ -1,5 +1,1 @@
-pub mod Firsts
-pub mod Siblings
-pub mod Neighbors
-pub mod Predecessors
 pub mod Rounds

@@ -1,9 +1,5 @@
 // Stage 3, tour: the Euler tour of each tree. Its first round finds the followers of arcs, its second their predecessors, with the start of the first
 // ranking.
-mod followers;
-mod predecessors;
-mod siblings;
-
 use state::Clock;
 use values::bounds;
 ghost use mathlib.Core.Path.{_≡_};

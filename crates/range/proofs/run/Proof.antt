@@ -3,7 +3,9 @@ use mathlib.Core.Path.{sym, _∙_}
 use Prim.Native.Nat.{_-_}
 use native.Mathlib.Omega.{arith}
 use borrow.Author.Needs.{needs}
-use Rattle.rules.specs.Fits.{linksFit, fit-within}
+use borrow.Author.Tests.{le-leb}
+use Rattle.lists.specs.Tests.{and-true, cond-true}
+use Rattle.rules.specs.Fits.{linksFit}
 use Rattle.rules.specs.Range.{rangeEnds}
 use Rattle.machine.specs.InStage.{Goes, goes}
 use Rattle.machine.specs.StageRun.{Turning, turns-begin, turns-on, turns-over}
@@ -45,58 +47,55 @@ ticked-requires : tie.Need-ticked-requires Inv-loop μ-loop
 ticked-requires c κs = search needs
 
 begin-requires : tie.Need-begin-requires Inv-loop μ-loop
-begin-requires c κs =
-    let i = c .before .before .before .before .before .before .before .before .before .before .before in
-    let a = called i .args in
-    (go i .few, fit-within (a .units) (a .links) (a .ends .now) (i .before .before .before .before .before .links-fit-arg .given .0) (go i .fit))
+begin-requires c κs = search needs
 
 add-made : tie.Need-add-made Inv-loop μ-loop
-add-made c = let i = c .before .before .before .before .before .before .before .before .before .before .before .before in omega (arith, go i .below, called i .fits .budget)
+add-made c = let i = c .before .before .before .before .before .before .before .before .before .before .before in omega (arith, go i .below, called i .fits .budget)
 
 loop-less : tie.Need-loop-less Inv-loop μ-loop
-loop-less c = omega (arith, go (c .before .before .before .before .before .before .before .before .before .before .before .before) .below)
+loop-less c = omega (arith, go (c .before .before .before .before .before .before .before .before .before .before .before) .below)
 
 loop-again : tie.Need-loop-again Inv-loop μ-loop
 unfolding rangeEnds
 loop-again c =
-    let e = c .before .before .before .before .before .before .before .before in
+    let e = c .before .before .before .before .before .before .before in
     let t = e .before .before in
     let i = t .before .before in
     let l = i .before .before in
     let g = go i in
     let made = c .begin .ensures in
+    let fit = and-true _ _ (le-leb _ _ (g .few)) (g .fit) in
     let clock = rw (g .inside, l .before .lg .ensures) at (t .ticked .ensures) in
     turns-on _ _ _ _ _ _ _ (l .loop .inv) (g .test)
-    (begun _ _ _ _ _ _ _ _ _ _ _ _ _ _ (e .if2 .taken) (made .0) (made .1 .0) (made .1 .1 .0) (made .1 .1 .1 .0) (made .1 .1 .1 .1 .0) (made .1 .1 .1 .1 .1) clock)
+    (begun _ _ _ _ _ _ _ _ _ _ _ _ _ _ (e .if2 .taken) (made .0 ∙ cond-true _ _ _ fit) (made .1 .0 ∙ cond-true _ _ _ fit) (made .1 .1 .0 ∙ cond-true _ _ _ fit)
+    (made .1 .1 .1 .0 ∙ cond-true _ _ _ fit) (made .1 .1 .1 .1 .0 ∙ cond-true _ _ _ fit) (made .1 .1 .1 .1 .1 ∙ cond-true _ _ _ fit) clock)
 
 sub-i : tie.Need-sub-i Inv-loop μ-loop
 sub-i c = search needs
 
-units-move-requires : tie.Need-units-move-requires Inv-loop μ-loop
-units-move-requires c κs = go (c .before .before .before .before .before .before .before .before .before .before .before) .few
-
-segments-move-requires : tie.Need-segments-move-requires Inv-loop μ-loop
-segments-move-requires c κs = go (c .before .before .before .before .before .before .before .before .before .before .before .before .before .before) .few
+double-requires : tie.Need-double-requires Inv-loop μ-loop
+double-requires c κs = search needs
 
 add-made-2 : tie.Need-add-made-2 Inv-loop μ-loop
-add-made-2 c = let i = c .before .before .before .before .before .before .before .before .before .before .before .before .before .before .before in omega (arith, go i .below, called i .fits .budget)
+add-made-2 c = let i = c .before .before .before .before .before .before .before .before .before .before .before .before in omega (arith, go i .below, called i .fits .budget)
 
 loop-less-2 : tie.Need-loop-less-2 Inv-loop μ-loop
-loop-less-2 c = omega (arith, go (c .before .before .before .before .before .before .before .before .before .before .before .before .before .before .before) .below)
+loop-less-2 c = omega (arith, go (c .before .before .before .before .before .before .before .before .before .before .before .before) .below)
 
 loop-again-2 : tie.Need-loop-again-2 Inv-loop μ-loop
 unfolding rangeEnds
 loop-again-2 c =
-    let u = c .before .before .before in
-    let e = u .before .before .before .before .before .before .before .before in
+    let e = c .before .before .before .before .before .before .before .before in
     let t = e .before .before in
     let i = t .before .before in
     let l = i .before .before in
     let g = go i in
-    let moved = u .units-move .ensures in
+    let moved = c .double .ensures in
+    let few = le-leb _ _ (g .few) in
     let clock = rw (g .inside, l .before .lg .ensures) at (t .ticked .ensures) in
     turns-on _ _ _ _ _ _ _ (l .loop .inv) (g .test)
-    (turned _ _ _ _ _ _ _ _ _ _ _ _ _ _ (e .if2 .left) (moved .0) (moved .1 .0) (moved .1 .1 .0) (moved .1 .1 .1) (c .segments-move .ensures .0) (c .segments-move .ensures .1) clock)
+    (turned _ _ _ _ _ _ _ _ _ _ _ _ _ _ (e .if2 .left) (moved .0 ∙ cond-true _ _ _ few) (moved .1 .0 ∙ cond-true _ _ _ few) (moved .1 .1 .0 ∙ cond-true _ _ _ few)
+    (moved .1 .1 .1 .0 ∙ cond-true _ _ _ few) (moved .1 .1 .1 .1 .0 ∙ cond-true _ _ _ few) (moved .1 .1 .1 .1 .1 ∙ cond-true _ _ _ few) clock)
 
 returns : tie.Need-returns Inv-loop μ-loop
 returns c = turns-over _ _ _ _ _ _ (c .before .before .loop .inv) (rw (c .before .before .before .before .links-fit .ensures) at (sym (c .before .goes-on .ensures) ∙ c .if1 .left))
@@ -117,8 +116,7 @@ run-spec =
     loop-less
     loop-again
     sub-i
-    units-move-requires
-    segments-move-requires
+    double-requires
     add-made-2
     loop-less-2
     loop-again-2

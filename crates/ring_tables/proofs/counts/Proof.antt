@@ -1,0 +1,14 @@
+-- By the byte.
+use mathlib.Core.Path.{refl}
+use borrow.Author.Needs.{needs}
+use Rattle.ring_tables.proofs.counts.Statement.{statement}
+use Rattle.ring_tables.proofs.counts.Tie as tie
+
+byte-requires : tie.Need-byte-requires
+byte-requires c κs = search needs
+
+returns : tie.Need-returns
+returns c = rw (c .byte .ensures) refl
+
+pub counts-spec : {M : Type 1} → statement M
+counts-spec = tie.close (tie.spec byte-requires returns)

@@ -1,0 +1,50 @@
+// What the search of a ring (T-04) reads of its tables, with a test of which links count (T-08): a link counts where its mark is 0 or missing.
+ghost use mathlib.Core.Path.{_≡_};
+ghost use Prim.Native.Nat.{ℕ, _<_};
+ghost use lib.ListN.{getD};
+ghost use Rattle.table.specs.Table.{endA, endB};
+ghost use Rattle.ring.specs.Present.{sure};
+ghost use Rattle.ring.specs.Steps.{seen, onOrder};
+use table::ABSENT;
+use values::tables;
+
+// Link `j` counts.
+pub fn counts(marks: &[u8], j: u16) -> bool
+    ensures { λ r. ⌜ r ≡ sure (now (marks .entry)) j ⌝ }
+{
+    slices::byte(marks, j as usize) == 0
+}
+
+// The ends of link `j`.
+pub fn end_a(ends: &[u16], j: u16) -> u16
+    ensures { λ r. ⌜ r ≡ endA (now (ends .entry)) j ⌝ }
+{
+    slices::word(ends, 2 * (j as usize))
+}
+
+pub fn end_b(ends: &[u16], j: u16) -> u16
+    ensures { λ r. ⌜ r ≡ endB (now (ends .entry)) j ⌝ }
+{
+    slices::word(ends, 2 * (j as usize) + 1)
+}
+
+// The tree has `v`.
+pub fn has(parent: &[u16], v: u16) -> bool
+    ensures { λ r. ⌜ r ≡ seen (now (parent .entry)) v ⌝ }
+{
+    tables::at(parent, v) != ABSENT
+}
+
+// The order has `v`.
+pub fn on(pos: &[u16], v: u16) -> bool
+    ensures { λ r. ⌜ r ≡ onOrder (now (pos .entry)) v ⌝ }
+{
+    tables::at(pos, v) != 0
+}
+
+// A table of zeros by unit.
+pub fn zeros() -> [u16; 256]
+    ensures { λ r. ⌜ ((i : ℕ) → i < 256 → getD r i 0 ≡ 0) ⌝ }
+{
+    [0; 256]
+}

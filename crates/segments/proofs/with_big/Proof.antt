@@ -1,0 +1,20 @@
+-- By the test.
+use borrow.Author.Needs.{needs}
+use borrow.Author.Tests.{not-true, not-false}
+use Rattle.segments.proofs.with_big.Statement.{statement}
+use Rattle.segments.proofs.with_big.Tie as tie
+
+returns : tie.Need-returns
+returns c = rw (not-true (c .before .args .moves) (c .if1 .taken))
+
+segment-before-requires : tie.Need-segment-before-requires
+segment-before-requires c κs = search needs
+
+op-of-requires : tie.Need-op-of-requires
+op-of-requires c κs = search needs
+
+returns-2 : tie.Need-returns-2
+returns-2 c = rw (c .op-of .ensures, c .before .segment-before .ensures, not-false (c .before .before .before .args .moves) (c .before .before .if1 .left))
+
+pub with-big-spec : {M : Type 1} → statement M
+with-big-spec = tie.close (tie.spec returns segment-before-requires op-of-requires returns-2)
