@@ -130,7 +130,7 @@ pub fn read(survey: Survey, file: &[u8], words: &mut [u16], levels: &mut [i16]) 
     ensures lent { λ _. ⌜ now (words .exit) ≡ readWords (now (file .entry)) (now (words .entry)) (length (now (levels .entry))) ⌝ }
     ensures levels { λ _. ⌜ now (levels .exit) ≡ readLevels (now (file .entry)) (length (now (words .entry))) (now (levels .entry)) ⌝ }
 {
-    let found = files::read(file, words, levels);
+    let found = reading::read(file, words, levels);
     match found {
         Reading::Refused(number) => Answer {
             survey,
@@ -148,7 +148,7 @@ pub fn write(survey: Survey, units: u16, words: &[u16], levels: &[i16], out: &mu
     ensures reply { λ r. ⌜ answerOf r ≡ writeAnswer (record { units = units; words = now (words .entry); levels = now (levels .entry) }) (length (now (out .entry))) (of survey) ⌝ }
     ensures lent { λ _. ⌜ now (out .exit) ≡ writtenFile units (now (words .entry)) (now (levels .entry)) (now (out .entry)) ⌝ }
 {
-    let done = files::write(units, words, levels, out);
+    let done = writing::write(units, words, levels, out);
     match done {
         Writing::Refused(number) => Answer {
             survey,

@@ -20,7 +20,7 @@ fn again(file: &[u8]) -> u8 {
     let mut words = [0u16; 2048];
     let mut levels = [0i16; 1024];
     let mut copy = [0u8; 65536];
-    let done = files::trips::read_then_write(file, &mut words, &mut levels, &mut copy);
+    let done = trips::read_then_write(file, &mut words, &mut levels, &mut copy);
     match done {
         Writing::Refused(number) => number,
         Writing::Written(characters) => compared(&copy, characters as usize, file),
@@ -32,7 +32,7 @@ fn verdict(file: &[u8]) -> u8 {
     let mut words = [0u16; 2048];
     let mut levels = [0i16; 1024];
     let mut copy = [0u8; 65536];
-    let done = files::trips::read_then_write(file, &mut words, &mut levels, &mut copy);
+    let done = trips::read_then_write(file, &mut words, &mut levels, &mut copy);
     match done {
         Writing::Refused(number) => number,
         Writing::Written(characters) => first(&copy, characters as usize),

@@ -1,15 +1,11 @@
 pub mod File
 pub mod LineLaws
 pub mod LineSteps
-pub mod Walk
-pub mod Marks
 pub mod ReadLaws
-pub mod WriteLaws
 pub mod WrittenLaws
 pub mod LinesRight
 pub mod RewrittenLaws
 pub mod FileCauses
 pub mod RoundTrip
-pub mod TripLaws
 pub mod Replies
 pub mod Example

@@ -1,15 +1,16 @@
 -- Reading: the reply by its tests, and what an accepted file holds.
-use mathlib.Core.Path.{_≡_, sym, ap, _∙_}
-use mathlib.Core.Bool.{Bool, true, false, not, _||_, or-true}
+use mathlib.Core.Path.{_≡_, refl, sym, ap, _∙_}
+use mathlib.Core.Bool.{Bool, true, false, cond, not, _||_, or-true}
 use mathlib.Core.Logic.{_⊎_, inl, inr}
 use mathlib.Core.List.{List, [], _∷_, _++_}
 use Prim.Native.Nat.{ℕ, _*_, _≤_, _<_}
 use native.Mathlib.Decide.{decLt}
 use native.Mathlib.Omega.{arith}
 use lib.Dec.{eqb, ltb}
-use lib.ListN.{length, drop}
+use lib.ListN.{length, take, drop}
 use lib.IntN.{ℤ}
-use borrow.Author.Tests.{eq-eqb, ne-eqb, eqb-true, lt-ltb, le-ltb, ltb-false, not-false}
+use lib.Seq.{take-at}
+use borrow.Author.Tests.{eq-eqb, ne-eqb, eqb-true, eqb-false, lt-ltb, le-ltb, ltb-false, not-false}
 use Rattle.lists.specs.Folds.{every}
 use Rattle.lists.specs.Tests.{or-false-left, or-false-right}
 use Rattle.levels.specs.Level.{inRange}
@@ -20,7 +21,7 @@ use Rattle.frames.specs.Frame.{wordAt}
 use Rattle.frames.specs.Kinds.{UNITS, frameBytes, kindFront, fileFront}
 use Rattle.files.specs.File.{Line, linesOf, faultyLine, inOrder, linkFrames, statedCount, unitsIn, endsIn, levelsIn, readRefusal, readReply, readWords, readLevels}
 use Rattle.files.specs.LineLaws.{none-lines, front-says, front-lines, front-kind, front-word, sound-front, frontLine, pastLine}
-use Rattle.files.specs.LineSteps.{first-units, units-first, no-order}
+use Rattle.files.specs.LineSteps.{first-units, units-first, no-order, length-ends, length-levels}
 use Rattle.files.specs.declared.Reading.{Reading}
 use Rattle.files.specs.declared.Reading.the-variants.{Read}
 
@@ -163,3 +164,55 @@ pub levels-accepted : (s : List ℕ) (places : ℕ) (levels : List ℤ) → read
     → levelsIn (linesOf s) ++ drop (length (levelsIn (linesOf s))) levels ≡ readLevels s places levels
 unfolding readLevels
 levels-accepted s places levels e = rw e
+
+-- ---- what a reply says
+
+read-says : (b : Bool) (n m k u x : ℕ) → cond b (Read n m) (Reading.Refused k) ≡ Read u x → (b ≡ true) × (u ≡ n) × (x ≡ m)
+read-says true n m k u x e = (refl, cc, cc)
+read-says false n m k u x e = absurd (let z : _≡_ {A = ℕ} 0 1 = cc in omega arith)
+
+unread-says : (b : Bool) (n m k x : ℕ) → cond b (Read n m) (Reading.Refused k) ≡ Reading.Refused x → (b ≡ false) × (x ≡ k)
+unread-says true n m k x e = absurd (let z : _≡_ {A = ℕ} 0 1 = cc in omega arith)
+unread-says false n m k x e = (refl, cc)
+
+module _ (s : List ℕ) (places spaces : ℕ) where
+  -- the reading was refused
+  module _ (k : ℕ) (e : readReply s places spaces ≡ Reading.Refused k) where
+    -- its number is the refusal's
+    pub unread-told : (k ≡ readRefusal (linesOf s) places spaces) × (readRefusal (linesOf s) places spaces ≡ 0 → ⊥)
+    unfolding readReply
+    unread-told =
+        let r = readRefusal (linesOf s) places spaces in
+        let q = unread-says (eqb r 0) (unitsIn (linesOf s)) (linkFrames (linesOf s)) r k e in
+        (q .1, eqb-false r 0 (q .0))
+
+  -- it was not
+  module _ (u m : ℕ) (e : readReply s places spaces ≡ Read u m) where
+    -- what the reply says
+    pub read-told : (readRefusal (linesOf s) places spaces ≡ 0) × (u ≡ unitsIn (linesOf s)) × (m ≡ linkFrames (linesOf s))
+    unfolding readReply
+    read-told =
+        let r = readRefusal (linesOf s) places spaces in
+        let q = read-says (eqb r 0) (unitsIn (linesOf s)) (linkFrames (linesOf s)) r u m e in
+        (eqb-true r 0 (q .0), q .1, q .2)
+
+    ends-long : length (endsIn (linesOf s)) ≡ 2 * m
+    ends-long = length-ends (linesOf s) ∙ ap (λ (x : ℕ). 2 * x) (sym (read-told .2))
+
+    -- the first 2 m words are the ends, and the first m levels the levels
+    pub read-front : (words : List ℕ) → places ≡ length words → take (2 * m) (readWords s words spaces) ≡ endsIn (linesOf s)
+    unfolding readWords
+    read-front words c =
+        rw (← c, read-told .0) (take-at (endsIn (linesOf s)) (drop (length (endsIn (linesOf s))) words) (2 * m) ends-long)
+
+    pub read-front-levels : (levels : List ℤ) → spaces ≡ length levels → take m (readLevels s places levels) ≡ levelsIn (linesOf s)
+    unfolding readLevels
+    read-front-levels levels c =
+        rw (← c, read-told .0)
+        (take-at (levelsIn (linesOf s)) (drop (length (levelsIn (linesOf s))) levels) m (length-levels (linesOf s) ∙ sym (read-told .2)))
+
+    pub read-long : (words : List ℕ) → places ≡ length words → 2 * m ≤ length words
+    read-long words c = omega (arith, accepted-sound (linesOf s) places spaces (read-told .0) .fits, read-told .2, c)
+
+    pub read-long-levels : (levels : List ℤ) → spaces ≡ length levels → m ≤ length levels
+    read-long-levels levels c = omega (arith, accepted-sound (linesOf s) places spaces (read-told .0) .room, read-told .2, c)

@@ -24,7 +24,7 @@ pub fn read(
     ensures links { λ _. ⌜ now (links .exit)
         ≡ wordSaid (readRefusal (linesOf (now (file .entry))) (length (now (words .entry))) (length (now (levels .entry)))) (linkFrames (linesOf (now (file .entry)))) (now (links .entry)) ⌝ }
 {
-    let found = files::read(file, words, levels);
+    let found = reading::read(file, words, levels);
     match found {
         Reading::Refused(number) => number as u32,
         Reading::Read { units: n, links: m } => {
@@ -40,7 +40,7 @@ pub fn write(units: u16, words: &[u16], levels: &[i16], out: &mut [u8]) -> u32
     ensures number { λ r. ⌜ r ≡ writeRefusal units (now (words .entry)) (now (levels .entry)) (length (now (out .entry))) ⌝ }
     ensures bytes { λ _. ⌜ now (out .exit) ≡ writtenFile units (now (words .entry)) (now (levels .entry)) (now (out .entry)) ⌝ }
 {
-    let done = files::write(units, words, levels, out);
+    let done = writing::write(units, words, levels, out);
     match done {
         Writing::Refused(number) => number as u32,
         Writing::Written(_) => 0,

@@ -145,7 +145,7 @@ fn loaded(call: u32, units: u16, words: &[u16], levels: &[i16], parents: &[u16])
 }
 
 fn written(units: u16, words: &[u16], levels: &[i16], out: &mut [u8]) {
-    let reply = files::write(units, words, levels, out);
+    let reply = writing::write(units, words, levels, out);
     match reply {
         Writing::Refused(number) => refused(number, out),
         Writing::Written(characters) => done(characters, characters as usize, out),

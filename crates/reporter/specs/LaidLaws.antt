@@ -18,7 +18,7 @@ use Rattle.frames.specs.Frame.{lineOver}
 use Rattle.frames.specs.Bodies.{refusalBody}
 use Rattle.frames.specs.FrameLaws.{length-line}
 use Rattle.files.specs.File.{linesOf, readRefusal, readReply, readWords, endsIn, levelsIn, readLevels}
-use Rattle.files.specs.TripLaws.{unread-told, read-told, read-front, read-front-levels, read-long-levels}
+use Rattle.files.specs.ReadLaws.{unread-told, read-told, read-front, read-front-levels, read-long-levels}
 use Rattle.files.specs.declared.Reading.{Reading}
 use Rattle.files.specs.declared.Reading.the-variants.{Read}
 use Rattle.state.specs.declared.groups.Table.{Table}

@@ -75,7 +75,7 @@ fn taken(input: &[u8], words: &mut [u16], levels: &mut [i16]) -> Found
             links: 0,
         };
     }
-    let found = files::read(input, words, levels);
+    let found = reading::read(input, words, levels);
     match found {
         Reading::Refused(number) => Found {
             unread: number,

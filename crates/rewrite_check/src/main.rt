@@ -23,7 +23,7 @@ fn rewritten(file: &[u8]) {
     let mut words = [0u16; 2048];
     let mut levels = [0i16; 1024];
     let mut copy = [0u8; 65536];
-    let done = files::trips::read_then_write(file, &mut words, &mut levels, &mut copy);
+    let done = trips::read_then_write(file, &mut words, &mut levels, &mut copy);
     match done {
         Writing::Refused(number) => refused(number),
         Writing::Written(characters) => put(&copy, characters as usize),

@@ -22,7 +22,7 @@ fn is_file(text: &[u8]) -> bool {
 fn filed(file: &[u8]) -> Survey {
     let mut words = [0u16; 2048];
     let mut levels = [0i16; 1024];
-    let found = files::read(file, &mut words, &mut levels);
+    let found = reading::read(file, &mut words, &mut levels);
     match found {
         Reading::Read { units, links } => stored(units, links as usize, &words, &levels),
         Reading::Refused(_) => Survey::new(),

@@ -70,7 +70,7 @@ fn loaded(units: u16, links: usize, words: &[u16], levels: &[i16]) {
 fn read(file: &[u8]) {
     let mut words = [0u16; 2048];
     let mut levels = [0i16; 1024];
-    let found = files::read(file, &mut words, &mut levels);
+    let found = reading::read(file, &mut words, &mut levels);
     match found {
         Reading::Read { units, links } => loaded(units, links as usize, &words, &levels),
         Reading::Refused(_) => {
