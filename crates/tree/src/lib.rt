@@ -3,19 +3,22 @@ use state::Clock;
 use table::ABSENT;
 use values::bounds;
 
+mod ahead;
 mod climb;
+mod leap;
 
 ghost use mathlib.Core.Path.{_≡_};
 ghost use mathlib.Core.Bool.{true, cond, not};
-ghost use Prim.Native.Nat.{ℕ, _<_, _≤_, min};
+ghost use Prim.Native.Nat.{ℕ, _+_, _<_, _≤_, min};
 ghost use lib.ListN.{length, getD};
 ghost use Rattle.lists.specs.Tables.{over};
 ghost use Rattle.lists.specs.Folds.{some};
 ghost use Rattle.lists.specs.Scatter.{takesIn};
 ghost use Rattle.table.specs.Table.{maxUnits};
-ghost use Rattle.rules.specs.Fits.{EndsWithin};
+ghost use Rattle.rules.specs.Fits.{linksFit, EndsWithin};
 ghost use Rattle.rules.specs.Tree.{visitedBefore, loss, keyOf, unitOf, NO-KEY, bestKey, parentRound, distRound, treeEnds};
 ghost use Rattle.rules.specs.TreeLaws.{visitsBy, parentBy, distBy};
+ghost use Rattle.machine.specs.InStage.{inStage};
 ghost use Rattle.machine.specs.StageRun.{stageRun};
 ghost use Rattle.tree.specs.Chosen.{offersIf};
 ghost use Rattle.rules.specs.Planned.{plannedParents, plannedDists};
@@ -24,12 +27,21 @@ ghost use Rattle.tree.specs.Rounds.{on, parentsAfter, distsAfter, endsAf
 // Where a unit has no candidate: past every key, and the unit in it is absent.
 const NO_KEY: u32 = 4294967295;
 
+// So many rounds are made one by one before a leap: most sites end the stage with the next few.
+const LEAP_AFTER: u16 = 3;
+
 // The tables of the stage, the clock, and the rounds made.
 pub struct Ran {
     pub parent: [u16; 256],
     pub dist: [u16; 256],
     pub clock: Clock,
     pub made: u16,
+}
+
+// What a leap makes of the rest of a run, if it is right.
+struct Rest {
+    run: Ran,
+    right: bool,
 }
 
 // The tables after a round, and whether the stage ends with it.
@@ -57,11 +69,33 @@ pub fn run<'a>(
         (record { parent = parent; dist = dist; clock = clock; made = 0 }) ⌝ }
 {
     let fits = bounds::links_fit(units, links, ends);
+    let wait = values::less(LEAP_AFTER, clock.made);
+    let leap_at = values::choose(units <= values::less(budget, wait), wait, ABSENT);
     let mut above = parent;
     let mut far = dist;
     let mut c = clock;
     let mut made: u16 = 0;
     while clock::goes_on(fits, units, 2, made, budget, c) {
+        if made == leap_at {
+            let all = remaining(
+                units,
+                links,
+                budget - made,
+                given,
+                plan,
+                ends,
+                levels,
+                color,
+                c,
+                above,
+                far,
+                made,
+            );
+            if all.right {
+                let run = all.run;
+                return run;
+            }
+        }
         let new = round(
             units,
             links,
@@ -88,6 +122,54 @@ pub fn run<'a>(
         clock: c,
         made,
     }
+}
+
+// The rest of the rounds at once, where no tree is given, the distances found ahead are right and the budget covers them.
+fn remaining<'a>(
+    units: u16,
+    links: u16,
+    left: u16,
+    given: u16,
+    plan: &'a [u16],
+    ends: &'a [u16],
+    levels: &'a [i16],
+    color: &'a [u16],
+    clock: Clock,
+    parent: [u16; 256],
+    dist: [u16; 256],
+    made: u16,
+) -> Rest
+    requires { ⌜ (linksFit units links (now ends) ≡ true) × (inStage units 2 clock ≡ true) × (length (now ends) ≡ 2048) × (length (now levels) ≡ 1024) × (made + left < 65536) ⌝ }
+    ensures { λ r. ⌜ (r .right ≡ true → r .run ≡ stageRun (on units links (now (ends .entry))) (one units links given (now (plan .entry)) (now (ends .entry)) (now (levels .entry)) (now (color .entry))) left
+        (record { parent = parent; dist = dist; clock = clock; made = made })) ⌝ }
+{
+    let found = leap::taken(units, links, clock.made, ends, levels, parent, dist);
+    let more = values::less(found.last, clock.made);
+    let covered = values::both(given == 0, more < left);
+    if !values::both(found.right, covered) {
+        let run = Ran {
+            parent,
+            dist,
+            clock,
+            made,
+        };
+        return Rest { run, right: false };
+    }
+    let new_parent = found.parent;
+    let new_dist = found.dist;
+    let after = Clock {
+        stage: 3,
+        made: 0,
+        rounds: values::least_of(clock.rounds + (more + 1), Clock::MAX_ROUNDS),
+        requests: clock.requests,
+    };
+    let run = Ran {
+        parent: new_parent,
+        dist: new_dist,
+        clock: after,
+        made: made + (more + 1),
+    };
+    Rest { run, right: true }
 }
 
 // A round: the planner's where a tree is given.
