@@ -1,16 +1,18 @@
 // Stage 1, colour: the least unit of each component, by propagation.
+use leaps::Landed;
 use state::Clock;
 use values::bounds;
 use values::propagation;
 ghost use mathlib.Core.Path.{_≡_};
-ghost use mathlib.Core.Bool.{false};
+ghost use mathlib.Core.Bool.{true, false};
 ghost use Prim.Native.Nat.{_<_, _≤_, min};
 ghost use lib.ListN.{length, getD, set};
 ghost use Rattle.lists.specs.Tables.{over};
 ghost use Rattle.rules.specs.Components.{leastHeard, colorRound};
-ghost use Rattle.rules.specs.Fits.{EndsWithin};
+ghost use Rattle.rules.specs.Fits.{linksFit, EndsWithin};
 ghost use Rattle.rules.specs.HeardLaws.{hears};
 ghost use Rattle.machine.specs.StageRun.{stageRun};
+ghost use Rattle.components.specs.Leap.{ran};
 ghost use Rattle.components.specs.Near.{Hearer};
 ghost use Rattle.components.specs.Rounds.{on, one};
 
@@ -34,6 +36,97 @@ pub fn run(
         (record { color = color; clock = clock; made = 0 }) ⌝ }
 {
     let fits = bounds::links_fit(units, links, ends);
+    let rest = leapt(fits, units, links, budget, ends, clock, color);
+    if rest.right {
+        let value = rest.value;
+        let c = rest.clock;
+        return Ran {
+            color: value,
+            clock: c,
+            made: rest.made,
+        };
+    }
+    rounds(fits, units, links, budget, ends, clock, color)
+}
+
+// The rest of the stage at once, where that pays and is found right.
+fn leapt(
+    fits: bool,
+    units: u16,
+    links: u16,
+    budget: u16,
+    ends: &[u16; 2048],
+    clock: Clock,
+    color: [u16; 256],
+) -> Landed
+    requires { ⌜ fits ≡ linksFit units links (now ends) ⌝ }
+    ensures { λ r. ⌜ (r .right ≡ true → ran (r .value) (r .clock) (r .made) ≡ stageRun (on units links (now (ends .entry))) (one units links (now (ends .entry))) budget
+        (record { color = color; clock = clock; made = 0 })) ⌝ }
+{
+    let goes_on = clock::goes_on(fits, units, 1, 0, budget, clock);
+    if !values::both(pays(units, links, budget, ends), goes_on) {
+        return Landed {
+            right: false,
+            value: color,
+            clock,
+            made: 0,
+        };
+    }
+    let said = propagation::said(units, clock.made, color);
+    leaps::leap(
+        units,
+        links,
+        ends,
+        values::greatest_of(2, units),
+        budget,
+        said,
+        clock,
+        0,
+    )
+}
+
+// Whether a leap pays: the budget covers a round for each unit, as many as there can be, and few rounds are not to be expected, as of few units or where the
+// first is linked with half of them. No more than a guess: what a run leaves does not hang on it.
+fn pays(units: u16, links: u16, budget: u16, ends: &[u16; 2048]) -> bool {
+    if values::either(units < 32, budget < units) {
+        return false;
+    }
+    first_named(links, ends) < units / 2
+}
+
+// How often the first unit is named.
+fn first_named(links: u16, ends: &[u16; 2048]) -> u16 {
+    let words = 2 * values::least_of(links, 1024);
+    let mut count: u16 = 0;
+    let mut i: u16 = 0;
+    while i < words {
+        count += one_if(ends[i as usize] == 0);
+        i += 1;
+    }
+    count
+}
+
+// 1 where the test holds, else 0.
+fn one_if(test: bool) -> u16
+    ensures { λ r. ⌜ r ≤ 1 ⌝ }
+{
+    if test { 1 } else { 0 }
+}
+
+// At most so many rounds, one after the other.
+fn rounds(
+    fits: bool,
+    units: u16,
+    links: u16,
+    budget: u16,
+    ends: &[u16; 2048],
+    clock: Clock,
+    color: [u16; 256],
+) -> Ran
+    requires { ⌜ fits ≡ linksFit units links (now ends) ⌝ }
+    ensures { λ r. ⌜ r ≡ stageRun (on units links (now (ends .entry))) (one units links (now (ends .entry))) budget
+        (record { color = color; clock = clock; made = 0 }) ⌝ }
+{
     let mut value = color;
     let mut c = clock;
     let mut made: u16 = 0;

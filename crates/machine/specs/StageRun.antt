@@ -13,11 +13,11 @@ unfoldable pub stageRun : {X : Type 0} → (X → Bool) → (X → X) → ℕ �
 stageRun on one zero x = x
 stageRun on one (suc b) x = let later = stageRun on one b (one x) in cond (on x) later x
 
-stage-on : {X : Type 0} (on : X → Bool) (one : X → X) (b : ℕ) (x : X) → on x ≡ true → stageRun on one (suc b) x ≡ stageRun on one b (one x)
+pub stage-on : {X : Type 0} (on : X → Bool) (one : X → X) (b : ℕ) (x : X) → on x ≡ true → stageRun on one (suc b) x ≡ stageRun on one b (one x)
 unfolding stageRun
 stage-on on one b x h = rw h refl
 
-stage-off : {X : Type 0} (on : X → Bool) (one : X → X) (b : ℕ) (x : X) → on x ≡ false → stageRun on one b x ≡ x
+pub stage-off : {X : Type 0} (on : X → Bool) (one : X → X) (b : ℕ) (x : X) → on x ≡ false → stageRun on one b x ≡ x
 unfolding stageRun
 stage-off on one zero x h = refl
 stage-off on one (suc b) x h = rw h refl

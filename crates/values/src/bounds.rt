@@ -51,7 +51,7 @@ pub fn levels_ok(t: &[u16]) -> bool
 }
 
 // Every entry is below `count`.
-fn all_below(count: u16, t: &[u16]) -> bool
+pub fn all_below(count: u16, t: &[u16]) -> bool
     ensures { λ r. ⌜ r ≡ every (λ (x : ℕ). ltb x count) (now (t .entry)) ⌝ }
 {
     if count == 0 {

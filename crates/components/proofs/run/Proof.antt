@@ -1,90 +1,24 @@
--- Round after round: each is one of the definition's, as long as the stage goes on.
-use mathlib.Core.Path.{_≡_, sym, _∙_}
-use Prim.Native.Nat.{_-_}
-use native.Mathlib.Omega.{arith}
-use lib.ListN.{length}
+-- By a leap, or round after round.
 use borrow.Author.Needs.{needs}
-use Rattle.rules.specs.Fits.{linksFit, fit-within}
-use Rattle.machine.specs.InStage.{Goes, goes}
-use Rattle.machine.specs.StageRun.{Turning, turns-begin, turns-on, turns-over}
-use Rattle.components.specs.Rounds.{on, one}
 use Rattle.components.proofs.run.Statement.{statement}
 use Rattle.components.proofs.run.Tie as tie
 
-abbrev Inv-loop : tie.InvT-loop
-Inv-loop units links budget ends fits value₀ c₀ made₀ value c made =
-    (length value ≡ 256)
-    × Turning (on units links ends) (one units links ends) budget (record { color = value₀; clock = c₀; made = 0 }) made (record { color = value; clock = c; made = made })
-
-abbrev μ-loop : tie.MeasureT-loop
-μ-loop units links budget ends fits value₀ c₀ made₀ value c made = budget - made
-
--- the stage goes on where a round is made
-go : (c : tie.Then1 Inv-loop μ-loop)
-    → (let a = c .before .before .before .before .before .args in Goes (a .units) 1 (c .before .before .loop .made) (a .budget) (linksFit (a .units) (a .links) (a .ends .now)) (c .before .before .loop .c))
-go c = goes _ _ _ _ _ _ (rw (c .before .before .before .links-fit .ensures) at (sym (c .before .goes-on .ensures) ∙ c .if1 .taken))
-
-links-fit-requires : tie.Need-links-fit-requires Inv-loop μ-loop
+links-fit-requires : tie.Need-links-fit-requires
 links-fit-requires c κs = search needs
 
-loop-holds : tie.Need-loop-holds Inv-loop μ-loop
-loop-holds c = (search needs, turns-begin _ _ _ _)
+leapt-requires : tie.Need-leapt-requires
+leapt-requires c κs = search needs
 
-goes-on-requires : tie.Need-goes-on-requires Inv-loop μ-loop
-goes-on-requires c κs = search needs
+returns : tie.Need-returns
+returns c =
+    let t = c .before .before in
+    t .before .leapt .ensures (t .if1 .taken)
 
-round-requires : tie.Need-round-requires Inv-loop μ-loop
-round-requires c κs =
-    let g = go (c .before) in
-    let a = c .before .before .before .before .before .before .args in
-    (g .few, fit-within (a .units) (a .links) (a .ends .now) (search needs) (g .fit))
+rounds-requires : tie.Need-rounds-requires
+rounds-requires c κs = search needs
 
-slice-aggregate-ends : tie.Need-slice-aggregate-ends Inv-loop μ-loop
-slice-aggregate-ends c = search needs
-
-slice-aggregate-ends-2 : tie.Need-slice-aggregate-ends-2 Inv-loop μ-loop
-slice-aggregate-ends-2 c = search needs
-
-ends-requires : tie.Need-ends-requires Inv-loop μ-loop
-ends-requires c κs = search needs
-
-ticked-requires : tie.Need-ticked-requires Inv-loop μ-loop
-ticked-requires c κs = search needs
-
-add-made : tie.Need-add-made Inv-loop μ-loop
-add-made c = omega (arith, go (c .before .before .before .before .before .before) .below, c .before .before .before .before .before .before .before .before .before .before .before .fits .budget)
-
-loop-less : tie.Need-loop-less Inv-loop μ-loop
-loop-less c = omega (arith, go (c .before .before .before .before .before .before) .below)
-
-loop-again : tie.Need-loop-again Inv-loop μ-loop
-unfolding one
-loop-again c =
-    let r = c .before .before .before .before in
-    let t = r .before .before in
-    let g = go t in (
-      search (r .round .ok, needs),
-      turns-on _ _ _ _ _ _ _ (t .before .before .loop .inv .1) (g .test) (rw (c .ticked .ensures, g .inside, c .before .ends .ensures, r .round .ensures)),
-    )
-
-returns : tie.Need-returns Inv-loop μ-loop
-returns c = turns-over _ _ _ _ _ _ (c .before .before .loop .inv .1) (rw (c .before .before .before .links-fit .ensures) at (sym (c .before .goes-on .ensures) ∙ c .if1 .left))
+returns-2 : tie.Need-returns-2
+returns-2 c = c .rounds .ensures
 
 pub run-spec : {M : Type 1} → statement M
-run-spec =
-    tie.close
-    (tie.spec
-    Inv-loop
-    μ-loop
-    links-fit-requires
-    loop-holds
-    goes-on-requires
-    round-requires
-    slice-aggregate-ends
-    slice-aggregate-ends-2
-    ends-requires
-    ticked-requires
-    add-made
-    loop-less
-    loop-again
-    returns)
+run-spec = tie.close (tie.spec links-fit-requires leapt-requires returns rounds-requires returns-2)

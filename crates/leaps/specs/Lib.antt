@@ -1,0 +1,4 @@
+pub mod Settling
+pub mod Chains
+pub mod Found
+pub mod Leapt
