@@ -1,5 +1,6 @@
 #!/bin/sh
-# Instructions of the proved library over those of the plain version, counted by valgrind, for the largest sites.
+# Instructions of the proved library over those of the plain version, counted by valgrind, for the largest sites; then of the
+# questions (a ring, a lifting order, doubtful links, one-way links) over those of a survey of the same table, both proved.
 # Each figure is the difference between a run of 1 + TIMES surveys and a run of 1, so that the start of the program is not in it.
 set -eu
 cd "$(dirname "$0")"
@@ -25,5 +26,15 @@ for work in words bytes; do
         proved=$(survey proved $work $site)
         plain=$(survey plain $work $site)
         printf '%-8s %-6s %12d %12d %8s\n' $site $work "$proved" "$plain" "$(echo "$proved $plain" | awk '{ printf "%.2f", $1 / $2 }')"
+    done
+done
+
+# the sites on which each question took longest in `bench worst`, beside two of the largest
+printf '\n%-10s %-12s %12s %12s %8s\n' question site proved survey ratio
+for question in ring lifting doubtful one-way; do
+    for site in path full strip drawn:1834; do
+        asked=$(survey proved $question $site)
+        surveyed=$(survey proved survey $site)
+        printf '%-10s %-12s %12d %12d %8s\n' $question $site "$asked" "$surveyed" "$(echo "$asked $surveyed" | awk '{ printf "%.2f", $1 / $2 }')"
     done
 done

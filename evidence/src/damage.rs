@@ -3,7 +3,7 @@
 use crate::random::Random;
 use crate::sites::{Site, any_site};
 use crate::words::State;
-use crate::{ABSENT, HIGHEST_LEVEL, LOWEST_LEVEL, MAX_INPUT, MAX_LINKS, Survey, byte_of_level, word_of_level};
+use crate::{ABSENT, HIGHEST_LEVEL, LOWEST_LEVEL, MAX_INPUT, MAX_LINKS, MAX_UNITS, Survey, byte_of_level, word_of_level};
 
 /// The line of a frame, whatever its bytes are.
 fn line(body: &[u8]) -> Vec<u8> {
@@ -41,7 +41,7 @@ fn lines_of(random: &mut Random, site: &Site) -> Vec<Vec<u8>> {
 }
 
 /// A level outside its range, near it or anywhere.
-fn odd_level(random: &mut Random) -> i16 {
+pub fn odd_level(random: &mut Random) -> i16 {
     match random.below(3) {
         0 => random.pick(&[LOWEST_LEVEL - 1, HIGHEST_LEVEL + 1]),
         1 => random.pick(&[i16::MIN, i16::MAX, 127, 128, -128, -256, -255, 256]),
@@ -50,7 +50,7 @@ fn odd_level(random: &mut Random) -> i16 {
 }
 
 /// A word near a limit that the site has, or any.
-fn odd_word(random: &mut Random, units: u16, links: u16) -> u16 {
+pub fn odd_word(random: &mut Random, units: u16, links: u16) -> u16 {
     let near =
         random.pick(&[0, 1, units, units.wrapping_mul(2), links, 256, 804, 1024, 2048, 8158, 32768, word_of_level(LOWEST_LEVEL), ABSENT]);
     match random.below(4) {
@@ -112,6 +112,16 @@ pub fn spoil_site(random: &mut Random, site: &mut Site) {
                 site.levels.insert(to.min(site.levels.len()), LOWEST_LEVEL);
             }
         }
+    }
+}
+
+/// A table of parents with one changed, or with more or fewer of them.
+pub fn spoil_parents(random: &mut Random, parents: &mut Vec<u16>) {
+    let units = parents.len();
+    if units > 0 && !random.once_in(4) {
+        parents[random.below(units)] = if random.once_in(2) { ABSENT } else { random.below(units + 1) as u16 };
+    } else {
+        parents.resize(random.below(258), ABSENT);
     }
 }
 
@@ -274,12 +284,14 @@ fn long(random: &mut Random, mut lines: Vec<Vec<u8>>) -> (&'static str, Vec<u8>)
 /// Words of a state changed in any way.
 pub fn spoil_words(random: &mut Random, words: &mut [u16]) {
     const CLOCK: usize = 2050;
-    const LEVELS: usize = Survey::WORDS - MAX_LINKS;
+    const PLAN: usize = Survey::WORDS - MAX_UNITS - 1;
+    const LEVELS: usize = PLAN - MAX_LINKS;
     let (units, links) = (words[0], words[1]);
     // where the entries of units, links and the clock are
     let table = 2 + 2 * usize::from(links.min(1024));
     for _ in 0..1 << random.below(4) {
-        let at = match random.below(8) {
+        let at = match random.below(9) {
+            8 => PLAN + random.below(MAX_UNITS + 1),
             0 => random.below(2),
             1 => CLOCK + random.below(4),
             2 => random.below(table),
@@ -291,7 +303,7 @@ pub fn spoil_words(random: &mut Random, words: &mut [u16]) {
             0 => words[at].wrapping_add(1),
             1 => words[at].wrapping_sub(1),
             2 => words[random.below(words.len())],
-            3 if at >= LEVELS => word_of_level(odd_level(random)),
+            3 if (LEVELS..PLAN).contains(&at) => word_of_level(odd_level(random)),
             _ => odd_word(random, units, links),
         };
     }

@@ -1,5 +1,6 @@
 //! The proved library through its C face. A slice goes over as its pointer and its length, an array of fixed size as its pointer.
 
+use crate::LiveWords;
 use crate::seats::{SeatCalls, Seats};
 use crate::words::{Calls, LinkReply, State, StatusReply, UnitReply};
 
@@ -51,6 +52,15 @@ unsafe extern "C" {
     fn link_survey_state_report(state: *const u16, out: *mut u8, out_len: usize) -> u32;
     fn link_survey_foreman_line(state: *const u16, out: *mut u8, out_len: usize) -> u32;
     fn link_survey_service_line(state: *const u16, out: *mut u8, out_len: usize) -> u32;
+    fn link_survey_ring(state: *const u16, first: u16, second: u16, out: *mut u16, out_len: usize, count: *mut u16) -> u32;
+    fn link_survey_lifting_order(state: *const u16, pairs: *const u16, pairs_len: usize, out: *mut u16, out_len: usize) -> u32;
+    fn link_survey_doubtful(state: *const u16, first: u16, second: u16, marks: *const u8, marks_len: usize, verdict: *mut u16) -> u32;
+    fn link_survey_one_way(units: u16, table: *const u16, table_len: usize, numbers: *mut u16, numbers_len: usize, passes: *mut u16)
+    -> u32;
+    fn link_survey_live_open(live: *mut u16, units: u16, table: *const u16, table_len: usize, levels: *const i16, levels_len: usize)
+    -> u32;
+    fn link_survey_live_add(live: *mut u16, a: u16, b: u16, level: i16) -> u32;
+    fn link_survey_live_withdraw(live: *mut u16, a: u16, b: u16) -> u32;
     fn link_survey_seat_load(
         seats: *mut Seats,
         seat: u16,
@@ -125,7 +135,33 @@ pub fn service_line(state: &State, out: &mut [u8]) -> u32 {
     unsafe { link_survey_service_line(state.as_ptr(), out.as_mut_ptr(), out.len()) }
 }
 
-pub const PROVED: Calls = Calls { report, read, write, load, load_stored, load_planned, round, run, status, unit, link, state_report, foreman_line, service_line };
+pub fn ring(state: &State, first: u16, second: u16, out: &mut [u16], count: &mut u16) -> u32 {
+    unsafe { link_survey_ring(state.as_ptr(), first, second, out.as_mut_ptr(), out.len(), count) }
+}
+
+pub fn lifting_order(state: &State, pairs: &[u16], out: &mut [u16]) -> u32 {
+    unsafe { link_survey_lifting_order(state.as_ptr(), pairs.as_ptr(), pairs.len(), out.as_mut_ptr(), out.len()) }
+}
+
+pub fn doubtful(state: &State, first: u16, second: u16, marks: &[u8], verdict: &mut u16) -> u32 {
+    unsafe { link_survey_doubtful(state.as_ptr(), first, second, marks.as_ptr(), marks.len(), verdict) }
+}
+
+pub fn one_way(units: u16, table: &[u16], numbers: &mut [u16], passes: &mut u16) -> u32 {
+    unsafe { link_survey_one_way(units, table.as_ptr(), table.len(), numbers.as_mut_ptr(), numbers.len(), passes) }
+}
+
+pub fn live_open(live: &mut LiveWords, units: u16, table: &[u16], levels: &[i16]) -> u32 {
+    unsafe { link_survey_live_open(live.as_mut_ptr(), units, table.as_ptr(), table.len(), levels.as_ptr(), levels.len()) }
+}
+
+pub fn live_add(live: &mut LiveWords, a: u16, b: u16, level: i16) -> u32 {
+    unsafe { link_survey_live_add(live.as_mut_ptr(), a, b, level) }
+}
+
+pub fn live_withdraw(live: &mut LiveWords, a: u16, b: u16) -> u32 {
+    unsafe { link_survey_live_withdraw(live.as_mut_ptr(), a, b) }
+}
 
 fn seat_load(seats: &mut Seats, seat: u16, units: u16, table: &[u16], levels: &[i16]) -> u32 {
     unsafe { link_survey_seat_load(seats, seat, units, table.as_ptr(), table.len(), levels.as_ptr(), levels.len()) }
@@ -136,6 +172,31 @@ fn tick(last: &mut u16, seats: &mut Seats) -> u32 {
 }
 
 pub const PROVED_SEATS: SeatCalls = SeatCalls { load: seat_load, tick };
+
+pub const PROVED: Calls = Calls {
+    report,
+    read,
+    write,
+    load,
+    load_stored,
+    load_planned,
+    round,
+    run,
+    status,
+    unit,
+    link,
+    state_report,
+    foreman_line,
+    service_line,
+    ring,
+    lifting_order,
+    doubtful,
+    one_way,
+    live_open,
+    live_add,
+    live_withdraw,
+    seats: PROVED_SEATS,
+};
 
 /// The tick that takes the turn as a record, of the archive of the crate `seats`.
 #[cfg(feature = "record")]

@@ -20,7 +20,11 @@ pub enum Refusal {
     LevelOutside = 16,
     ParentsDiffer = 17,
     PlanUnfit = 18,
+    BadPairs = 19,
+    NoOrder = 20,
+    NoSuchLink = 21,
     UnlinkedUnit = 22,
+    NoSuchSeat = 23,
 }
 
 impl Refusal {

@@ -2,7 +2,7 @@
 //! last served.
 
 use crate::words::{State, load, round};
-use crate::{FINISHED, Survey};
+use crate::{FINISHED, Refusal, Survey};
 
 pub const SEATS: usize = 8;
 /// The seat last served before any tick.
@@ -29,7 +29,7 @@ pub fn empty_seats() -> Box<Seats> {
 pub fn load_seat(seats: &mut Seats, seat: u16, units: u16, table: &[u16], levels: &[i16]) -> u32 {
     match seats.get_mut(usize::from(seat)) {
         Some(state) => load(state, units, table, levels),
-        None => 23,
+        None => u32::from(Refusal::NoSuchSeat.number()),
     }
 }
 

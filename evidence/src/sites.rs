@@ -1,7 +1,7 @@
 //! Tables of links of many shapes.
 
 use crate::random::Random;
-use crate::{HIGHEST_LEVEL, LOWEST_LEVEL, MAX_LINKS, MAX_UNITS};
+use crate::{ABSENT, HIGHEST_LEVEL, LOWEST_LEVEL, MAX_LINKS, MAX_UNITS};
 use std::collections::HashSet;
 
 /// A unit count, a table and its levels that a load takes.
@@ -40,6 +40,11 @@ pub fn star(n: usize) -> Site {
 pub fn ladder(n: usize) -> Site {
     let rungs = (0..n / 2).map(|k| (2 * k, 2 * k + 1));
     Site::new(n, rungs.chain((2..n).map(|v| (v - 2, v))))
+}
+
+/// Each unit linked with so many after it, as far as the limits go.
+pub fn strip(n: usize, width: usize) -> Site {
+    Site::new(n, (1..n).flat_map(|b| (b.saturating_sub(width)..b).map(move |a| (a, b))).take(MAX_LINKS).collect::<Vec<_>>())
 }
 
 /// Rings of three, one after the other, that share a unit.
@@ -165,4 +170,47 @@ pub fn any_site(random: &mut Random) -> Site {
         site = renamed(random, &site);
     }
     if random.once_in(8) { site } else { levelled(random, site) }
+}
+
+/// A table of parents: a forest along links, grown from the least units in some order of the links. Links with an end that is no unit
+/// are left out.
+pub fn any_parents(random: &mut Random, units: u16, table: &[u16]) -> Vec<u16> {
+    let mut parents = vec![ABSENT; usize::from(units)];
+    let mut seen = vec![false; parents.len()];
+    let mut links: Vec<[u16; 2]> = table.as_chunks().0.to_vec();
+    links.retain(|link| link.iter().all(|&v| v < units));
+    random.shuffle(&mut links);
+    for root in 0..parents.len() {
+        seen[root] = true;
+        let ways = || links.iter().flat_map(|&[a, b]| [(a, b), (b, a)]);
+        while let Some((v, w)) = ways().find(|&(v, w)| seen[usize::from(w)] && !seen[usize::from(v)]) {
+            (parents[usize::from(v)], seen[usize::from(v)]) = (w, true);
+        }
+    }
+    parents
+}
+
+/// A unit count and a table of ordered pairs (T-11): links that lead up, down or either way, or both ways at once.
+pub fn any_one_way(random: &mut Random) -> (u16, Vec<u16>) {
+    let site = any_site(random);
+    let mut links: Vec<[u16; 2]> = site.table.as_chunks().0.to_vec();
+    let kind = random.below(5);
+    for link in &mut links {
+        match kind {
+            0 => link.sort(),
+            1 if !random.once_in(8) => link.sort(),
+            2 => link.sort_by(|a, b| b.cmp(a)),
+            _ => random.shuffle(link),
+        }
+    }
+    if random.once_in(2) {
+        let often = random.between(1, 12);
+        let back: Vec<[u16; 2]> = links.iter().filter(|_| random.once_in(often)).map(|&[a, b]| [b, a]).collect();
+        links.extend(back);
+        links.truncate(MAX_LINKS);
+    }
+    if random.once_in(2) {
+        random.shuffle(&mut links);
+    }
+    (site.units, links.concat())
 }

@@ -1,10 +1,11 @@
 //! The lines of the two handsets (T-06): of the plain version against vectors, and what the request says of them.
 
+mod streams;
+
 use plain::random::Random;
 use plain::sites::any_site;
 use plain::states::{any_kept, loaded};
 use plain::{FINISHED, FOREMAN_LINE, Refusal, SERVICE_LINE, Survey};
-use std::path::Path;
 
 const MARK: u8 = 0xA5;
 
@@ -29,49 +30,27 @@ fn service(survey: &Survey) -> String {
     line(survey, Survey::service_line, SERVICE_LINE)
 }
 
-/// A list of a stream: its length, and then its numbers.
-fn list<T: TryFrom<i64>>(numbers: &mut impl Iterator<Item = i64>) -> Vec<T> {
-    let length = numbers.next().unwrap();
-    (0..length).map(|_| numbers.next().unwrap().try_into().ok().unwrap()).collect()
-}
-
-/// Each case of the streams of `lines_check`: both lines after the load and after each round.
+/// Each case of `lines_check`: both lines after the load and after each round.
 #[test]
-fn vectors() {
-    let folder = Path::new(env!("CARGO_MANIFEST_DIR")).join("../crates/lines_check");
-    let read = |name: &str| std::fs::read_to_string(folder.join(name)).unwrap_or_else(|e| panic!("{name}: {e}"));
-    let mut said = String::new();
-    for name in read("args").lines() {
-        let stream = read(&format!("data/{name}"));
-        let mut numbers = stream.split_ascii_whitespace().map(|word| word.parse::<i64>().unwrap());
-        for _ in 0..numbers.next().unwrap() {
-            let call = numbers.next().unwrap();
-            let units = numbers.next().unwrap().try_into().unwrap();
-            let (table, levels, parents) = (list::<u16>(&mut numbers), list::<i16>(&mut numbers), list::<u16>(&mut numbers));
-            let mut survey = Survey::new();
-            if call == 2 {
-                survey.load_planned(units, &table, &levels, &parents).unwrap();
-            } else {
-                assert!(call == 1 && parents.is_empty(), "{name}: another call than a load");
-                survey.load(units, &table, &levels).unwrap();
-            }
-            loop {
-                said += &foreman(&survey);
-                said += &service(&survey);
-                if survey.finished() {
-                    break;
-                }
-                survey.round().unwrap();
-            }
+fn line_vectors() {
+    streams::vectors("lines").hold(|name, numbers, said| {
+        let (call, site, parents): (u8, _, Vec<u16>) = (numbers.next(), numbers.site(), numbers.list());
+        let mut survey = Survey::new();
+        if call == 2 {
+            survey.load_planned(site.units, &site.table, &site.levels, &parents).unwrap();
+        } else {
+            assert!(call == 1 && parents.is_empty(), "{name}: another call than a load");
+            survey.load(site.units, &site.table, &site.levels).unwrap();
         }
-        assert_eq!(numbers.next(), None, "{name}");
-    }
-    let expected = read("stdout");
-    assert!(expected.lines().count() > 1000);
-    for (at, (ours, theirs)) in said.lines().zip(expected.lines()).enumerate() {
-        assert_eq!(ours, theirs, "line {}", at + 1);
-    }
-    assert_eq!(said, expected);
+        loop {
+            *said += &foreman(&survey);
+            *said += &service(&survey);
+            if survey.finished() {
+                return;
+            }
+            survey.round().unwrap();
+        }
+    });
 }
 
 /// Document 02's two lines of case B just loaded, and a state that is not kept, whatever the slice.

@@ -1,6 +1,33 @@
 //! Trees drawn by the planner (T-05): labels, lone links and single points are those of the survey's own tree.
 
-use plain::{ABSENT, LOWEST_LEVEL, Refusal, Survey};
+mod streams;
+
+use plain::{ABSENT, LOWEST_LEVEL, Refusal, Survey, write_file};
+use streams::{line, vectors};
+
+/// All three loads (1, with a plan 2, of a stored table 3) and writing (4): the number of a refusal, else 0 and the first countdown or the
+/// characters.
+#[test]
+fn load_vectors() {
+    let cases = vectors("loads").hold(|_, numbers, said| {
+        let (call, site): (u8, _) = (numbers.next(), numbers.site());
+        let (parents, places): (Vec<u16>, usize) = (numbers.list(), numbers.next());
+        let (units, table, levels) = (site.units, &site.table[..], &site.levels[..]);
+        let mut survey = Survey::new();
+        let loaded = match call {
+            1 => survey.load(units, table, levels),
+            2 => survey.load_planned(units, table, levels, &parents),
+            3 => survey.load_stored(units, table, levels),
+            _ => Ok(()),
+        };
+        let answer = match call {
+            4 => write_file(units, table, levels, &mut vec![0; places]),
+            _ => loaded.map(|()| survey.status().unwrap().countdown.into()),
+        };
+        *said += &answer.map_or_else(|refusal| line([refusal.number()]), |value| line([0, value]));
+    });
+    println!("{cases} cases");
+}
 
 fn levels(table: &[u16]) -> Vec<i16> {
     vec![LOWEST_LEVEL; table.len() / 2]

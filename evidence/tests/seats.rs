@@ -1,25 +1,15 @@
 //! Seats (document 02, T-12): the plain version against the vectors of `seats_check`; and, with the feature `face`, a search for
 //! differences between it and the proved library, every word and the turn compared after each call.
 
+mod streams;
+
 use plain::seats::{FIRST_TURN, PLAIN, SEATS, Seats, empty_seats};
 use plain::words::status;
 use std::fmt::Write;
-use std::path::Path;
+use streams::{Numbers, vectors};
 
 /// Where a state has its stage.
 const STAGE: usize = 2050;
-
-struct Numbers<'a>(std::str::SplitAsciiWhitespace<'a>);
-
-impl Numbers<'_> {
-    fn next(&mut self) -> i32 {
-        self.0.next().expect("a number more").parse().expect("a number")
-    }
-
-    fn word(&mut self) -> u16 {
-        self.next() as u16
-    }
-}
 
 /// A seat's status in the line, nothing where it is refused.
 fn say(seats: &Seats, seat: usize, line: &mut String) {
@@ -34,13 +24,11 @@ fn say(seats: &Seats, seat: usize, line: &mut String) {
 fn case(numbers: &mut Numbers, lines: &mut String) {
     let mut seats = empty_seats();
     let mut last = FIRST_TURN;
-    for _ in 0..numbers.next() {
-        match numbers.next() {
+    for _ in 0..numbers.next::<usize>() {
+        match numbers.next::<u8>() {
             1 => {
-                let (seat, units) = (numbers.word(), numbers.word());
-                let table: Vec<u16> = (0..numbers.next()).map(|_| numbers.word()).collect();
-                let levels: Vec<i16> = (0..numbers.next()).map(|_| numbers.next() as i16).collect();
-                writeln!(lines, "{}", (PLAIN.load)(&mut seats, seat, units, &table, &levels)).unwrap();
+                let (seat, site) = (numbers.next(), numbers.site());
+                writeln!(lines, "{}", (PLAIN.load)(&mut seats, seat, site.units, &site.table, &site.levels)).unwrap();
             }
             2 => match (PLAIN.tick)(&mut last, &mut seats) {
                 0 => {
@@ -49,10 +37,10 @@ fn case(numbers: &mut Numbers, lines: &mut String) {
                 }
                 number => writeln!(lines, "{number}").unwrap(),
             },
-            3 => last = numbers.word(),
+            3 => last = numbers.next(),
             _ => {
-                let seat = usize::from(numbers.word());
-                seats[seat][STAGE] = numbers.word();
+                let seat: usize = numbers.next();
+                seats[seat][STAGE] = numbers.next();
             }
         }
     }
@@ -67,19 +55,8 @@ fn case(numbers: &mut Numbers, lines: &mut String) {
 }
 
 #[test]
-fn vectors() {
-    let folder = Path::new(env!("CARGO_MANIFEST_DIR")).join("../crates/seats_check");
-    let text = |name: &str| std::fs::read_to_string(folder.join(name)).expect(name);
-    let mut lines = String::new();
-    for name in text("args").lines() {
-        let stream = text(&format!("data/{name}"));
-        let mut numbers = Numbers(stream.split_ascii_whitespace());
-        for _ in 0..numbers.next() {
-            case(&mut numbers, &mut lines);
-        }
-        assert_eq!(numbers.0.next(), None);
-    }
-    assert_eq!(lines, text("stdout"));
+fn seat_vectors() {
+    vectors("seats").hold(|_, numbers, lines| case(numbers, lines));
 }
 
 #[cfg(feature = "face")]

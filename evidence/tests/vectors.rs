@@ -129,30 +129,31 @@ fn traces() {
     });
 }
 
-/// Every table after the load and after each round.
+/// Every table after the load and after each round: of survey files, which begin with 0, and of streams, with levels (document 02, T-02)
+/// and with a tree drawn by the planner (T-05).
 #[test]
 fn tables() {
-    each_round("table_check", loaded, say_tables);
+    each_round("table_check", |text| if text.starts_with(b"0") { loaded(text) } else { streamed(text) }, say_tables);
 }
 
-/// The same of tables with levels (document 02, T-02).
-#[test]
-fn tables_by_level() {
-    each_round("levels_check", streamed, say_tables);
-}
-
-/// A stream of numbers: the unit count, the list of words, the list of levels; a list is its length and its numbers.
+/// A stream of numbers: the unit count, the list of words, the list of levels, and with a plan the list of parents; a list is its length
+/// and its numbers.
 fn streamed(input: &[u8]) -> Survey {
     let mut numbers = std::str::from_utf8(input).unwrap().split_whitespace().map(|word| word.parse::<i32>().unwrap());
     let units = numbers.next().unwrap() as u16;
-    let mut list = || -> Vec<i32> {
-        let length = numbers.next().unwrap() as usize;
-        numbers.by_ref().take(length).collect()
+    let mut list = || -> Option<Vec<i32>> {
+        let length = numbers.next()? as usize;
+        Some(numbers.by_ref().take(length).collect())
     };
-    let table: Vec<u16> = list().into_iter().map(|end| end.try_into().unwrap()).collect();
-    let levels: Vec<i16> = list().into_iter().map(|level| level.try_into().unwrap()).collect();
+    let words = |list: Vec<i32>| -> Vec<u16> { list.into_iter().map(|word| word.try_into().unwrap()).collect() };
+    let table = words(list().unwrap());
+    let levels: Vec<i16> = list().unwrap().into_iter().map(|level| level.try_into().unwrap()).collect();
     let mut survey = Survey::new();
-    survey.load(units, &table, &levels).unwrap();
+    match list() {
+        Some(parents) => survey.load_planned(units, &table, &levels, &words(parents)),
+        None => survey.load(units, &table, &levels),
+    }
+    .unwrap();
     survey
 }
 

@@ -2,9 +2,13 @@
 //!
 //!     bench                            times and their growth
 //!     bench stack                      the deepest stack of each call
+//!     bench worst [COUNT]              questions (a ring, a lifting order, doubtful links, one-way links) on the sites on which they take
+//!                                      longest, of the shapes and of COUNT drawn ones, beside a survey
 //!     bench one SIDE WORK SITE TIMES   one side alone, for a count of instructions: proved, plain or plain-words; words or bytes;
-//!                                      path, ring, full, star or ladder of 256 units
+//!                                      path, ring, full, star or ladder of 256 units; or proved or plain; ring, lifting, doubtful,
+//!                                      one-way or survey; one of these sites, strip, or drawn:NUMBER
 
+mod asked;
 mod stack;
 mod times;
 mod work;
@@ -14,6 +18,9 @@ use work::{Bench, Side, Work, site};
 
 fn one(arguments: &[&str]) -> Option<()> {
     let [side, work, shape, times] = arguments else { return None };
+    if !["words", "bytes"].contains(work) {
+        return asked::one(side, work, shape, times.parse().ok()?);
+    }
     let side = match *side {
         "proved" => Side::Proved,
         "plain" => Side::Plain,
@@ -41,9 +48,16 @@ fn main() -> ExitCode {
             times::growth();
         }
         ["stack"] => stack::print(),
+        ["worst"] => asked::worst(3000),
+        ["worst", count] if count.parse::<u64>().is_ok() => asked::worst(count.parse().unwrap_or(0)),
         ["one", ref rest @ ..] if one(rest).is_some() => {}
         _ => {
-            eprintln!("usage: bench | bench stack | bench one proved|plain|plain-words words|bytes path|ring|full|star|ladder TIMES");
+            eprintln!(
+                "usage: bench | bench stack | bench worst [COUNT] | bench one proved|plain|plain-words words|bytes path|ring|full|star|ladder TIMES"
+            );
+            eprintln!(
+                "       bench one proved|plain ring|lifting|doubtful|one-way|survey path|ring|full|star|ladder|strip|drawn:NUMBER TIMES"
+            );
             return ExitCode::from(2);
         }
     }

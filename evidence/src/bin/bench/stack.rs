@@ -1,10 +1,13 @@
 //! The deepest stack of each call of the C face: the call is made on a painted stack of its own, and then the paint is looked at.
 
+use crate::asked::{pairs, positions};
 use crate::work::{LARGEST, site};
 use plain::face::PROVED;
-use plain::sites::Site;
+use plain::random::Random;
+use plain::seats::empty_seats;
+use plain::sites::{Site, any_parents};
 use plain::words::{Calls, PLAIN};
-use plain::{Survey, file_length, report_length, write_file};
+use plain::{LIVE_WORDS, Survey, file_length, report_length, write_file};
 use std::arch::asm;
 use std::ffi::c_void;
 
@@ -65,69 +68,141 @@ impl Meter {
     fn depth(&mut self, mut call: impl FnMut()) -> usize {
         painted(&mut self.memory, &mut call) - self.entry
     }
+
+    /// Of a call that is not refused.
+    fn done(&mut self, mut call: impl FnMut() -> u32) -> usize {
+        let mut number = 0;
+        let depth = self.depth(|| number = call());
+        assert_eq!(number, 0, "a call was refused");
+        depth
+    }
 }
 
-const CALLS: [&str; 13] =
-    ["report", "read", "write", "load", "load_stored", "round", "run", "status", "unit", "link", "state_report", "foreman_line", "service_line"];
+const CALLS: [&str; 23] = [
+    "report",
+    "read",
+    "write",
+    "load",
+    "load_stored",
+    "load_planned",
+    "round",
+    "run",
+    "status",
+    "unit",
+    "link",
+    "state_report",
+    "foreman_line",
+    "service_line",
+    "ring",
+    "lifting_order",
+    "doubtful",
+    "one_way",
+    "live_open",
+    "live_add",
+    "live_withdraw",
+    "seat_load",
+    "tick",
+];
 
 /// The deepest that each call goes on one site: round by round, and at the end.
-fn depths(meter: &mut Meter, calls: &Calls, site: &Site) -> [usize; 13] {
+fn depths(meter: &mut Meter, calls: &Calls, site: &Site) -> [usize; CALLS.len()] {
+    let (units, table, levels) = (site.units, &site.table[..], &site.levels[..]);
     let mut file = vec![0; file_length(site.links())];
-    write_file(site.units, &site.table, &site.levels, &mut file).expect("a site passes the checks");
-    let mut out = vec![0; report_length(usize::from(site.units), site.links())];
+    write_file(units, table, levels, &mut file).expect("a site passes the checks");
+    let mut out = vec![0; report_length(usize::from(units), site.links())];
     let mut state = Box::new([0; Survey::WORDS]);
     let mut number = 0;
 
     let report = meter.depth(|| number = (calls.report)(&file, &mut out));
     assert_eq!(number as usize, out.len());
-    let (mut words, mut levels) = (vec![0; site.table.len()], vec![0; site.links()]);
-    let read = meter.depth(|| number = (calls.read)(&file, &mut words, &mut levels, &mut 0, &mut 0));
-    assert_eq!(number, 0);
-    assert_eq!((&words, &levels), (&site.table, &site.levels));
-    let write = meter.depth(|| number = (calls.write)(site.units, &site.table, &site.levels, &mut file));
-    assert_eq!(number, 0);
-    let load = meter.depth(|| number = (calls.load)(&mut state, site.units, &site.table, &site.levels));
-    assert_eq!(number, 0);
-    let load_stored = meter.depth(|| number = (calls.load_stored)(&mut state, site.units, &site.table, &site.levels));
-    assert_eq!(number, 0);
+    let (mut words, mut heard) = (vec![0; table.len()], vec![0; site.links()]);
+    let read = meter.done(|| (calls.read)(&file, &mut words, &mut heard, &mut 0, &mut 0));
+    assert_eq!((&words[..], &heard[..]), (table, levels));
+    let write = meter.done(|| (calls.write)(units, table, levels, &mut file));
+    let parents = any_parents(&mut Random::new(5, 1), units, table);
+    let load_planned = meter.done(|| (calls.load_planned)(&mut state, units, table, levels, &parents));
+    let load = meter.done(|| (calls.load)(&mut state, units, table, levels));
+    let load_stored = meter.done(|| (calls.load_stored)(&mut state, units, table, levels));
     let first = state.clone();
-    let run = meter.depth(|| {
+    let run = meter.done(|| {
         state.copy_from_slice(&first[..]);
-        number = (calls.run)(&mut state, u16::MAX, &mut 0);
+        (calls.run)(&mut state, u16::MAX, &mut 0)
     });
-    assert_eq!(number, 0);
-    let status = meter.depth(|| number = (calls.status)(&state, &mut [0; 4]));
-    assert_eq!(number, 0);
-    let unit = meter.depth(|| number = (calls.unit)(&state, 0, &mut [0; 5]));
-    assert_eq!(number, 0);
-    let link = meter.depth(|| number = (calls.link)(&state, 0, &mut [0; 3]));
-    assert_eq!(number, 0);
-    let state_report = meter.depth(|| number = (calls.state_report)(&state, &mut out));
-    assert_eq!(number, 0);
-    let foreman_line = meter.depth(|| number = (calls.foreman_line)(&state, &mut out));
-    assert_eq!(number, 0);
-    let service_line = meter.depth(|| number = (calls.service_line)(&state, &mut out));
-    assert_eq!(number, 0);
+    let status = meter.done(|| (calls.status)(&state, &mut [0; 4]));
+    let unit = meter.done(|| (calls.unit)(&state, 0, &mut [0; 5]));
+    let link = meter.done(|| (calls.link)(&state, 0, &mut [0; 3]));
+    let state_report = meter.done(|| (calls.state_report)(&state, &mut out));
+    let foreman_line = meter.done(|| (calls.foreman_line)(&state, &mut out));
+    let service_line = meter.done(|| (calls.service_line)(&state, &mut out));
+
+    let ([one, other], pairs) = (positions(site), pairs(site));
+    let (marks, mut ring_units) = (vec![0; site.links()], [0; 256]);
+    let ring = meter.done(|| (calls.ring)(&state, one, other, &mut ring_units, &mut 0));
+    let lifting_order = meter.done(|| (calls.lifting_order)(&state, &pairs, &mut ring_units));
+    let doubtful = meter.done(|| (calls.doubtful)(&state, one, other, &marks, &mut 0));
+    let one_way = meter.done(|| (calls.one_way)(units, table, &mut ring_units, &mut 0));
+
+    let mut live = [0; LIVE_WORDS];
+    let live_open = meter.done(|| (calls.live_open)(&mut live, units, &table[2..], &levels[1..]));
+    let opened = live;
+    let live_add = meter.done(|| {
+        live = opened;
+        (calls.live_add)(&mut live, table[0], table[1], levels[0])
+    });
+    let added = live;
+    let live_withdraw = meter.done(|| {
+        live = added;
+        (calls.live_withdraw)(&mut live, table[0], table[1])
+    });
+
+    let mut seats = empty_seats();
+    let seat_load = meter.done(|| (calls.seats.load)(&mut seats, 7, units, table, levels));
+    seats.fill(*first);
+    let tick = meter.done(|| (calls.seats.tick)(&mut 7, &mut seats));
 
     let mut round = 0;
     state.copy_from_slice(&first[..]);
     let mut before = first;
-    while number == 0 {
+    while number != 11 {
         before.copy_from_slice(&state[..]);
         round = round.max(meter.depth(|| {
             state.copy_from_slice(&before[..]);
             number = (calls.round)(&mut state);
         }));
+        assert!([0, 11].contains(&number));
     }
-    assert_eq!(number, 11);
-    [report, read, write, load, load_stored, round, run, status, unit, link, state_report, foreman_line, service_line]
+    [
+        report,
+        read,
+        write,
+        load,
+        load_stored,
+        load_planned,
+        round,
+        run,
+        status,
+        unit,
+        link,
+        state_report,
+        foreman_line,
+        service_line,
+        ring,
+        lifting_order,
+        doubtful,
+        one_way,
+        live_open,
+        live_add,
+        live_withdraw,
+        seat_load,
+        tick,
+    ]
 }
 
 pub fn print() {
     println!("Deepest stack in bytes, to the next 16, over the largest sites and, for a round, over all their rounds.\n");
     println!("{:14}{:>10}{:>20}", "call", "proved", "plain on words");
     let mut meter = Meter::new();
-    let mut most = [[0; 13]; 2];
+    let mut most = [[0; CALLS.len()]; 2];
     for shape in LARGEST {
         let site = site(shape, 256).expect("a shape");
         for (most, calls) in most.iter_mut().zip([PROVED, PLAIN]) {

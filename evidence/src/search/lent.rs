@@ -2,8 +2,13 @@
 
 use std::fmt::Debug;
 use std::hint::black_box;
+use std::sync::LazyLock;
 
-const MARGIN: usize = 24;
+/// The places of a margin. SURVEY_MARGIN says another number; with 0 valgrind sees a read past what is lent, too.
+static MARGIN: LazyLock<usize> = LazyLock::new(|| {
+    let word = std::env::var("SURVEY_MARGIN").unwrap_or("24".into());
+    word.parse().unwrap_or_else(|e| panic!("SURVEY_MARGIN, {word}: {e}"))
+});
 
 pub struct Lent<T> {
     before: Vec<T>,
@@ -13,15 +18,17 @@ pub struct Lent<T> {
 
 impl<T: Copy + PartialEq + Debug> Lent<T> {
     pub fn new(contents: &[T], margin: T) -> Lent<T> {
-        let mut before = vec![margin; MARGIN];
+        // no more room than that, so that valgrind knows where it ends
+        let mut before = Vec::with_capacity(contents.len() + 2 * *MARGIN);
+        before.resize(*MARGIN, margin);
         before.extend_from_slice(contents);
-        before.extend([margin; MARGIN]);
+        before.resize(contents.len() + 2 * *MARGIN, margin);
         Lent { proved: before.clone(), plain: before.clone(), before }
     }
 
     fn inner(all: &mut [T]) -> &mut [T] {
-        let end = all.len() - MARGIN;
-        &mut all[MARGIN..end]
+        let end = all.len() - *MARGIN;
+        &mut all[*MARGIN..end]
     }
 
     pub fn proved(&mut self) -> &mut [T] {
@@ -42,7 +49,7 @@ impl<T: Copy + PartialEq + Debug> Lent<T> {
     }
 
     pub fn before(&self) -> &[T] {
-        &self.before[MARGIN..self.before.len() - MARGIN]
+        &self.before[*MARGIN..self.before.len() - *MARGIN]
     }
 
     /// The first place where the two sides differ, counted from the start of what was lent.
@@ -53,7 +60,20 @@ impl<T: Copy + PartialEq + Debug> Lent<T> {
             return Ok(());
         }
         let at = proved.iter().zip(plain).position(|(a, b)| a != b).unwrap_or(0);
-        Err(format!("{name}[{}]: proved {:?}, plain {:?}", at as isize - MARGIN as isize, proved[at], plain[at]))
+        Err(format!("{name}[{}]: proved {:?}, plain {:?}", at as isize - *MARGIN as isize, proved[at], plain[at]))
+    }
+
+    /// Where the choice is the library's: what it wrote at the front, so far, is taken for what the plain version wrote, and nothing else.
+    pub fn choose(&mut self, written: usize) {
+        self.plain.copy_from_slice(&self.before);
+        self.plain[*MARGIN..][..written].copy_from_slice(&self.proved[*MARGIN..][..written]);
+    }
+
+    /// A word changed by hand before the next call.
+    pub fn set(&mut self, at: usize, value: T) {
+        for side in [&mut self.before, &mut self.proved, &mut self.plain] {
+            side[*MARGIN + at] = value;
+        }
     }
 
     /// What both sides left is what the next call gets.

@@ -1,13 +1,12 @@
 //! The proved library against the plain version, call by call: `fuzz [SEED [COUNT [FIRST]]]`. A case depends on the seed and on its
 //! number alone, so `fuzz SEED 1 NUMBER` makes one again.
 
-mod calls;
-mod cases;
-mod lent;
-mod tally;
-
-use plain::random::Random;
+use plain::face::PROVED;
+use plain::search::Search;
 use std::process::ExitCode;
+
+/// A run of so many cases has to bring up every number of every call.
+const MANY: u64 = 100_000;
 
 fn argument(place: usize, default: u64) -> u64 {
     match std::env::args().nth(place) {
@@ -22,13 +21,20 @@ fn argument(place: usize, default: u64) -> u64 {
 fn main() -> ExitCode {
     let (seed, count, first) = (argument(1, 1), argument(2, 1_000_000), argument(3, 0));
     println!("seed {seed}, {count} cases from {first} on");
-    let mut tally = tally::Tally::default();
+    let mut search = Search::new(PROVED);
     for case in first..first + count {
-        if let Err(difference) = cases::run(&mut Random::new(seed, case), &mut tally) {
+        if let Err(difference) = search.case(seed, case) {
             println!("case {case} of seed {seed} differs: {difference}");
             return ExitCode::FAILURE;
         }
     }
-    tally.print();
+    search.print();
+    let missing = search.missing();
+    if !missing.is_empty() {
+        println!("did not come up: {}", missing.join(", "));
+        if count >= MANY {
+            return ExitCode::FAILURE;
+        }
+    }
     ExitCode::SUCCESS
 }

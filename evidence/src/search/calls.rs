@@ -1,9 +1,8 @@
 //! One call made by both sides, and all that it leaves compared.
 
-use crate::lent::Lent;
-use plain::Survey;
-use plain::face::PROVED;
-use plain::words::{LinkReply, LoadCall, PLAIN, State, StatusReply, UnitReply};
+use super::lent::Lent;
+use crate::words::{Calls, LinkReply, LoadCall, PLAIN, State, StatusReply, UnitReply};
+use crate::{Survey, judge_ring};
 
 /// A call on a state, with the memory for its reply as it is lent.
 #[derive(Clone, Debug)]
@@ -19,6 +18,9 @@ pub enum Call {
     Report { out: Vec<u8> },
     ForemanLine { out: Vec<u8> },
     ServiceLine { out: Vec<u8> },
+    Ring { first: u16, second: u16, out: Vec<u16>, count: u16 },
+    LiftingOrder { pairs: Vec<u16>, out: Vec<u16> },
+    Doubtful { first: u16, second: u16, marks: Vec<u8>, verdict: u16 },
 }
 
 impl Call {
@@ -35,16 +37,19 @@ impl Call {
             Call::Report { .. } => "state report",
             Call::ForemanLine { .. } => "foreman's line",
             Call::ServiceLine { .. } => "service line",
+            Call::Ring { .. } => "ring",
+            Call::LiftingOrder { .. } => "lifting order",
+            Call::Doubtful { .. } => "doubtful links",
         }
     }
 }
 
-const WORD_MARGIN: u16 = 0xC3A5;
-const LEVEL_MARGIN: i16 = 0x3CA5;
+pub const WORD_MARGIN: u16 = 0xC3A5;
+pub const LEVEL_MARGIN: i16 = 0x3CA5;
 const BYTE_MARGIN: u8 = 0xA5;
 
 /// Both sides got the same number.
-fn agree(proved: u32, plain: u32) -> Result<u32, String> {
+pub fn agree(proved: u32, plain: u32) -> Result<u32, String> {
     if proved == plain { Ok(plain) } else { Err(format!("returned: proved {proved}, plain {plain}")) }
 }
 
@@ -52,51 +57,100 @@ pub fn lent_state(words: &State) -> Lent<u16> {
     Lent::new(words, WORD_MARGIN)
 }
 
-/// Makes the call; the number that both returned, or where they differ.
-pub fn both(state: &mut Lent<u16>, call: &Call) -> Result<u32, String> {
+/// The number that both returned, and the word that is the call's reply or counts it, if it has one.
+pub type Came = (u32, Option<u16>);
+
+/// Makes the call; what came, or where the two sides differ.
+pub fn both(library: &Calls, state: &mut Lent<u16>, call: &Call) -> Result<Came, String> {
+    let mut word = None;
     let number = match call {
-        Call::Load { units, table, levels } => loaded(state, [PROVED.load, PLAIN.load], *units, table, levels),
-        Call::LoadStored { units, table, levels } => loaded(state, [PROVED.load_stored, PLAIN.load_stored], *units, table, levels),
-        Call::LoadPlanned { units, table, levels, parents } => planned(state, *units, table, levels, parents),
-        Call::Round => agree((PROVED.round)(state.proved_array()), (PLAIN.round)(state.plain_array())),
+        Call::Load { units, table, levels } => loaded(state, [library.load, PLAIN.load], *units, table, levels),
+        Call::LoadStored { units, table, levels } => loaded(state, [library.load_stored, PLAIN.load_stored], *units, table, levels),
+        Call::LoadPlanned { units, table, levels, parents } => planned(library, state, *units, table, levels, parents),
+        Call::Round => agree((library.round)(state.proved_array()), (PLAIN.round)(state.plain_array())),
         Call::Run { budget, made } => replied(&[*made], |lent| {
-            let proved = (PROVED.run)(state.proved_array(), *budget, &mut lent.proved()[0]);
+            let proved = (library.run)(state.proved_array(), *budget, &mut lent.proved()[0]);
             let plain = (PLAIN.run)(state.plain_array(), *budget, &mut lent.plain()[0]);
             (proved, plain)
         }),
         Call::Status { reply } => replied(reply, |lent| {
-            let proved = (PROVED.status)(state.proved_array(), lent.proved_array());
+            let proved = (library.status)(state.proved_array(), lent.proved_array());
             let plain = (PLAIN.status)(state.plain_array(), lent.plain_array());
             (proved, plain)
         }),
         Call::Unit { unit, reply } => replied(reply, |lent| {
-            let proved = (PROVED.unit)(state.proved_array(), *unit, lent.proved_array());
+            let proved = (library.unit)(state.proved_array(), *unit, lent.proved_array());
             let plain = (PLAIN.unit)(state.plain_array(), *unit, lent.plain_array());
             (proved, plain)
         }),
         Call::Link { position, reply } => replied(reply, |lent| {
-            let proved = (PROVED.link)(state.proved_array(), *position, lent.proved_array());
+            let proved = (library.link)(state.proved_array(), *position, lent.proved_array());
             let plain = (PLAIN.link)(state.plain_array(), *position, lent.plain_array());
             (proved, plain)
         }),
         Call::Report { out } => written(out, "report", |lent| {
-            let proved = (PROVED.state_report)(state.proved_array(), lent.proved());
+            let proved = (library.state_report)(state.proved_array(), lent.proved());
             let plain = (PLAIN.state_report)(state.plain_array(), lent.plain());
             (proved, plain)
         }),
         Call::ForemanLine { out } => written(out, "line", |lent| {
-            let proved = (PROVED.foreman_line)(state.proved_array(), lent.proved());
+            let proved = (library.foreman_line)(state.proved_array(), lent.proved());
             let plain = (PLAIN.foreman_line)(state.plain_array(), lent.plain());
             (proved, plain)
         }),
         Call::ServiceLine { out } => written(out, "line", |lent| {
-            let proved = (PROVED.service_line)(state.proved_array(), lent.proved());
+            let proved = (library.service_line)(state.proved_array(), lent.proved());
             let plain = (PLAIN.service_line)(state.plain_array(), lent.plain());
             (proved, plain)
         }),
+        Call::Ring { first, second, out, count } => {
+            let came = shown(library, state, [*first, *second], out, *count)?;
+            word = came.1;
+            Ok(came.0)
+        }
+        Call::LiftingOrder { pairs, out } => {
+            let mut pairs = Lent::new(pairs, WORD_MARGIN);
+            replied(out, |lent| {
+                let proved = (library.lifting_order)(state.proved_array(), pairs.proved(), lent.proved());
+                let plain = (PLAIN.lifting_order)(state.plain_array(), pairs.plain(), lent.plain());
+                (proved, plain)
+            })
+            .and_then(|number| pairs.difference("pairs").map(|()| number))
+        }
+        Call::Doubtful { first, second, marks, verdict } => {
+            let mut marks = Lent::new(marks, BYTE_MARGIN);
+            replied(&[*verdict], |lent| {
+                let proved = (library.doubtful)(state.proved_array(), *first, *second, marks.proved(), &mut lent.proved()[0]);
+                let plain = (PLAIN.doubtful)(state.plain_array(), *first, *second, marks.plain(), &mut lent.plain()[0]);
+                word = Some(lent.plain()[0]);
+                (proved, plain)
+            })
+            .and_then(|number| marks.difference("marks").map(|()| number))
+        }
     }?;
     state.difference("state").map_err(|difference| named(&difference))?;
-    Ok(number)
+    Ok((number, word))
+}
+
+/// A ring is the library's choice, and so is judged; whether there is one is not.
+fn shown(library: &Calls, state: &mut Lent<u16>, [first, second]: [u16; 2], out: &[u16], count: u16) -> Result<Came, String> {
+    let mut lent = Lent::new(out, WORD_MARGIN);
+    let mut counted = Lent::new(&[count], WORD_MARGIN);
+    let proved = (library.ring)(state.proved_array(), first, second, lent.proved(), &mut counted.proved()[0]);
+    let plain = (PLAIN.ring)(state.plain_array(), first, second, lent.plain(), &mut counted.plain()[0]);
+    let number = agree(proved, plain)?;
+    let (ours, theirs) = (counted.plain()[0], counted.proved()[0]);
+    if number == 0 && ours != 0 {
+        let written = usize::from(theirs);
+        let site = Survey::from_words(state.plain_array());
+        let ring = lent.proved().get(..written).ok_or(format!("count: proved {theirs}, more than there is room for"))?;
+        judge_ring(site.units, site.pairs(), first.into(), second.into(), ring).map_err(|why| format!("ring {ring:?}: {why}"))?;
+        lent.choose(written);
+        counted.choose(1);
+    }
+    lent.difference("ring")?;
+    counted.difference("count")?;
+    Ok((number, Some(theirs)))
 }
 
 /// A load by both sides.
@@ -112,11 +166,11 @@ fn loaded(state: &mut Lent<u16>, [proved, plain]: [LoadCall; 2], units: u16, tab
 }
 
 /// A load with a plan by both sides.
-fn planned(state: &mut Lent<u16>, units: u16, table: &[u16], levels: &[i16], parents: &[u16]) -> Result<u32, String> {
+fn planned(library: &Calls, state: &mut Lent<u16>, units: u16, table: &[u16], levels: &[i16], parents: &[u16]) -> Result<u32, String> {
     let mut table = Lent::new(table, WORD_MARGIN);
     let mut levels = Lent::new(levels, LEVEL_MARGIN);
     let mut parents = Lent::new(parents, WORD_MARGIN);
-    let proved = (PROVED.load_planned)(state.proved_array(), units, table.proved(), levels.proved(), parents.proved());
+    let proved = (library.load_planned)(state.proved_array(), units, table.proved(), levels.proved(), parents.proved());
     let plain = (PLAIN.load_planned)(state.plain_array(), units, table.plain(), levels.plain(), parents.plain());
     let number = agree(proved, plain)?;
     table.difference("table")?;
@@ -144,10 +198,10 @@ fn written(out: &[u8], name: &str, call: impl FnOnce(&mut Lent<u8>) -> (u32, u32
 }
 
 /// What the program prints for a file; the number of characters that both returned.
-pub fn both_report(input: &[u8], out: &[u8]) -> Result<(u32, Vec<u8>), String> {
+pub fn both_report(library: &Calls, input: &[u8], out: &[u8]) -> Result<(u32, Vec<u8>), String> {
     let mut input = Lent::new(input, BYTE_MARGIN);
     let mut out = Lent::new(out, BYTE_MARGIN);
-    let proved = (PROVED.report)(input.proved(), out.proved());
+    let proved = (library.report)(input.proved(), out.proved());
     let plain = (PLAIN.report)(input.plain(), out.plain());
     let written = agree(proved, plain)?;
     input.difference("input")?;
@@ -157,13 +211,13 @@ pub fn both_report(input: &[u8], out: &[u8]) -> Result<(u32, Vec<u8>), String> {
 
 /// Reads a file into the words lent for its ends and the places for its levels, and into one word each for the unit count and the
 /// number of links.
-pub fn both_read(input: &[u8], table: &[u16], levels: &[i16], units: u16, links: u16) -> Result<u32, String> {
+pub fn both_read(library: &Calls, input: &[u8], table: &[u16], levels: &[i16], units: u16, links: u16) -> Result<u32, String> {
     let mut input = Lent::new(input, BYTE_MARGIN);
     let mut table = Lent::new(table, WORD_MARGIN);
     let mut levels = Lent::new(levels, LEVEL_MARGIN);
     let mut units = Lent::new(&[units], WORD_MARGIN);
     let mut links = Lent::new(&[links], WORD_MARGIN);
-    let proved = (PROVED.read)(input.proved(), table.proved(), levels.proved(), &mut units.proved()[0], &mut links.proved()[0]);
+    let proved = (library.read)(input.proved(), table.proved(), levels.proved(), &mut units.proved()[0], &mut links.proved()[0]);
     let plain = (PLAIN.read)(input.plain(), table.plain(), levels.plain(), &mut units.plain()[0], &mut links.plain()[0]);
     let number = agree(proved, plain)?;
     input.difference("input")?;
@@ -175,11 +229,11 @@ pub fn both_read(input: &[u8], table: &[u16], levels: &[i16], units: u16, links:
 }
 
 /// Writes the file of a table and its levels.
-pub fn both_write(units: u16, table: &[u16], levels: &[i16], out: &[u8]) -> Result<u32, String> {
+pub fn both_write(library: &Calls, units: u16, table: &[u16], levels: &[i16], out: &[u8]) -> Result<u32, String> {
     let mut table = Lent::new(table, WORD_MARGIN);
     let mut levels = Lent::new(levels, LEVEL_MARGIN);
     let mut out = Lent::new(out, BYTE_MARGIN);
-    let proved = (PROVED.write)(units, table.proved(), levels.proved(), out.proved());
+    let proved = (library.write)(units, table.proved(), levels.proved(), out.proved());
     let plain = (PLAIN.write)(units, table.plain(), levels.plain(), out.plain());
     let number = agree(proved, plain)?;
     table.difference("table")?;
