@@ -8,7 +8,8 @@
  * Link with libsurvey_c.a, made by `rt staticlib survey_c` (x86-64).
  *
  * - Re-entrance: the library has no variables of its own, so calls that share no lent memory may run at the same time.
- * - Stack: allow 96 KiB; the deepest call, link_survey_report, was measured at 65 KiB, all others below 30 KiB.
+ * - Stack: allow 96 KiB; the deepest call, link_survey_report, was measured at 65 KiB, link_survey_lifting_order at 36
+ *   KiB, all others below 30 KiB.
  * - Freestanding use: no heap, no files, no start-up code; of the C library only memcpy and memset are needed.
  * - Storing a state: its words may be saved and brought back, but keep a checksum of your own with them, for a changed
  *   bit may leave a state that is kept, and the survey then goes on from what it finds.
@@ -38,18 +39,20 @@
  * levels: link_survey_load, link_survey_read and link_survey_write take them, and a state has 1,024 words more; 5 has
  * link_survey_foreman_line and link_survey_service_line; 6 has seats: link_survey_seat_load and link_survey_tick; 7 has
  * link_survey_load_stored, and link_survey_load, link_survey_seat_load and link_survey_write refuse with 22; 8 has
- * link_survey_load_planned, and a state has 257 words more.
+ * link_survey_load_planned, and a state has 257 words more; 9 has link_survey_ring, link_survey_lifting_order,
+ * link_survey_doubtful, link_survey_one_way and live tables: link_survey_live_open, link_survey_live_add and
+ * link_survey_live_withdraw.
  */
-#define LINK_SURVEY_VERSION 8
+#define LINK_SURVEY_VERSION 9
 
 /*
- * The words of a state, lent by the caller to every call on a state (all but link_survey_report, link_survey_read and
- * link_survey_write): units, links, the ends of the links (2,048); stage, rounds made in the stage, all rounds,
- * requests; then the tables of the stages, each whole, in the order of crates/words/specs/Layout.antt; the levels of the
- * links (1,024), each as its 16 bits in two's complement, 0 past the links after a load; last the parents that the planner
- * drew (256), absent without a plan, and whether a plan was given, any number but 0. Any words are a state.
- * One whose words are out of their bounds is "not kept", and refused with 10 by all calls on a state but
- * the loads. Before the first load the words may hold anything; all zeros are not kept.
+ * The words of a state, lent by the caller to every call on a state (all but link_survey_report, link_survey_read,
+ * link_survey_write, link_survey_one_way and those of live tables): units, links, the ends of the links (2,048); stage,
+ * rounds made in the stage, all rounds, requests; then the tables of the stages, each whole, in the order of
+ * crates/words/specs/Layout.antt; the levels of the links (1,024), each as its 16 bits in two's complement, 0 past the
+ * links after a load; last the parents that the planner drew (256), absent without a plan, and whether a plan was given,
+ * any number but 0. Any words are a state. One whose words are out of their bounds is "not kept", and refused with 10 by
+ * all calls on a state but the loads. Before the first load the words may hold anything; all zeros are not kept.
  */
 #define LINK_SURVEY_STATE_WORDS 12295
 
@@ -57,6 +60,16 @@
 #define LINK_SURVEY_MAX_UNITS 256
 #define LINK_SURVEY_MAX_LINKS 1024
 #define LINK_SURVEY_MAX_ROUNDS 804
+
+/*
+ * The words of a live table, lent by the caller to the three calls of live tables: units, links, the ends of the links
+ * (2,048), the levels (1,024), each as its 16 bits in two's complement, and the number of links at each unit (256). Any
+ * words are a live table; adding and withdrawing judge them.
+ */
+#define LINK_SURVEY_LIVE_WORDS 3330
+
+/* The most pairs "this before that" of a lifting order. */
+#define LINK_SURVEY_MAX_PAIRS 256
 
 /* The seats of an office, and the seat last served before any tick: the search then begins at seat 0. */
 #define LINK_SURVEY_SEATS 8
@@ -88,8 +101,9 @@
 
 /*
  * The customer's numbers of the refusals (from 15 on document 02's): 1 to 3, 6 and 16 of reading a file, 4 to 9, 15
- * and 16 of loading or writing a table, 22 of loading a fresh one or writing it, 10 to 13 of the calls on a state, 14 of
- * whatever writes to a slice, 23 of loading a seat. 17 to 21 are free; take any number but 0 for a refusal.
+ * and 16 of loading, opening or writing a table, 17 and 18 of a planner's tree, 22 of loading a fresh table or writing
+ * it, 10 to 13 of the calls on a state, 14 of whatever writes to a slice, 15 of marks, 19 and 20 of a lifting order, 21
+ * of a withdrawal, 23 of loading a seat. There are no others; take any number but 0 for a refusal.
  */
 enum link_survey_refusal {
     LINK_SURVEY_DONE = 0,            /* not refused */
@@ -102,13 +116,19 @@ enum link_survey_refusal {
     LINK_SURVEY_END_MISSING = 7,     /* an end is no unit */
     LINK_SURVEY_EQUAL_ENDS = 8,      /* a link has equal ends */
     LINK_SURVEY_REPEATED_LINK = 9,   /* two links join the same two units, whichever way round */
-    LINK_SURVEY_NOT_KEPT = 10,       /* the state is not kept; of a tick, a loaded seat or the seat last served */
+    LINK_SURVEY_NOT_KEPT = 10,       /* the state is not kept; of a tick, a loaded seat or the seat last served; of a
+                                        live table, a stored number of links is not the count */
     LINK_SURVEY_AT_END = 11,         /* a round or run is wanted of a finished survey, a tick with every seat finished */
     LINK_SURVEY_BEFORE_END = 12,     /* a question or report is wanted before the end */
     LINK_SURVEY_NO_SUCH_NAME = 13,   /* the unit or position does not exist */
-    LINK_SURVEY_TOO_SHORT = 14,      /* the slice for a report, a line, a file, or a file's ends or levels is too short */
-    LINK_SURVEY_LEVELS_DIFFER = 15,  /* the levels are not as many as the links */
+    LINK_SURVEY_TOO_SHORT = 14,      /* the slice that is written to is too short */
+    LINK_SURVEY_LEVELS_DIFFER = 15,  /* the levels, or the marks, are not as many as the links */
     LINK_SURVEY_LEVEL_OUTSIDE = 16,  /* a level is below -127 or above 0 */
+    LINK_SURVEY_PLAN_LENGTH = 17,    /* the parents are not as many as the units */
+    LINK_SURVEY_PLAN_NO_TREE = 18,   /* the parents are no tree of the site (link_survey_load_planned) */
+    LINK_SURVEY_BAD_PAIRS = 19,      /* more than 256 pairs, an odd number of words, or a pair names no unit */
+    LINK_SURVEY_NO_ORDER = 20,       /* no lifting order exists */
+    LINK_SURVEY_NO_SUCH_LINK = 21,   /* no link joins the two units of a withdrawal */
     LINK_SURVEY_UNLINKED_UNIT = 22,  /* of two or more units one is the end of no link */
     LINK_SURVEY_NO_SUCH_SEAT = 23    /* the seat is above 7 */
 };
@@ -150,6 +170,22 @@ enum link_survey_link_index {
     LINK_SURVEY_LINK_POSITION = 0, /* the position */
     LINK_SURVEY_LINK_LABEL = 1,    /* the least position among the links that share a ring with it, itself included */
     LINK_SURVEY_LINK_LONE = 2      /* 1: a lone link; else 0 */
+};
+
+/* What link_survey_doubtful says of two links: a ring holds both in no setting, in some but not each, in each. */
+enum link_survey_verdict {
+    LINK_SURVEY_NEVER = 0,
+    LINK_SURVEY_PERHAPS = 1,
+    LINK_SURVEY_ALWAYS = 2
+};
+
+/* Where each part of a live table begins in its words. */
+enum link_survey_live_index {
+    LINK_SURVEY_LIVE_UNITS = 0,     /* the number of units */
+    LINK_SURVEY_LIVE_LINKS = 1,     /* the number of links */
+    LINK_SURVEY_LIVE_ENDS = 2,      /* the ends of link j at 2 * j and 2 * j + 1 from here; past the links 65535 */
+    LINK_SURVEY_LIVE_LEVELS = 2050, /* the level of link j at j from here, as its 16 bits; past the links 0 */
+    LINK_SURVEY_LIVE_COUNTS = 3074  /* the number of links at unit v, at v from here */
 };
 
 #ifdef __cplusplus
@@ -301,6 +337,97 @@ uint32_t link_survey_link(const uint16_t state[LINK_SURVEY_STATE_WORDS], uint16_
  * returns  10, 12, 14, or 0.
  */
 uint32_t link_survey_state_report(const uint16_t state[LINK_SURVEY_STATE_WORDS], uint8_t *out, size_t out_len);
+
+/*
+ * A ring that holds two links of the finished survey: each unit is linked to the next and the last to the first. One
+ * position twice asks for a ring through that link. The links are read, and no label.
+ *
+ * first    the position of a link, from 0.
+ * second   that of another, or the same.
+ * out      altered: the units of the ring, a word each, at its front: the two ends of the first link, then on along the
+ *          ring. It has as many places as the site has units, whichever reply follows.
+ * count    altered: the number of units of the ring; 0 where no ring holds both, and then out stays (one word).
+ * returns  10, 12, 13, 14, or 0.
+ */
+uint32_t link_survey_ring(const uint16_t state[LINK_SURVEY_STATE_WORDS], uint16_t first, uint16_t second, uint16_t *out,
+                          size_t out_len, uint16_t *count);
+
+/*
+ * The order in which the units of the finished survey can be lifted one by one: every unit still standing is linked up
+ * with unit 0 through standing units, and unit 0 goes last. Read from its end it takes each time the least-numbered unit
+ * that may stand next. The links are read, and no label.
+ *
+ * pairs    two words a pair, "this unit before that one"; at most LINK_SURVEY_MAX_PAIRS pairs.
+ * out      altered: the units, a word each, the one to be lifted first in front. It has as many places as the site has
+ *          units.
+ * returns  10, 12, 14, 19, 20, or 0.
+ */
+uint32_t link_survey_lifting_order(const uint16_t state[LINK_SURVEY_STATE_WORDS], const uint16_t *pairs,
+                                   size_t pairs_len, uint16_t *out, size_t out_len);
+
+/*
+ * Whether a ring holds two links of the finished survey however many of the doubtful links are absent. One position
+ * twice asks for rings through that link. A doubtful link may be absent itself, so it is never LINK_SURVEY_ALWAYS.
+ *
+ * first    the position of a link, from 0.
+ * second   that of another, or the same.
+ * marks    a byte a link, 0 for a sure one and any other for a doubtful one: as many as there are links.
+ * verdict  altered: one of enum link_survey_verdict (one word).
+ * returns  10, 12, 13, 15, or 0.
+ */
+uint32_t link_survey_doubtful(const uint16_t state[LINK_SURVEY_STATE_WORDS], uint16_t first, uint16_t second,
+                              const uint8_t *marks, size_t marks_len, uint16_t *verdict);
+
+/*
+ * One-way links: each unit gets the least number in its strongly connected group, so that two units have the same number
+ * exactly when each reaches the other along the links. No state is used.
+ *
+ * units    the number of units, 1 to 256.
+ * table    two words a link: from, to. A link each way is no repeat; the same ordered pair twice is 9.
+ * numbers  altered: the number of each unit, a word each, at its front. It has as many places as there are units.
+ * passes   altered: the passes that were made, at most as many as there are groups (one word).
+ * returns  4, 5, 6, 7, 8, 9, 14, or 0.
+ */
+uint32_t link_survey_one_way(uint16_t units, const uint16_t *table, size_t table_len, uint16_t *numbers,
+                             size_t numbers_len, uint16_t *passes);
+
+/*
+ * Live tables: a table of links that changes during the week, with the number of links at each unit. To survey one, load
+ * 2 * m words from LINK_SURVEY_LIVE_ENDS on and m levels from LINK_SURVEY_LIVE_LEVELS on (as int16_t) of its units, with
+ * m its links. No state is used.
+ */
+
+/*
+ * Open a live table from load's tables.
+ *
+ * live     altered: the live table of these links. Its old contents play no part.
+ * units    the number of units, 1 to 256.
+ * table    the two ends of each link, as for link_survey_load.
+ * levels   the level of each link, as for link_survey_load.
+ * returns  4, 5, 6, 15, 16, 7, 8, 9, or 0.
+ */
+uint32_t link_survey_live_open(uint16_t live[LINK_SURVEY_LIVE_WORDS], uint16_t units, const uint16_t *table,
+                               size_t table_len, const int16_t *levels, size_t levels_len);
+
+/*
+ * Add a link at the end. The live table is judged first, then the link.
+ *
+ * live     altered: the live table with this link.
+ * a, b     its two ends.
+ * level    its level.
+ * returns  of the live table 4, 6, 16, 7, 8, 9, 10; of the link 6, 16, 7, 8, 9; or 0.
+ */
+uint32_t link_survey_live_add(uint16_t live[LINK_SURVEY_LIVE_WORDS], uint16_t a, uint16_t b, int16_t level);
+
+/*
+ * Withdraw the link that joins two units. The live table is judged first, then the units. Every later link moves down by
+ * one position, its ends in their order and its level with it.
+ *
+ * live     altered: the live table without this link.
+ * a, b     its two ends, in either order.
+ * returns  of the live table 4, 6, 16, 7, 8, 9, 10; of the units 7, 8, 21; or 0.
+ */
+uint32_t link_survey_live_withdraw(uint16_t live[LINK_SURVEY_LIVE_WORDS], uint16_t a, uint16_t b);
 
 /*
  * Several sites over one channel. Eight seats, each the words of a state, and the number of the seat last served, one

@@ -200,7 +200,8 @@ class Outline:
         self.grown(top + high)
         self.put(
             f'<g class="box {kind}" data-units="{" ".join(map(str, sorted(set(flat))))}" data-links="{" ".join(map(str, links))}">'
-            f'<rect x="{x:.1f}" y="{top:.1f}" width="{w:.1f}" height="{high:.1f}" rx="{3 if kind == "set" else 8}" fill="white" {frame}/>{"".join(said)}</g>'
+            f'<rect x="{x:.1f}" y="{top:.1f}" width="{w:.1f}" height="{high:.1f}" rx="{3 if kind == "set" else 8}" fill="white" {frame}/>'
+            f'{"".join(said)}</g>'
         )
         return top + high
 

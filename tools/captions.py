@@ -44,7 +44,8 @@ def header(losses, left, bottom, wide):
         y += 22
     if loud:
         y -= 12
-        out.append(f'<g class="pieces"><rect x="{left + 14:.0f}" y="{y:.0f}" width="{wide - 28:.0f}" height="{box}" rx="6" fill="white" stroke="{WEAK}" stroke-width="4"/>')
+        frame = f'x="{left + 14:.0f}" y="{y:.0f}" width="{wide - 28:.0f}" height="{box}"'
+        out.append(f'<g class="pieces"><rect {frame} rx="6" fill="white" stroke="{WEAK}" stroke-width="4"/>')
         for k, line in enumerate(loud):
             out.append(text(left + 30, y + 23 + 24 * k, line, f'font-size="{FONT + 1}" font-weight="bold" fill="{WEAK}"'))
         out.append("</g>")

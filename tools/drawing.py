@@ -65,9 +65,11 @@ def legend(losses, styles, tags, wide, room, grouped):
     if deaf:
         row(disc(0, 0, "", "deaf"), f"hears nobody: {listed(deaf)}", f"hears nobody: {len(deaf)} units")
     for tag, part in grouped:
-        row(text(0, 5, tag, f'text-anchor="middle" font-weight="bold" fill="{WEAK}"'), f"separate group: {listed(part)}", f"separate group of {len(part)} units")
+        sample = text(0, 5, tag, f'text-anchor="middle" font-weight="bold" fill="{WEAK}"')
+        row(sample, f"separate group: {listed(part)}", f"separate group of {len(part)} units")
     if losses.unit_parts:
-        row(disc(0, 0, "", "single"), f"single point{plural(losses.unit_parts)}: {listed(losses.unit_parts)}", f"{len(losses.unit_parts)} single points")
+        said = f"single point{plural(losses.unit_parts)}: {listed(losses.unit_parts)}"
+        row(disc(0, 0, "", "single"), said, f"{len(losses.unit_parts)} single points")
     if losses.link_parts:
         named = ", ".join(f"{j} ({site.links[j][0]}-{site.links[j][1]})" for j in sorted(losses.link_parts))
         row(lone(straight(-22, 0, 22, 0)), f"lone link{plural(losses.link_parts)}: {named}", f"{len(losses.link_parts)} lone links")
@@ -133,13 +135,14 @@ def frames_of(plan):
     """The frames of groups and of the units that hear nobody."""
     out = []
     for x, y, w, h, part in plan.frames:
-        out.append(f'<g class="group"><rect x="{x:.1f}" y="{y:.1f}" width="{w:.1f}" height="{h:.1f}" rx="12" fill="none" stroke="{INK}" stroke-width="2.5"/>')
+        frame = f'x="{x:.1f}" y="{y:.1f}" width="{w:.1f}" height="{h:.1f}" rx="12"'
+        out.append(f'<g class="group"><rect {frame} fill="none" stroke="{INK}" stroke-width="2.5"/>')
         out.append(text(x + 14, y + 24, f"group of {len(part)} units", f'font-weight="bold" fill="{INK}"') + "</g>")
     if plan.deaf:
         x, y, w, h, part = plan.deaf
         out.append(
             f'<g class="deaf"><rect x="{x:.1f}" y="{y:.1f}" width="{w:.1f}" height="{h:.1f}" rx="12" fill="none" stroke="{WEAK}" '
-            f'stroke-width="4" stroke-dasharray="{14} {7}"/>'
+            'stroke-width="4" stroke-dasharray="14 7"/>'
         )
         said = "hears nobody" if len(part) == 1 else "hear nobody"
         out.append(text(x + 14, y + 25, said, f'font-size="{FONT + 1}" font-weight="bold" fill="{WEAK}"') + "</g>")

@@ -208,13 +208,15 @@ def html_of(losses, names=None, before=None):
         f"{counted(site.units, 'unit')}, {counted(len(site.links), 'link')}: "
         f"{counted(len(losses.unit_parts), 'single point')}, {counted(len(losses.link_parts), 'lone link')}"
     )
-    tools = '<button data-zoom="1.4">+</button><button data-zoom="0.714">−</button><button data-zoom="0">whole</button><button data-key="">clear</button>'
+    tools = "".join(f'<button data-zoom="{by}">{said}</button>' for by, said in ((1.4, "+"), (0.714, "−"), (0, "whole")))
+    tools += '<button data-key="">clear</button>'
     whole = inline(drawing.full_svg(losses, names, before, bare=True))
+    sheets = f'<div class="sheet" id="whole">{whole}</div>'
     if site.units > drawing.FULL:
-        tools += '<button data-show="blocks" aria-pressed="true">weak places</button><button data-show="whole" aria-pressed="false">all units and links</button>'
-        sheets = f'<div class="sheet" id="blocks">{inline(block_drawing.svg_of(losses, names, bare=True))}</div><div class="sheet" id="whole" hidden>{whole}</div>'
-    else:
-        sheets = f'<div class="sheet" id="whole">{whole}</div>'
+        for sheet, said, first in ("blocks", "weak places", "true"), ("whole", "all units and links", "false"):
+            tools += f'<button data-show="{sheet}" aria-pressed="{first}">{said}</button>'
+        tree = inline(block_drawing.svg_of(losses, names, bare=True))
+        sheets = f'<div class="sheet" id="blocks">{tree}</div>' + sheets.replace('id="whole"', 'id="whole" hidden', 1)
     loud = "".join(f'<p class="loud">{escape(said)}</p>' for said in pieces(losses))
     # no "</" within the data, which would end it
     data = json.dumps(data_of(losses, names), separators=(",", ":"), ensure_ascii=False).replace("</", "<\\/")

@@ -153,13 +153,3 @@ def drawn(route):
         (cx, cy), (x, y) = route[1:]
         return f"{said} Q{cx:.1f} {cy:.1f} {x:.1f} {y:.1f}"
     return said + "".join(f" L{x:.1f} {y:.1f}" for x, y in route[1:])
-
-
-def midway(route):
-    """The middle of a route and the direction there."""
-    points = sampled(route)
-    k = len(points) // 2
-    (ax, ay), (bx, by) = points[max(0, k - 1)], points[min(len(points) - 1, k + 1)]
-    if len(route) == 2:
-        points[k] = (route[0][0] + route[1][0]) / 2, (route[0][1] + route[1][1]) / 2
-    return points[k], (bx - ax, by - ay)

@@ -3,6 +3,7 @@
 Builds the archive by `rt staticlib survey_c` where it is missing or older than the crates, then the examples. What cannot be run for want of `rt` or
 of a compiler is skipped, and said so.
 """
+import ctypes
 import glob
 import os
 import re
@@ -10,6 +11,8 @@ import shutil
 import subprocess
 import tempfile
 import unittest
+
+import request_vectors
 
 ROOT = os.path.dirname(os.path.dirname(os.path.abspath(__file__)))
 EXAMPLES = os.path.join(ROOT, "examples")
@@ -35,6 +38,27 @@ round  25  countdown   2  labels              200A0002D4
 round  27  countdown   0  finished            200B0000D5
 unit 2 is a single point: without it, others lose each other
 link 3, between units 2 and 3, at -127 dBm, is lone: no ring backs it up
+"""
+
+# document 01's case E, two rings that meet in unit 2. By hand from document 02: a lorry in 0-2 opens the ring 0-1-2 and no other; a lifting order is read
+# from its end, 0 and then the least unit that may stand next; 3 is reached from 0, 1, 2 and reaches none; without 0-2 and with 1-3, 0 hangs on 1 alone
+REQUESTS = """\
+ring of links 0 and 1: 0 1 2
+ring of links 0 and 4: none
+a lorry in link 2, links 3 and 5: always
+a lorry in link 2, links 0 and 1: perhaps
+a lorry in link 2, links 0 and 3: never
+lifting order: 4 3 2 1 0
+lifting order, 1 before 2: 4 3 1 2 0
+lifting order, 0 before 3: refused, 20
+one-way links: 0 0 0 3
+passes: 2
+opened, 6 links, at each unit: 2 2 4 2 2
+1-3 added, 7 links, at each unit: 2 3 4 3 2
+2-0 withdrawn, 6 links, at each unit: 1 3 3 3 2
+2-0 withdrawn again, 6 links, at each unit: refused, 21
+level of the last link: -75 dBm
+unit 1 is a single point
 """
 
 
@@ -81,7 +105,7 @@ class Programs(unittest.TestCase):
         folder = tempfile.TemporaryDirectory()
         cls.addClassCleanup(folder.cleanup)
         cls.folder = folder.name
-        for name in "case_b", "handset", "office":
+        for name in "case_b", "handset", "office", "requests":
             command = [found[0], "-std=c99", *WARNINGS, "-I" + os.path.join(ROOT, "include"), example(name + ".c"), ARCHIVE]
             built = subprocess.run(command + ["-o", os.path.join(cls.folder, name)], capture_output=True, text=True, check=False)
             if built.returncode != 0:
@@ -100,6 +124,11 @@ class Programs(unittest.TestCase):
         # cases B and E take 27 and 28 rounds, by turns from seat 0 on: B ends with tick 2 * 27 - 1, E with tick 27 + 28
         printed = "tick 53: seat 0 is finished after 27 rounds\ntick 55: seat 3 is finished after 28 rounds\n"
         self.assertEqual(self.made("office"), (0, printed, ""))
+
+    def test_requests(self):
+        self.assertEqual(self.made("requests"), (0, REQUESTS, ""))
+        manual = contents(os.path.join(ROOT, "docs", "MANUAL.md"))
+        self.assertIn("".join("    " + line + "\n" for line in REQUESTS.splitlines()), manual)
 
     def test_handset(self):
         printed = CASE_B + contents(example("case-b.report.txt"))
@@ -166,6 +195,34 @@ class Programs(unittest.TestCase):
     def test_command(self):
         self.assertEqual(self.made("handset", os.path.join(self.folder, "missing"))[0], 2)
         self.assertEqual(self.made("handset", "a", "b")[0], 2)
+
+
+class Calls(unittest.TestCase):
+    """The vectors of the requests, through the archive as a shared library."""
+
+    @classmethod
+    def setUpClass(cls):
+        found = compilers("cc", "gcc", "clang")
+        if not found:
+            raise unittest.SkipTest("there is no C compiler")
+        archive()
+        folder = tempfile.TemporaryDirectory()
+        cls.addClassCleanup(folder.cleanup)
+        path = os.path.join(folder.name, "survey_c.so")
+        command = [found[0], "-shared", "-o", path, "-Wl,--whole-archive", ARCHIVE, "-Wl,--no-whole-archive"]
+        made = subprocess.run(command, capture_output=True, text=True, check=False)
+        if made.returncode != 0:
+            raise AssertionError(made.stderr)
+        cls.library = ctypes.CDLL(path)
+
+    def test_vectors(self):
+        for family in "rings", "lifting", "doubtful", "one_way", "live":
+            crate = os.path.join(ROOT, "crates", family + "_check")
+            lines = []
+            for name in re.findall(r"\S+\.in\b", contents(os.path.join(crate, "args"))):
+                lines += request_vectors.played(self.library, family, name, contents(os.path.join(crate, "data", name)))
+            with self.subTest(family):
+                self.assertEqual(lines, contents(os.path.join(crate, "stdout")).splitlines())
 
 
 class Texts(unittest.TestCase):

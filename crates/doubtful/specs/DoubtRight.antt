@@ -3,10 +3,11 @@
 use mathlib.Core.Path.{_≡_}
 use mathlib.Core.Logic.{_↔_}
 use mathlib.Core.List.{List}
-use Prim.Native.Nat.{ℕ}
+use Prim.Native.Nat.{ℕ, _<_}
 use lib.ListN.{length}
 use Rattle.table.specs.RefusalLaws.{FirstCause, SomeCause}
 use Rattle.machine.specs.State.{State, links}
+use Rattle.reach.specs.Site.{Site}
 use Rattle.doubtful.specs.declared.Verdict.{Verdict}
 use Rattle.doubtful.specs.declared.Verdict.the-variants.{Always, Perhaps, Never}
 use Rattle.doubtful.specs.Doubtful.{Answer, numberOf, doubtReasons}
@@ -17,6 +18,10 @@ pub record Says (m : ℕ) (ends marks : List ℕ) (i j : ℕ) (reply : Verdict) 
   pub always : (reply ≡ Always) ↔ InEach m ends marks i j
   pub perhaps : (reply ≡ Perhaps) ↔ (InSome m ends marks i j × (InEach m ends marks i j → ⊥))
   pub never : (reply ≡ Never) ↔ (InSome m ends marks i j → ⊥)
+
+-- of any site and two positions
+abbrev pub VerdictTold : ℕ → ℕ → List ℕ → List ℕ → ℕ → ℕ → Verdict → Type 0
+VerdictTold n m ends marks i j reply = Site n m ends → i < m → j < m → Says m ends marks i j reply
 
 pub record DoubtRight (i j : ℕ) (marks : List ℕ) (s : State) (answer : Answer) : Type 0 where
   pub cause : (k : ℕ) → (k ≡ 0 → ⊥) → (numberOf (answer .reply) ≡ k) ↔ FirstCause (doubtReasons i j (length marks) s) k

@@ -19,7 +19,7 @@ use Rattle.ring.specs.Present.{Ringed, Shows, sure, ringed-more}
 use Rattle.doubtful.specs.declared.Verdict.{Verdict}
 use Rattle.doubtful.specs.declared.Verdict.the-variants.{Always, Perhaps, Never, Refused}
 use Rattle.doubtful.specs.Doubtful.{Answer, numberOf, doubtRefusal, doubtReasons}
-use Rattle.doubtful.specs.DoubtRight.{Says, DoubtRight}
+use Rattle.doubtful.specs.DoubtRight.{Says, VerdictTold, DoubtRight}
 use Rattle.doubtful.specs.Settings.{Setting, InEach, InSome}
 
 -- ---- the tests in order
@@ -102,6 +102,35 @@ module _ (m : ℕ) (ends marks : List ℕ) (i j : ℕ) where
         never = (λ e. n, λ w. refl);
       }
 
+-- ---- the verdict
+
+module _ (n m : ℕ) (ends marks : List ℕ) (i j : ℕ) where
+  -- what the number of a ring's units says, for any marks
+  exact : (t ring₀ ring : List ℕ) (r : ℕ) → length ring₀ ≡ 256 → RingTold (sure t) n m ends i j ring₀ ring r → Site n m ends → i < m → j < m
+      → ((r ≡ 0 → ⊥) → Ringed (sure t) m ends i j) × (r ≡ 0 → Ringed (sure t) m ends i j → ⊥)
+  exact t ring₀ ring r long T site hi hj = go (T site hi hj long)
+    where
+      go : ((r ≡ 0) × (Ringed (sure t) m ends i j → ⊥)) ⊎ (Shows (sure t) m ends i j (take r ring) × (r ≡ length (take r ring)))
+          → ((r ≡ 0 → ⊥) → Ringed (sure t) m ends i j) × (r ≡ 0 → Ringed (sure t) m ends i j → ⊥)
+      go (inl (z, h)) = (λ k. absurd (k z), λ q. h)
+      go (inr (S, q)) = (λ k. (take r ring, S .ring, S .first, S .second), λ z. absurd (omega (arith, S .ring .three)))
+
+  module _ (a₀ a₁ : List ℕ) (x : ℕ) (la : length a₀ ≡ 256) (A : RingTold (sure marks) n m ends i j a₀ a₁ x) where
+    pub told-always : (x ≡ 0 → ⊥) → VerdictTold n m ends marks i j Always
+    told-always h site hi hj = says-always m ends marks i j (each m ends marks i j .1 (exact marks a₀ a₁ x la A site hi hj .0 h))
+
+    module _ (z : x ≡ 0) (all b₀ b₁ : List ℕ) (y : ℕ) (counts : (k : ℕ) → getD all k 0 ≡ 0) (lb : length b₀ ≡ 256)
+        (B : RingTold (sure all) n m ends i j b₀ b₁ y) where
+      none-each : Site n m ends → i < m → j < m → InEach m ends marks i j → ⊥
+      none-each site hi hj h = exact marks a₀ a₁ x la A site hi hj .1 z (each m ends marks i j .0 h)
+
+      pub told-perhaps : (y ≡ 0 → ⊥) → VerdictTold n m ends marks i j Perhaps
+      told-perhaps h site hi hj =
+          says-perhaps m ends marks i j (some m ends marks i j all counts .1 (exact all b₀ b₁ y lb B site hi hj .0 h)) (none-each site hi hj)
+
+      pub told-never : y ≡ 0 → VerdictTold n m ends marks i j Never
+      told-never q site hi hj = says-never m ends marks i j (λ h. exact all b₀ b₁ y lb B site hi hj .1 q (some m ends marks i j all counts .0 h))
+
 -- ---- the call
 
 module _ (i j : ℕ) (marks : List ℕ) (s : State) where
@@ -131,36 +160,8 @@ module _ (i j : ℕ) (marks : List ℕ) (s : State) where
       let d = passed-test (not (ltb j (links s))) 13 _ (omega arith) (c .1) in
       (not-false (wellFormed s) (a .0), ltb-true i (links s) (not-false _ (c .0)), ltb-true j (links s) (not-false _ (d .0)))
 
-  module _ (e : refusal ≡ 0) (full : length (s .table .ends) ≡ 2048) where
-    abbrev m : ℕ
-    m = links s
-
-    abbrev ends : List ℕ
-    ends = s .table .ends
-
-    -- what the number of a ring's units says, for any marks
-    exact : (t ring₀ ring : List ℕ) (r : ℕ) → length ring₀ ≡ 256 → RingTold (sure t) (units s) (links s) (s .table .ends) i j ring₀ ring r
-        → ((r ≡ 0 → ⊥) → Ringed (sure t) m ends i j) × (r ≡ 0 → Ringed (sure t) m ends i j → ⊥)
-    exact t ring₀ ring r long T =
-        let p = passed e in
-        go (T (kept-site s full (kept-exact s .0 (p .0))) (p .1) (p .2) long)
-      where
-        go : ((r ≡ 0) × (Ringed (sure t) m ends i j → ⊥)) ⊎ (Shows (sure t) m ends i j (take r ring) × (r ≡ length (take r ring)))
-            → ((r ≡ 0 → ⊥) → Ringed (sure t) m ends i j) × (r ≡ 0 → Ringed (sure t) m ends i j → ⊥)
-        go (inl (z, h)) = (λ n. absurd (n z), λ q. h)
-        go (inr (S, q)) = (λ n. (take r ring, S .ring, S .first, S .second), λ z. absurd (omega (arith, S .ring .three)))
-
-    module _ (a₀ a₁ : List ℕ) (x : ℕ) (la : length a₀ ≡ 256) (A : RingTold (sure marks) (units s) (links s) (s .table .ends) i j a₀ a₁ x) where
-      pub doubt-always : (x ≡ 0 → ⊥) → DoubtRight i j marks s (record { state = s; reply = Always })
-      doubt-always n = right Always (sym e) (λ z. says-always m ends marks i j (each m ends marks i j .1 (exact marks a₀ a₁ x la A .0 n)))
-
-      module _ (z : x ≡ 0) (all b₀ b₁ : List ℕ) (y : ℕ) (counts : (k : ℕ) → getD all k 0 ≡ 0) (lb : length b₀ ≡ 256)
-          (B : RingTold (sure all) (units s) (links s) (s .table .ends) i j b₀ b₁ y) where
-        none-each : InEach m ends marks i j → ⊥
-        none-each h = exact marks a₀ a₁ x la A .1 z (each m ends marks i j .0 h)
-
-        pub doubt-perhaps : (y ≡ 0 → ⊥) → DoubtRight i j marks s (record { state = s; reply = Perhaps })
-        doubt-perhaps n = right Perhaps (sym e) (λ q. says-perhaps m ends marks i j (some m ends marks i j all counts .1 (exact all b₀ b₁ y lb B .0 n)) none-each)
-
-        pub doubt-never : y ≡ 0 → DoubtRight i j marks s (record { state = s; reply = Never })
-        doubt-never q = right Never (sym e) (λ w. says-never m ends marks i j (λ h. exact all b₀ b₁ y lb B .1 q (some m ends marks i j all counts .0 h)))
+  pub doubt-told : (reply : Verdict) → refusal ≡ 0 → length (s .table .ends) ≡ 2048 → numberOf reply ≡ 0
+      → VerdictTold (units s) (links s) (s .table .ends) marks i j reply → DoubtRight i j marks s (record { state = s; reply = reply })
+  doubt-told reply e full z T =
+      let p = passed e in
+      right reply (z ∙ sym e) (λ q. T (kept-site s full (kept-exact s .0 (p .0))) (p .1) (p .2))

@@ -4,7 +4,7 @@ ghost use Prim.Native.Nat.{ℕ};
 ghost use lib.ListN.{length, getD};
 ghost use Rattle.survey.specs.View.{of};
 ghost use Rattle.doubtful.specs.Doubtful.{doubtRefusal, answerOf, numberOf};
-ghost use Rattle.doubtful.specs.DoubtRight.{DoubtRight};
+ghost use Rattle.doubtful.specs.DoubtRight.{VerdictTold, DoubtRight};
 use survey::Clock;
 use survey::Survey;
 
@@ -73,9 +73,35 @@ fn blank() -> [u16; 256]
     [0; 256]
 }
 
-// A byte a link in `marks`, 0 for a sure one and any other for a doubtful one: 10, 12, 13, 15. Two questions are enough: whether the sure links have a
-// ring that holds both, and whether all links have one.
-pub fn doubt(survey: Survey, first: u16, second: u16, marks: &[u8]) -> Answer
+// A byte a link in `marks`, 0 for a sure one and any other for a doubtful one. Two questions are enough: whether the sure links of a site have a ring that
+// holds both, and whether all links have one.
+pub fn judged<'a>(
+    marks: &'a [u8],
+    units: u16,
+    links: u16,
+    ends: &'a [u16],
+    first: u16,
+    second: u16,
+) -> Verdict
+    ensures number { λ r. ⌜ numberOf r ≡ 0 ⌝ }
+    ensures told { λ r. ⌜ VerdictTold units links (now (ends .entry)) (now (marks .entry)) first second r ⌝ }
+{
+    let mut found = blank();
+    let sure = showing::ring(marks, units, links, ends, first, second, &mut found);
+    if sure != 0 {
+        return Verdict::Always;
+    }
+    let none = unmarked();
+    let mut other = blank();
+    let all = showing::ring(&none, units, links, ends, first, second, &mut other);
+    if all != 0 {
+        return Verdict::Perhaps;
+    }
+    Verdict::Never
+}
+
+// Of a finished survey: 10, 12, 13, 15.
+pub fn doubt<'a>(survey: Survey, first: u16, second: u16, marks: &'a [u8]) -> Answer
     ensures { λ r. ⌜ DoubtRight first second (now (marks .entry)) (of survey) (answerOf r) ⌝ }
 {
     let refused = refusal(survey, first, second, marks.len());
@@ -87,41 +113,6 @@ pub fn doubt(survey: Survey, first: u16, second: u16, marks: &[u8]) -> Answer
     }
     let units = survey.table.units;
     let links = survey.table.links;
-    let mut found = blank();
-    let sure = showing::ring(
-        marks,
-        units,
-        links,
-        &survey.table.ends,
-        first,
-        second,
-        &mut found,
-    );
-    if sure != 0 {
-        return Answer {
-            survey,
-            reply: Verdict::Always,
-        };
-    }
-    let none = unmarked();
-    let mut other = blank();
-    let all = showing::ring(
-        &none,
-        units,
-        links,
-        &survey.table.ends,
-        first,
-        second,
-        &mut other,
-    );
-    if all != 0 {
-        return Answer {
-            survey,
-            reply: Verdict::Perhaps,
-        };
-    }
-    Answer {
-        survey,
-        reply: Verdict::Never,
-    }
+    let reply = judged(marks, units, links, &survey.table.ends, first, second);
+    Answer { survey, reply }
 }

@@ -98,7 +98,7 @@ pub record Spreads {X : Type 0} (mk : List ℕ → Clock → ℕ → X) (on : X 
   pub to : k ≤ 10
   pub runs : (value : List ℕ) (c : Clock) (made : ℕ) → inStage n k c ≡ true → on (mk value c made) ≡ true
   pub rests : (value : List ℕ) (c : Clock) (made : ℕ) → c .stage ≡ k + 1 → on (mk value c made) ≡ false
-  pub first : (value : List ℕ) (c : Clock) (made : ℕ) → c .made ≡ 0
+  pub first : (value : List ℕ) (c : Clock) (made : ℕ) → c .made ≡ 0 → Fine (said value)
       → one (mk value c made) ≡ mk (spread n m ends (said value)) (nextClock (lastAt n false c) 0 c) (made + 1)
   pub later : (value : List ℕ) (c : Clock) (made : ℕ) → (c .made ≡ 0 → ⊥) → Fine value
       → one (mk value c made) ≡ mk (spread n m ends value) (nextClock (lastAt n (agree n value (spread n m ends value)) c) 0 c) (made + 1)
@@ -178,7 +178,7 @@ module _ {X : Type 0} (mk : List ℕ → Clock → ℕ → X) (on : X → Bool) 
       let here : c .stage ≡ k = stands n k c inside in
       let room : c .made + 2 ≤ ceiling n k = omega (arith, below) in
       let after : one (mk value c made) ≡ mk (spread n m ends (said value)) (nextClock false 0 c) (made + 1) =
-      s .first value c made none ∙ rw (not-last n k c here room) refl in
+      s .first value c made none fine ∙ rw (not-last n k c here room) refl in
       let rest : stageRun on one b (mk (spread n m ends (said value)) (nextClock false 0 c) (made + 1))
       ≡ mk (over n last (spread n m ends (said value))) (passed (r - 1 + 1) (nextClock false 0 c)) (made + 1 + (r - 1 + 1)) =
       run-later (r - 1) b (spread n m ends (said value)) (nextClock false 0 c) (made + 1) last (λ (u : ℕ). wait u - 1) (waits-less n m ends (said value) last wait r (r - 1) refl w)

@@ -58,7 +58,7 @@ heard-above m ends value v z own pairs =
     go j l (no d) (yes e) = rw (ne-eqb (endA ends j) v d, eq-eqb (endB ends j) v e) (pairs j (endA ends j) l (inr (refl, e)))
     go j l (no d) (no e) = rw (ne-eqb (endA ends j) v d, ne-eqb (endB ends j) v e) own
 
-heard-own : (m : ℕ) (ends value : List ℕ) (v : ℕ) → leastHeard m ends value v ≤ at value v
+pub heard-own : (m : ℕ) (ends value : List ℕ) (v : ℕ) → leastHeard m ends value v ≤ at value v
 unfolding leastHeard
 heard-own m ends value v = least-start m (λ (j : ℕ). heard value (endA ends j) (endB ends j) v) (at value v)
 

@@ -11,6 +11,7 @@ ghost use Rattle.words.specs.Layout.{stateOf};
 ghost use Rattle.lent.specs.Face.{said};
 pub use file_calls::read;
 pub use file_calls::write;
+pub use questions::refusal;
 pub use stepper::round;
 pub use stepper::run;
 

@@ -11,7 +11,7 @@ ghost use Rattle.machine.specs.Calls.{questionRefusal};
 ghost use Rattle.words.specs.Layout.{stateOf};
 
 // The number of the first cause among 10, 12, 13, given whether the unit or position exists.
-pub(crate) fn refusal(state: &[u16; STATE_WORDS], exists: bool) -> u32
+pub fn refusal(state: &[u16; STATE_WORDS], exists: bool) -> u32
     ensures { λ r. ⌜ r ≡ questionRefusal (stateOf (now (state .entry))) exists ⌝ }
 {
     if !words::kept(state) {

@@ -4,13 +4,13 @@
 use mathlib.Core.Path.{_≡_}
 use mathlib.Core.Logic.{_⊎_, _↔_}
 use mathlib.Core.List.{List, _∷_, _++_}
-use Prim.Native.Nat.{ℕ, _≤_}
+use Prim.Native.Nat.{ℕ, _≤_, _<_}
 use lib.ListN.{length, drop}
 use Rattle.table.specs.RefusalLaws.{FirstCause, SomeCause}
 use Rattle.table.specs.Table.{endA, endB}
 use Rattle.graph.specs.Rings.{Ring, Holds, OnRing}
 use Rattle.machine.specs.State.{State, units, links}
-use Rattle.reach.specs.Site.{Link}
+use Rattle.reach.specs.Site.{Site, Link}
 use Rattle.shown.specs.declared.Shown.{Shown}
 use Rattle.shown.specs.declared.Shown.the-variants.{NoRing}
 use Rattle.shown.specs.declared.Shown.the-variants as Replies
@@ -24,6 +24,16 @@ pub record RingThrough (n m : ℕ) (ends : List ℕ) (i j : ℕ) (r : List ℕ) 
   pub first : Holds r (endA ends i) (endB ends i)
   pub second : Holds r (endA ends j) (endB ends j)
   pub few : length r ≤ n
+
+-- r is 0 and no ring exists, or a ring of r units is laid at the front
+abbrev pub Laid : ℕ → ℕ → List ℕ → ℕ → ℕ → List ℕ → List ℕ → ℕ → Type 0
+Laid n m ends i j out new r =
+    ((r ≡ 0) × (OnRing (Link m ends) (endA ends i) (endB ends i) (endA ends j) (endB ends j) → ⊥) × (new ≡ out))
+    ⊎ ((l : List ℕ) × (r ≡ length l) × RingThrough n m ends i j l × (new ≡ l ++ drop (length l) out))
+
+-- of any site, two positions and places for all units
+abbrev pub RingLaid : ℕ → ℕ → List ℕ → ℕ → ℕ → List ℕ → List ℕ → ℕ → Type 0
+RingLaid n m ends i j out new r = Site n m ends → i < m → j < m → n ≤ length out → Laid n m ends i j out new r
 
 -- no ring exists, or one is written
 abbrev pub Told : ℕ → ℕ → List ℕ → ℕ → ℕ → List ℕ → Shown → List ℕ → Type 0

@@ -17,7 +17,7 @@ use Rattle.graph.specs.Walks.{walk-map, ring-closed, closed-ring}
 use Rattle.machine.specs.Kept.{kept-exact}
 use Rattle.machine.specs.State.{State, units, links, finished, FINISHED}
 use Rattle.machine.specs.WellFormed.{wellFormed}
-use Rattle.reach.specs.Site.{Site, Link}
+use Rattle.reach.specs.Site.{Link}
 use Rattle.ring.specs.Closing.{shows-short}
 use Rattle.ring.specs.Found.{RingTold}
 use Rattle.ring.specs.KeptSite.{kept-site}
@@ -25,7 +25,7 @@ use Rattle.ring.specs.Present.{Present, Ringed, Shows, sure}
 use Rattle.shown.specs.declared.Shown.the-variants.{NoRing, Refused}
 use Rattle.shown.specs.declared.Shown.the-variants as Replies
 use Rattle.shown.specs.Shown.{Answer, numberOf, shownRefusal, shownReasons}
-use Rattle.shown.specs.ShownRight.{RingThrough, Told, ShownRight}
+use Rattle.shown.specs.ShownRight.{RingThrough, Laid, RingLaid, Told, ShownRight}
 
 -- ---- the tests in order
 
@@ -68,6 +68,43 @@ front-over (suc r) [] out h g = absurd (omega arith)
 front-over (suc r) (x ∷ t) [] h g = absurd (omega arith)
 front-over (suc r) (x ∷ t) (y ∷ out) h g = ap (λ (l : List ℕ). x ∷ l) (front-over r t out (omega arith) (omega arith))
 
+-- ---- the ring that is laid
+
+-- places past it
+pub over-past : (r : ℕ) (ring out new : List ℕ) → new ≡ over r (λ (k : ℕ). getD ring k 0) out → drop r new ≡ drop r out
+over-past r ring out new e = ap (λ (l : List ℕ). drop r l) e ∙ go r (λ (k : ℕ). getD ring k 0) out
+  where
+    go : (r : ℕ) (f : ℕ → ℕ) (out : List ℕ) → drop r (over r f out) ≡ drop r out
+    go zero f out = refl
+    go (suc r) f [] = refl
+    go (suc r) f (x ∷ out) = go r (λ (k : ℕ). f (suc k)) out
+
+module _ (n m : ℕ) (ends : List ℕ) (i j : ℕ) (out marks ring₀ ring : List ℕ) (r : ℕ) (all : (k : ℕ) → getD marks k 0 ≡ 0) (long : length ring₀ ≡ 256)
+    (T : RingTold (sure marks) n m ends i j ring₀ ring r) where
+  link : (u v : ℕ) → Present (sure marks) m ends u v → Link m ends u v
+  link u v (k, l, o, q) = (k, l, q)
+
+  present : (u v : ℕ) → Link m ends u v → Present (sure marks) m ends u v
+  present u v (k, l, q) = (k, l, eq-eqb (getD marks k 0) 0 (all k), q)
+
+  pub ring-laid : (new : List ℕ) → new ≡ over r (λ (k : ℕ). getD ring k 0) out → RingLaid n m ends i j out new r
+  ring-laid new w site hi hj room = go (T site hi hj long)
+    where
+      go : ((r ≡ 0) × (Ringed (sure marks) m ends i j → ⊥)) ⊎ (Shows (sure marks) m ends i j (take r ring) × (r ≡ length (take r ring)))
+          → Laid n m ends i j out new r
+      go (inl (z, h)) = inl
+          (z, λ o. h (onRing-more (Link m ends) (Present (sure marks) m ends) present (endA ends i) (endB ends i) (endA ends j) (endB ends j) o), w ∙ ap (λ (k : ℕ). over k (λ (v : ℕ). getD ring v 0) out) z)
+      go (inr (S, q)) =
+          let short : length (take r ring) ≤ n = shows-short site S in
+          inr (
+            take r ring,
+            q,
+            record { ring = ring-map (Present (sure marks) m ends) (Link m ends) link (take r ring) (S .ring); rest = S .rest; starts = S .starts; first = S .first; second = S .second; few = short },
+            w ∙ front-over r ring out (omega (arith, q, length-take r ring)) (omega (arith, q, short, room)) ∙ ap (λ (k : ℕ). take r ring ++ drop k out) q,
+          )
+
+-- ---- the call
+
 module _ (i j : ℕ) (s : State) (out : List ℕ) where
   abbrev refusal : ℕ
   refusal = shownRefusal i j (length out) s
@@ -97,47 +134,28 @@ module _ (i j : ℕ) (s : State) (out : List ℕ) where
       let f = passed-test (ltb (length out) (units s)) 14 _ (omega arith) (d .1) in
       (not-false (wellFormed s) (a .0), ltb-true i (links s) (not-false _ (c .0)), ltb-true j (links s) (not-false _ (d .0)), ltb-false (length out) (units s) (f .0))
 
-  module _ (marks ring₀ ring : List ℕ) (r : ℕ) (e : refusal ≡ 0) (full : length (s .table .ends) ≡ 2048) (all : (k : ℕ) → getD marks k 0 ≡ 0) (long : length ring₀ ≡ 256)
-      (T : RingTold (sure marks) (units s) (links s) (s .table .ends) i j ring₀ ring r) where
+  module _ (new : List ℕ) (r : ℕ) (e : refusal ≡ 0) (full : length (s .table .ends) ≡ 2048) (L : RingLaid (units s) (links s) (s .table .ends) i j out new r) where
     abbrev m : ℕ
     m = links s
 
     abbrev ends : List ℕ
     ends = s .table .ends
 
-    P : (wellFormed s ≡ true) × (i < links s) × (j < links s) × (units s ≤ length out)
-    P = passed e
+    given : Laid (units s) m ends i j out new r
+    given = let P = passed e in L (kept-site s full (kept-exact s .0 (P .0))) (P .1) (P .2) (P .3)
 
-    site : Site (units s) (links s) (s .table .ends)
-    site = kept-site s full (kept-exact s .0 (P .0))
-
-    given : ((r ≡ 0) × (Ringed (sure marks) m ends i j → ⊥)) ⊎ (Shows (sure marks) m ends i j (take r ring) × (r ≡ length (take r ring)))
-    given = T site (P .1) (P .2) long
-
-    link : (u v : ℕ) → Present (sure marks) m ends u v → Link m ends u v
-    link u v (k, l, o, q) = (k, l, q)
-
-    present : (u v : ℕ) → Link m ends u v → Present (sure marks) m ends u v
-    present u v (k, l, q) = (k, l, eq-eqb (getD marks k 0) 0 (all k), q)
-
-    pub shown-none : r ≡ 0 → ShownRight i j s out (record { state = s; reply = NoRing }) out
-    shown-none z = right (record { state = s; reply = NoRing }) out (sym e) refl (λ h. refl) (λ h. inl (refl, none given, refl))
+    pub shown-none : r ≡ 0 → ShownRight i j s out (record { state = s; reply = NoRing }) new
+    shown-none z = right (record { state = s; reply = NoRing }) new (sym e) refl (λ h. absurd (h e)) (λ h. inl (none given))
       where
-        none : ((r ≡ 0) × (Ringed (sure marks) m ends i j → ⊥)) ⊎ (Shows (sure marks) m ends i j (take r ring) × (r ≡ length (take r ring)))
-            → OnRing (Link m ends) (endA ends i) (endB ends i) (endA ends j) (endB ends j) → ⊥
-        none (inl (q, h)) o = h (onRing-more (Link m ends) (Present (sure marks) m ends) present (endA ends i) (endB ends i) (endA ends j) (endB ends j) o)
-        none (inr (S, q)) o = omega (arith, S .ring .three)
+        none : Laid (units s) m ends i j out new r
+            → (NoRing ≡ NoRing) × (OnRing (Link m ends) (endA ends i) (endB ends i) (endA ends j) (endB ends j) → ⊥) × (new ≡ out)
+        none (inl (q, h, w)) = (refl, h, w)
+        none (inr (l, q, R, w)) = absurd (omega (arith, R .ring .three))
 
-    pub shown-ring : (new : List ℕ) → (r ≡ 0 → ⊥) → new ≡ over r (λ (k : ℕ). getD ring k 0) out → ShownRight i j s out (record { state = s; reply = Replies.Ring r }) new
-    shown-ring new h w = right (record { state = s; reply = Replies.Ring r }) new (sym e) refl (λ q. absurd (q e)) (λ q. inr (one given))
+    pub shown-ring : (r ≡ 0 → ⊥) → ShownRight i j s out (record { state = s; reply = Replies.Ring r }) new
+    shown-ring h = right (record { state = s; reply = Replies.Ring r }) new (sym e) refl (λ q. absurd (q e)) (λ q. inr (one given))
       where
-        one : ((r ≡ 0) × (Ringed (sure marks) m ends i j → ⊥)) ⊎ (Shows (sure marks) m ends i j (take r ring) × (r ≡ length (take r ring)))
+        one : Laid (units s) m ends i j out new r
             → (l : List ℕ) × (Replies.Ring r ≡ Replies.Ring (length l)) × RingThrough (units s) m ends i j l × (new ≡ l ++ drop (length l) out)
-        one (inl (z, q)) = absurd (h z)
-        one (inr (S, q)) =
-            let short : length (take r ring) ≤ units s = shows-short site S in (
-              take r ring,
-              ap Replies.Ring q,
-              record { ring = ring-map (Present (sure marks) m ends) (Link m ends) link (take r ring) (S .ring); rest = S .rest; starts = S .starts; first = S .first; second = S .second; few = short },
-              w ∙ front-over r ring out (omega (arith, q, length-take r ring)) (omega (arith, q, short, P .3)) ∙ ap (λ (k : ℕ). take r ring ++ drop k out) q,
-            )
+        one (inl (z, q, w)) = absurd (h z)
+        one (inr (l, q, R, w)) = (l, ap Replies.Ring q, R, w)

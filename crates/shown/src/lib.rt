@@ -1,11 +1,11 @@
 // A ring of a finished survey that holds two links (T-04), by value.
 ghost use mathlib.Core.Path.{_≡_};
 ghost use Prim.Native.Nat.{ℕ, _<_};
-ghost use lib.ListN.{length, getD};
+ghost use lib.ListN.{length, getD, drop};
 ghost use Rattle.lists.specs.Tables.{over};
 ghost use Rattle.survey.specs.View.{of};
 ghost use Rattle.shown.specs.Shown.{shownRefusal, answerOf, numberOf};
-ghost use Rattle.shown.specs.ShownRight.{ShownRight};
+ghost use Rattle.shown.specs.ShownRight.{RingLaid, ShownRight};
 use survey::Clock;
 use survey::Survey;
 
@@ -84,8 +84,27 @@ fn lay<'a>(count: u16, ring: &'a [u16], out: &mut [u16])
     }
 }
 
-// The units of a ring that holds both links at the front of `out`, the two ends of the first link before the others: 10, 12, 13, 14. Words past the ring
-// stay, and all of them where there is none.
+// The units of a ring of a site that holds both links at the front of `out`, the two ends of the first link before the others, and how many they are;
+// 0 where there is none. Words past so many stay, whatever the table is.
+pub fn lay_ring<'a>(
+    units: u16,
+    links: u16,
+    ends: &'a [u16],
+    first: u16,
+    second: u16,
+    out: &mut [u16],
+) -> u16
+    ensures laid { λ r. ⌜ RingLaid units links (now (ends .entry)) first second (now (out .entry)) (now (out .exit)) r ⌝ }
+    ensures past { λ r. ⌜ drop r (now (out .exit)) ≡ drop r (now (out .entry)) ⌝ }
+{
+    let marks = unmarked();
+    let mut found = blank();
+    let count = showing::ring(&marks, units, links, ends, first, second, &mut found);
+    lay(count, &found, out);
+    count
+}
+
+// The ring of a finished survey: 10, 12, 13, 14. Words past the ring stay, and all of them where there is none.
 pub fn show(survey: Survey, first: u16, second: u16, out: &mut [u16]) -> Answer
     ensures { λ r. ⌜ ShownRight first second (of survey) (now (out .entry)) (answerOf r) (now (out .exit)) ⌝ }
 {
@@ -96,24 +115,15 @@ pub fn show(survey: Survey, first: u16, second: u16, out: &mut [u16]) -> Answer
             reply: Shown::Refused(refused),
         };
     }
-    let marks = unmarked();
-    let mut found = blank();
-    let count = showing::ring(
-        &marks,
-        survey.table.units,
-        survey.table.links,
-        &survey.table.ends,
-        first,
-        second,
-        &mut found,
-    );
+    let units = survey.table.units;
+    let links = survey.table.links;
+    let count = lay_ring(units, links, &survey.table.ends, first, second, out);
     if count == 0 {
         return Answer {
             survey,
             reply: Shown::NoRing,
         };
     }
-    lay(count, &found, out);
     Answer {
         survey,
         reply: Shown::Ring(count),

@@ -1,5 +1,8 @@
 // The survey for callers in C: the state is an array of words that the caller lends (words/specs/Layout.antt), a reply an array of its fixed size. A
 // number that comes back is document 01's number of the refusal, 0 where the call was not refused; on a refusal nothing lent is altered.
+mod asked;
+mod live_tables;
+
 use words::STATE_WORDS;
 ghost use mathlib.Core.Path.{_≡_};
 ghost use Prim.Native.Nat.{ℕ};

@@ -6,7 +6,7 @@ ghost use mathlib.Core.Path.{_≡_};
 ghost use Prim.Native.Nat.{_≤_, _<_};
 ghost use lib.ListN.{length};
 
-// A distance for each unit, and the unit reached last.
+// A distance for each unit, and the unit reached last; absent where all had one.
 pub struct Found {
     pub far: [u16; 256],
     pub tip: u16,
@@ -15,13 +15,25 @@ pub struct Found {
 pub(crate) fn distances(units: u16, links: u16, made: u16, ends: &[u16], dist: [u16; 256]) -> Found
     requires { ⌜ (units ≤ 256) × (links ≤ 1024) × (length (now ends) ≡ 2048) ⌝ }
 {
-    let mut first = tables::blank();
-    let mut next = no_places();
-    chain(links, ends, &mut first, &mut next);
     let mut far = dist;
     let mut queue = tables::blank();
     let seeds = begin(units, values::less(made, 1), &far, &mut queue);
-    let count = follow(ends, &first, &next, &mut far, &mut queue, seeds);
+    let absent = missing(units, &far);
+    if absent == 0 {
+        return Found { far, tip: ABSENT };
+    }
+    let mut first = tables::blank();
+    let mut next = no_places();
+    chain(links, ends, &mut first, &mut next);
+    let count = follow(
+        seeds + absent,
+        ends,
+        &first,
+        &next,
+        &mut far,
+        &mut queue,
+        seeds,
+    );
     let last = values::less(count, 1) as usize;
     let tip = slices::word(&queue, last);
     Found { far, tip }
@@ -56,6 +68,13 @@ fn hang<'a>(of: u16, i: u16, ends: &[u16], first: &'a mut [u16], next: &'a mut [
     first[v] = i;
 }
 
+// 1 where the test holds.
+fn one_if(test: bool) -> u16
+    ensures { λ r. ⌜ r ≤ 1 ⌝ }
+{
+    if test { 1 } else { 0 }
+}
+
 // The units at this distance stand in the queue.
 fn begin(units: u16, here: u16, far: &[u16], queue: &mut [u16]) -> u16
     requires { ⌜ (units ≤ 256) × (length (now far) ≡ 256) × (length (now queue) ≡ 256) ⌝ }
@@ -67,14 +86,30 @@ fn begin(units: u16, here: u16, far: &[u16], queue: &mut [u16]) -> u16
         let at = v as usize;
         let free = count as usize;
         queue[free] = v;
-        count += values::choose(far[at] == here, 1, 0);
+        count += one_if(far[at] == here);
         v += 1;
     }
     count
 }
 
-// The queue, which grows.
+// The units without a distance.
+fn missing(units: u16, far: &[u16]) -> u16
+    requires { ⌜ (units ≤ 256) × (length (now far) ≡ 256) ⌝ }
+    ensures { λ r. ⌜ r ≤ 256 ⌝ }
+{
+    let mut count = 0;
+    let mut v = 0;
+    while v < units {
+        let at = v as usize;
+        count += one_if(far[at] == ABSENT);
+        v += 1;
+    }
+    count
+}
+
+// The queue, which grows until all that can be reached stand in it.
 fn follow<'a>(
+    all: u16,
     ends: &'a [u16],
     first: &'a [u16],
     next: &'a [u16],
@@ -88,6 +123,9 @@ fn follow<'a>(
     let mut count = seeds;
     let mut k = 0;
     while k < count {
+        if all <= count {
+            return count;
+        }
         let at = k as usize;
         let u = (queue[at] % 256) as usize;
         let d = std::num::wrapping_add_u16(far[u], 1);

@@ -1,10 +1,7 @@
 -- No more units in the queue than were looked at.
 use mathlib.Core.Path.{_≡_}
-use mathlib.Core.Bool.{Bool, true, false, cond}
-use Prim.Native.Nat.{ℕ, _≤_, _-_}
-use native.Mathlib.Omega.{arith}
-use lib.Dec.{eqb}
-use lib.ListN.{length, getD}
+use Prim.Native.Nat.{_≤_, _-_}
+use lib.ListN.{length}
 use borrow.Author.Needs.{needs}
 use Rattle.tree.proofs.ahead.begin.Statement.{statement}
 use Rattle.tree.proofs.ahead.begin.Tie as tie
@@ -14,16 +11,6 @@ Inv-loop units here far queue₀ count₀ v₀ queue count v = (v ≤ units) × 
 
 abbrev μ-loop : tie.MeasureT-loop
 μ-loop units here far queue₀ count₀ v₀ queue count v = units - v
-
-one-at-most : (b : Bool) (x : ℕ) → x ≡ cond b 1 0 → x ≤ 1
-one-at-most true x e = omega (arith, e)
-one-at-most false x e = omega (arith, e)
-
-step : (c : tie.After-choose Inv-loop μ-loop) → c .choose .result ≤ 1
-step c =
-    let s = c .before .before .before in
-    let a = s .before .before .before .args in
-    one-at-most (eqb (getD (a .far .now) (s .loop .v) 0) (a .here)) (c .choose .result) (c .choose .ensures)
 
 loop-holds : tie.Need-loop-holds Inv-loop μ-loop
 loop-holds c = search needs
@@ -40,19 +27,17 @@ mul-queue c = search needs
 slice-write-queue : tie.Need-slice-write-queue Inv-loop μ-loop
 slice-write-queue c = search needs
 
-mul-choose : tie.Need-mul-choose Inv-loop μ-loop
-mul-choose c = search needs
+mul-one-if : tie.Need-mul-one-if Inv-loop μ-loop
+mul-one-if c = search needs
 
-shared-slice-read-choose : tie.Need-shared-slice-read-choose Inv-loop μ-loop
-shared-slice-read-choose c = search needs
+shared-slice-read-one-if : tie.Need-shared-slice-read-one-if Inv-loop μ-loop
+shared-slice-read-one-if c = search needs
 
-choose-requires : tie.Need-choose-requires Inv-loop μ-loop
-choose-requires c κs = search needs
+one-if-requires : tie.Need-one-if-requires Inv-loop μ-loop
+one-if-requires c κs = search needs
 
 add-count : tie.Need-add-count Inv-loop μ-loop
-add-count c =
-    let s = c .before .before .before in
-    record { fits = omega (arith, step c, s .loop .inv .0, s .loop .inv .1, s .before .before .before .pre .0) }
+add-count c = search needs
 
 add-v : tie.Need-add-v Inv-loop μ-loop
 add-v c = search needs
@@ -61,9 +46,7 @@ loop-less : tie.Need-loop-less Inv-loop μ-loop
 loop-less c = search needs
 
 loop-again : tie.Need-loop-again Inv-loop μ-loop
-loop-again c =
-    let s = c .before .before .before in
-    (search needs, omega (arith, step c, s .loop .inv .1), search needs)
+loop-again c = search needs
 
 same-length : tie.Need-same-length Inv-loop μ-loop
 same-length c = search needs
@@ -82,9 +65,9 @@ begin-spec =
     cast-free
     mul-queue
     slice-write-queue
-    mul-choose
-    shared-slice-read-choose
-    choose-requires
+    mul-one-if
+    shared-slice-read-one-if
+    one-if-requires
     add-count
     add-v
     loop-less

@@ -7,13 +7,22 @@ use Rattle.tree.proofs.ahead.follow.Statement.{statement}
 use Rattle.tree.proofs.ahead.follow.Tie as tie
 
 abbrev Inv-loop : tie.InvT-loop
-Inv-loop ends first next far₀ queue₀ seeds count₀ k₀ far queue count k = (count ≤ 256) × (length far ≡ 256) × (length queue ≡ 256)
+Inv-loop all ends first next far₀ queue₀ seeds count₀ k₀ far queue count k = (count ≤ 256) × (length far ≡ 256) × (length queue ≡ 256)
 
 abbrev μ-loop : tie.MeasureT-loop
-μ-loop ends first next far₀ queue₀ seeds count₀ k₀ far queue count k = 256 - k
+μ-loop all ends first next far₀ queue₀ seeds count₀ k₀ far queue count k = 256 - k
 
 loop-holds : tie.Need-loop-holds Inv-loop μ-loop
 loop-holds c = search needs
+
+same-length : tie.Need-same-length Inv-loop μ-loop
+same-length c = search needs
+
+same-length-2 : tie.Need-same-length-2 Inv-loop μ-loop
+same-length-2 c = search needs
+
+returns : tie.Need-returns Inv-loop μ-loop
+returns c = search needs
 
 cast-at : tie.Need-cast-at Inv-loop μ-loop
 cast-at c = search needs
@@ -54,14 +63,14 @@ loop-less c = search needs
 loop-again : tie.Need-loop-again Inv-loop μ-loop
 loop-again c = search needs
 
-same-length : tie.Need-same-length Inv-loop μ-loop
-same-length c = search needs
+same-length-3 : tie.Need-same-length-3 Inv-loop μ-loop
+same-length-3 c = search needs
 
-same-length-2 : tie.Need-same-length-2 Inv-loop μ-loop
-same-length-2 c = search needs
+same-length-4 : tie.Need-same-length-4 Inv-loop μ-loop
+same-length-4 c = search needs
 
-returns : tie.Need-returns Inv-loop μ-loop
-returns c = search needs
+returns-2 : tie.Need-returns-2 Inv-loop μ-loop
+returns-2 c = search needs
 
 pub follow-spec : {M : Type 1} → statement M
 follow-spec =
@@ -70,6 +79,9 @@ follow-spec =
     Inv-loop
     μ-loop
     loop-holds
+    same-length
+    same-length-2
+    returns
     cast-at
     mul-u
     slice-read-u
@@ -83,6 +95,6 @@ follow-spec =
     add-k
     loop-less
     loop-again
-    same-length
-    same-length-2
-    returns)
+    same-length-3
+    same-length-4
+    returns-2)

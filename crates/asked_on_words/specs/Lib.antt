@@ -1,0 +1,7 @@
+pub mod NumbersSaid
+pub mod LiftingSaid
+pub mod TwoLinks
+pub mod RingSaid
+pub mod RingSaidLaws
+pub mod DoubtSaid
+pub mod DoubtSaidLaws

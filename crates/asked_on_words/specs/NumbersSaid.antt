@@ -1,0 +1,28 @@
+-- What the word that is lent for the passes holds, by the reply of `one_way`.
+use mathlib.Core.Path.{_≡_, refl}
+use mathlib.Core.Bool.{true, false}
+use mathlib.Core.Logic.{_⊎_, inl, inr}
+use mathlib.Core.List.{List}
+use Prim.Native.Nat.{ℕ}
+use lib.Dec.{eqb}
+use lib.ListN.{length}
+use Rattle.lists.specs.Tests.{either}
+use Rattle.lent.specs.FileFace.{wordSaid}
+use Rattle.one_way.specs.declared.Numbering.{Numbering}
+use Rattle.one_way.specs.declared.Numbering.the-variants.{Passes, Refused}
+use Rattle.one_way.specs.MinLabel.{minLabel}
+use Rattle.one_way.specs.Numbering.{strongRefusal, strongReply}
+
+abbrev pub passesSaid : Numbering → ℕ → ℕ
+passesSaid (Passes k) old = k
+passesSaid (Refused k) old = old
+
+pub passes-said : (n : ℕ) (t out : List ℕ) (old : ℕ)
+    → passesSaid (strongReply n t out) old ≡ wordSaid (strongRefusal n t (length out)) (minLabel n t out .1) old
+unfolding strongReply
+passes-said n t out old = go (either (eqb (strongRefusal n t (length out)) 0))
+  where
+    go : (eqb (strongRefusal n t (length out)) 0 ≡ true) ⊎ (eqb (strongRefusal n t (length out)) 0 ≡ false)
+        → passesSaid (strongReply n t out) old ≡ wordSaid (strongRefusal n t (length out)) (minLabel n t out .1) old
+    go (inl e) = rw e refl
+    go (inr e) = rw e refl

@@ -1,0 +1,2 @@
+pub mod LiveLayout
+pub mod LayoutLaws

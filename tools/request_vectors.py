@@ -1,0 +1,144 @@
+"""The vectors of document 02's requests through the calls from C, for tools/test_examples.py: from the numbers of a stream to the lines that the check
+programs of T-04, T-07, T-08, T-09 and T-11 print for it (crates/*_check/stdout, from an independent model). Whatever a call must leave is judged here.
+"""
+from ctypes import byref, c_int16, c_size_t, c_uint16, c_uint8
+
+STATE_WORDS, LIVE_WORDS = 12295, 3330
+LIVE_ENDS, LIVE_LEVELS, LIVE_COUNTS = 2, 2050, 3074
+OTHER = 7777  # what stands in lent words before a call
+
+
+def words(numbers):
+    return (c_uint16 * max(1, len(numbers)))(*numbers)
+
+
+def levels(numbers):
+    return (c_int16 * max(1, len(numbers)))(*numbers)
+
+
+def lent(places):
+    """So many words, and one past them that no call may touch."""
+    return words([OTHER] * (places + 1))
+
+
+def listed(stream):
+    return [next(stream) for _ in range(next(stream))]
+
+
+def table(stream):
+    units = next(stream)
+    ends = listed(stream)
+    return units, ends, listed(stream)
+
+
+def must(holds, what):
+    if not holds:
+        raise AssertionError(what)
+
+
+class Player:
+    def __init__(self, library):
+        self.library = library
+        self.state = (c_uint16 * STATE_WORDS)()
+        self.live = (c_uint16 * LIVE_WORDS)()
+
+    def call(self, name, *arguments):
+        return getattr(self.library, "link_survey_" + name)(*arguments)
+
+    def tables(self, units, ends, heard):
+        return c_uint16(units), words(ends), c_size_t(len(ends)), levels(heard), c_size_t(len(heard))
+
+    def surveyed(self, stream):
+        """Loads a table and makes the rounds of its budget."""
+        units, ends, heard = table(stream)
+        must(self.call("load", self.state, *self.tables(units, ends, heard)) == 0, "load")
+        budget = next(stream)
+        if budget:
+            must(self.call("run", self.state, c_uint16(budget), byref(c_uint16())) == 0, "run")
+        return units, ends
+
+    def rings(self, stream):
+        _, ends = self.surveyed(stream)
+        return [" ".join(str(self.ring(ends, next(stream), next(stream), next(stream))) for _ in range(next(stream)))]
+
+    def ring(self, ends, first, second, places):
+        out, count = lent(places), c_uint16(OTHER)
+        number = self.call("ring", self.state, c_uint16(first), c_uint16(second), out, c_size_t(places), byref(count))
+        written = 0 if number else count.value
+        must(not number or count.value == OTHER, "the count on a refusal")
+        must(set(out[written:]) <= {OTHER}, "places past the ring")
+        if written:
+            walk = out[:written]
+            links = [{ends[k], ends[k + 1]} for k in range(0, len(ends), 2)]
+            steps = [{walk[k - 1], walk[k]} for k in range(written)]
+            must(written >= 3 and len(set(walk)) == written, "different units")
+            must(all(step in links for step in steps), "each linked to the next")
+            must(links[first] in steps and links[second] in steps and set(walk[:2]) == links[first], "both links")
+        return number or min(written, 1)
+
+    def lifting(self, stream):
+        units, _ = self.surveyed(stream)
+        places = next(stream)
+        pairs, out = listed(stream), lent(places)
+        number = self.call("lifting_order", self.state, words(pairs), c_size_t(len(pairs)), out, c_size_t(places))
+        must(set(out[0 if number else units:]) <= {OTHER}, "places past the order")
+        return [" ".join(map(str, [number] if number else [0, *out[:units]]))]
+
+    def doubtful(self, stream):
+        self.surveyed(stream)
+        marks = listed(stream)
+        return [" ".join(str(self.doubt(marks, next(stream), next(stream))) for _ in range(next(stream)))]
+
+    def doubt(self, marks, first, second):
+        verdict, given = c_uint16(OTHER), (c_uint8 * max(1, len(marks)))(*marks)
+        number = self.call("doubtful", self.state, c_uint16(first), c_uint16(second), given, c_size_t(len(marks)), byref(verdict))
+        must(not number or verdict.value == OTHER, "the verdict on a refusal")
+        return number or verdict.value
+
+    def one_way(self, stream):
+        units, ends, places = next(stream), listed(stream), next(stream)
+        numbers, passes = lent(places), c_uint16(OTHER)
+        number = self.call("one_way", c_uint16(units), words(ends), c_size_t(len(ends)), numbers, c_size_t(places), byref(passes))
+        must(not number or passes.value == OTHER, "the passes on a refusal")
+        must(set(numbers[0 if number else units:]) <= {OTHER}, "places past the numbers")
+        return [" ".join(map(str, [number] if number else [0, passes.value, *numbers[:units]]))]
+
+    def changes(self, stream, given):
+        """A live table: steps 1 to 4. With `given` each step tells its number alone, else what is in hand too."""
+        lines = []
+        for _ in range(next(stream)):
+            step, before = next(stream), bytes(self.live)
+            if step == 4:
+                what, index, value = next(stream), next(stream), next(stream)
+                self.live[[0, 1, LIVE_ENDS, LIVE_LEVELS, LIVE_COUNTS][what] + index] = value % 65536
+                continue
+            if step == 1:
+                number = self.call("live_open", self.live, *self.tables(*table(stream)))
+            elif step == 2:
+                number = self.call("live_add", self.live, c_uint16(next(stream)), c_uint16(next(stream)), c_int16(next(stream)))
+            else:
+                number = self.call("live_withdraw", self.live, c_uint16(next(stream)), c_uint16(next(stream)))
+            must(not number or bytes(self.live) == before, "a live table on a refusal")
+            alone = given or (step == 1 and number)
+            lines.append(" ".join(map(str, [number] if alone else [number, *self.counted()])))
+        return lines if given else lines + [" ".join(map(str, self.in_hand()))]
+
+    def counted(self):
+        return [self.live[1], *self.live[LIVE_COUNTS:LIVE_COUNTS + self.live[0]]]
+
+    def in_hand(self):
+        links = self.live[1]
+        heard = (c_int16 * links).from_buffer_copy(self.live, 2 * LIVE_LEVELS)
+        return [self.live[0], links, *self.live[LIVE_ENDS:LIVE_ENDS + 2 * links], *heard]
+
+
+def played(library, family, name, text):
+    """The lines of a file of a family: the number of its cases, then the cases."""
+    player, stream = Player(library), map(int, text.split())
+    lines = []
+    for _ in range(next(stream)):
+        if family == "live":
+            lines += player.changes(stream, "given" in name)
+        else:
+            lines += getattr(player, family)(stream)
+    return lines
