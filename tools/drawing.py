@@ -9,7 +9,7 @@ import block_drawing
 import layout
 import routes
 from captions import deaf_units, footer, header, linked_groups
-from ink import FONT, HALO, INK, PAGE, PALE, RING, STYLES, WEAK, disc, escape, letters, lone, opened, path, straight, styled, text
+from ink import COLORS, FONT, HALO, INK, LINES, PAGE, PALE, RING, WEAK, Line, disc, escape, letters, lone, opened, path, straight, styled, text
 from ink import under, width_of, wrapped
 from losses import listed, neighbours_of
 from survey_text import LOWEST_LEVEL
@@ -22,20 +22,32 @@ BESIDE = 10  # a number stands so far off its link
 
 
 def styles_of(losses):
-    """A line for each label of more than one link; labels that meet at a unit differ in colour and line where these suffice."""
-    met = {}
-    for j, pair in enumerate(losses.site.links):
-        for v in pair:
-            met.setdefault(v, set()).add(losses.labels[j])
+    """A line for each label of more than one link. Up to three sets that meet at a unit differ in their line, and up to four in colour: each
+    set is chosen after one that it meets, so all that it must differ from meet at one unit."""
+    sets = losses.backed()
+    touched = [{v for j in links for v in losses.site.links[j]} for links in sets]
+    meeting = {}
+    for i, units in enumerate(touched):
+        for v in units:
+            meeting.setdefault(v, []).append(i)
     chosen = {}
-    for i, links in enumerate(losses.backed()):
-        near = set().union(*(met[v] for j in links for v in losses.site.links[j]))
-        taken = [chosen[label] for label in near if label in chosen]
-        order = STYLES[i % len(STYLES) :] + STYLES[: i % len(STYLES)]
-        apart = [s for s in order if all(s.color != t.color and s.wide != t.wide for t in taken)]
-        other = [s for s in order if s not in taken]
-        chosen[losses.labels[links[0]]] = (apart or other or order)[0]
-    return chosen
+    for start in range(len(sets)):
+        ahead = [start] if start not in chosen else []
+        for i in ahead:
+            if i in chosen:
+                continue
+            near = sorted({k for v in touched[i] for k in meeting[v]} - {i})
+            taken = [chosen[k] for k in near if k in chosen]
+            wide, core = LINES[scarcest(range(len(LINES)), lambda n: LINES[n][0], [t.wide for t in taken], [t.wide for t in chosen.values()])]
+            color = COLORS[scarcest(range(len(COLORS)), lambda n: COLORS[n], [t.color for t in taken], [t.color for t in chosen.values()])]
+            chosen[i] = Line(color, wide, core)
+            ahead += [k for k in near if k not in chosen]
+    return {losses.labels[links[0]]: chosen[i] for i, links in enumerate(sets)}
+
+
+def scarcest(some, look, taken, used):
+    """Which of some has the look that is taken least, then used least."""
+    return min(some, key=lambda n: (taken.count(look(n)), used.count(look(n)), n))
 
 
 def letters_of(losses):

@@ -16,8 +16,6 @@ DOTS = "2 5"  # a unit that hears nobody
 
 Line = namedtuple("Line", "color wide core")  # core: the width of the white in the middle of a double line, or 0
 LINES = [(3.0, 0), (6.0, 2.4), (1.6, 0)]  # plain, double, thin
-# each colour with each line, as 4 and 3 share no factor
-STYLES = [Line(COLORS[i % len(COLORS)], *LINES[i % len(LINES)]) for i in range(len(LINES) * len(COLORS))]
 LONE_WIDE = 5.0
 
 RADIUS = 15  # of a unit

@@ -249,14 +249,14 @@ class Small(unittest.TestCase):
         self.assertEqual(sorted(frames), sorted(wanted))
 
     def test_sets_that_meet_differ(self):
-        """In their line, not in colour alone, as long as there are lines enough."""
+        """In their line, whatever their colour, as long as there are lines enough."""
         met = 0
         for _, losses, root in small_drawings():
             looks, touching = {}, {}
             for g in classed(root, "link"):
                 j = int(g.get("data-link"))
                 if j not in losses.link_parts:
-                    looks[losses.labels[j]] = tuple((p.get("stroke-width"), p.get("stroke")) for p in g.findall(SVG + "path") if not p.get("class"))
+                    looks[losses.labels[j]] = tuple(p.get("stroke-width") for p in g.findall(SVG + "path") if not p.get("class"))
                     for v in losses.site.links[j]:
                         touching.setdefault(v, set()).add(losses.labels[j])
             for labels in touching.values():
@@ -370,7 +370,6 @@ class Palette(unittest.TestCase):
         for i, (wide, core) in enumerate(ink.LINES):
             for other, core2 in ink.LINES[:i]:
                 self.assertTrue(abs(wide - other) >= 1 and (bool(core) != bool(core2) or abs(wide - other) >= 1.3))
-        self.assertEqual(len(set(ink.STYLES)), 12)
         self.assertTrue(ink.DASH)
         self.assertNotEqual(ink.DASH, ink.DOTS)
 

@@ -1,5 +1,5 @@
 -- The lifting call on a state in words: its number and the slice, by 10 and 12 of the state and by what `lifting_order` tells of its tables.
-use mathlib.Core.Path.{_≡_, refl, sym, ap, _∙_}
+use mathlib.Core.Path.{_≡_, sym, ap, _∙_}
 use mathlib.Core.Bool.{true}
 use mathlib.Core.List.{List}
 use Prim.Native.Nat.{ℕ}

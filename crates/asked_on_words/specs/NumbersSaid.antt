@@ -10,7 +10,7 @@ use Rattle.lists.specs.Tests.{either}
 use Rattle.lent.specs.FileFace.{wordSaid}
 use Rattle.one_way.specs.declared.Numbering.{Numbering}
 use Rattle.one_way.specs.declared.Numbering.the-variants.{Passes, Refused}
-use Rattle.one_way.specs.MinLabel.{minLabel}
+use Rattle.min_label.specs.MinLabel.{minLabel}
 use Rattle.one_way.specs.Numbering.{strongRefusal, strongReply}
 
 abbrev pub passesSaid : Numbering → ℕ → ℕ

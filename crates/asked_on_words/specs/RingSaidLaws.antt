@@ -13,7 +13,7 @@ use Rattle.shown.specs.declared.Shown.the-variants as Replies
 use Rattle.shown.specs.Shown.{shownRefusal}
 use Rattle.shown.specs.ShownRight.{RingLaid}
 use Rattle.shown.specs.ShownRightProof.{shown-refused, shown-none, shown-ring}
-use Rattle.asked_on_words.specs.TwoLinks.{exist, askedTwo, two-refused, two-passed}
+use Rattle.asked_on_words.specs.TwoLinks.{exist, two-refused, two-passed}
 use Rattle.asked_on_words.specs.RingSaid.{RingSaid}
 
 module _ (i j : ℕ) (s : State) (out : List ℕ) (old : ℕ) where

@@ -4,3 +4,5 @@ pub mod LinkLaws
 pub mod Propagation
 pub mod RoundLaws
 pub mod Rounds
+pub mod Leap
+pub mod Pairs

@@ -5,7 +5,7 @@ use mathlib.Core.Logic.{_⊎_, inl, inr, _↔_}
 use mathlib.Core.List.{List}
 use Prim.Native.Nat.{ℕ, _≤_, _<_}
 use native.Mathlib.Omega.{arith}
-use lib.Dec.{eqb, ltb}
+use lib.Dec.{ltb}
 use lib.ListN.{length, getD, take}
 use borrow.Author.Tests.{eq-eqb, ne-eqb, ltb-true, lt-ltb, le-ltb, not-false}
 use Rattle.table.specs.RefusalLaws.{first-cause, some-cause, passed-test}
@@ -18,9 +18,9 @@ use Rattle.ring.specs.KeptSite.{kept-site}
 use Rattle.ring.specs.Present.{Ringed, Shows, sure, ringed-more}
 use Rattle.doubtful.specs.declared.Verdict.{Verdict}
 use Rattle.doubtful.specs.declared.Verdict.the-variants.{Always, Perhaps, Never, Refused}
-use Rattle.doubtful.specs.Doubtful.{Answer, numberOf, doubtRefusal, doubtReasons}
+use Rattle.doubtful.specs.Doubtful.{numberOf, doubtRefusal, doubtReasons}
 use Rattle.doubtful.specs.DoubtRight.{Says, VerdictTold, DoubtRight}
-use Rattle.doubtful.specs.Settings.{Setting, InEach, InSome}
+use Rattle.doubtful.specs.Settings.{InEach, InSome}
 
 -- ---- the tests in order
 

@@ -14,9 +14,9 @@ use Rattle.table.specs.Refusals.{firstOf}
 use Rattle.table.specs.RefusalLaws.{Reason, FirstCause, SomeCause, tests, first-cause, some-cause, first-some, first-none, passed-test}
 use Rattle.table.specs.Table.{maxUnits, badUnitCount, oddWords, tooManyLinks, endMissing, equalEnds, repeatedPair, pairTests, pairRefusal}
 use Rattle.table.specs.TableCauses.{pairReasons}
-use Rattle.one_way.specs.MinLabel.{minLabel}
-use Rattle.one_way.specs.Groups.{Link}
-use Rattle.one_way.specs.Hands.{Ends, Site}
+use Rattle.min_label.specs.MinLabel.{minLabel}
+use Rattle.min_label.specs.Groups.{Link}
+use Rattle.min_label.specs.Hands.{Ends, Site}
 use Rattle.one_way.specs.Numbering.{strongRefusal, strongReply, strongNumbers, numberOf, valuesOf}
 use Rattle.one_way.specs.declared.Numbering.{Numbering}
 use Rattle.one_way.specs.declared.Numbering.the-variants.{Passes, Refused}

@@ -1,29 +1,13 @@
 // Least labels handed on along the links that are left, until no label falls.
 use crate::order;
+use pass_tables::both;
+use pass_tables::choose;
+use pass_tables::either;
 ghost use mathlib.Core.Path.{_≡_};
-ghost use mathlib.Core.Bool.{cond, _&&_, _||_};
 ghost use Prim.Native.Nat.{_+_, _≤_, _<_};
 ghost use lib.ListN.{length, getD};
-ghost use Rattle.one_way.specs.MinLabelLaws.{Hears};
-ghost use Rattle.one_way.specs.Hands.{Live, lowers, handed, swept, falls, Spread, Settled, Room};
-
-pub(crate) fn choose(test: bool, x: u16, y: u16) -> u16
-    ensures { λ r. ⌜ r ≡ cond test x y ⌝ }
-{
-    if test { x } else { y }
-}
-
-pub(crate) fn either(x: bool, y: bool) -> bool
-    ensures { λ r. ⌜ r ≡ (x || y) ⌝ }
-{
-    if x { true } else { y }
-}
-
-fn both(x: bool, y: bool) -> bool
-    ensures { λ r. ⌜ r ≡ (x && y) ⌝ }
-{
-    if x { y } else { false }
-}
+ghost use Rattle.min_label.specs.MinLabelLaws.{Hears};
+ghost use Rattle.min_label.specs.Hands.{Live, lowers, handed, swept, falls, Spread, Settled, Room};
 
 // The link from `a` to `b` lowers a label.
 fn lowers(forward: bool, a: u16, b: u16, key: &[u32], x: &[u16]) -> bool

@@ -189,7 +189,7 @@ pub extern "C" fn link_survey_write(
     lent::write(units, table, levels, out)
 }
 
-// A load of a seat (T-12): 23, then 4 to 6, 15, 16, 7 to 9. The other seats and the turn stay.
+// A load of a seat (T-12): 23, then 4 to 6, 15, 16, 7 to 9, 22. The other seats and the turn stay.
 #[no_mangle]
 pub extern "C" fn link_survey_seat_load(
     seats: &mut [[u16; STATE_WORDS]; 8],

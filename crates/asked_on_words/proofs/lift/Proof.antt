@@ -1,5 +1,5 @@
 -- Refused early, or by what is told of the tables.
-use mathlib.Core.Path.{_≡_, sym, ap, _∙_}
+use mathlib.Core.Path.{_≡_}
 use lib.ListN.{length}
 use Rattle.words.specs.Layout.{stateOf}
 use Rattle.asked_on_words.specs.LiftingSaid.{lifting-early, lifting-late}

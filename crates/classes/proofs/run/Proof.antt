@@ -1,124 +1,34 @@
--- Round after round: each is one of the definition's, as long as the stage goes on.
-use mathlib.Core.Path.{_≡_, sym, _∙_}
-use Prim.Native.Nat.{_-_}
-use native.Mathlib.Omega.{arith}
-use lib.ListN.{length}
-use Rattle.lists.specs.Folds.{every}
-use Rattle.lists.specs.Tests.{and-left, and-right}
-use Rattle.rules.specs.Components.{colorEnds}
-use Rattle.rules.specs.Aux.{auxEnds}
-use Rattle.rules.specs.Bounds.{nameOk}
-use Rattle.rules.specs.Fits.{linksFit, fit-few, fit-within}
-use Rattle.machine.specs.InStage.{Goes, goes}
-use Rattle.machine.specs.StageRun.{Turning, turns-begin, turns-on, turns-over}
-use Rattle.classes.specs.Propagation.{Heads}
-use Rattle.classes.specs.HeadLaws.{heads-exist}
-use Rattle.classes.specs.Rounds.{fits, on, one}
+-- By a leap, or round after round.
+use mathlib.Core.Path.{refl}
 use borrow.Author.Needs.{needs}
 use Rattle.classes.proofs.run.Statement.{statement}
 use Rattle.classes.proofs.run.Tie as tie
 
-abbrev Inv-loop : tie.InvT-loop
-Inv-loop units links budget ends parent linked parents fits heads value₀ c₀ made₀ value c made = (length value ≡ 256) × Turning (on units links ends parent) (one units links ends parent linked parents) budget (record { color = value₀; clock = c₀; made = 0 }) made (record { color = value; clock = c; made = made })
-
-abbrev μ-loop : tie.MeasureT-loop
-μ-loop units links budget ends parent linked parents fits heads value₀ c₀ made₀ value c made = budget - made
-
--- what is tested once
-fitting : (h : tie.After-heads Inv-loop μ-loop)
-    → (let a = h .before .before .before .before .before .before .args in h .before .both .result ≡ fits (a .units) (a .links) (a .ends .now) (a .parent .now))
-fitting h = rw (h .before .before .before .before .links-fit .ensures, h .before .before .names-ok .ensures) at (h .before .both .ensures)
-
--- the stage goes on where a round is made
-go : (c : tie.Then1 Inv-loop μ-loop)
-    → (let a = c .before .before .before .before .before .before .before .before .before .args in Goes (a .units) 9 (c .before .before .loop .made) (a .budget) (fits (a .units) (a .links) (a .ends .now) (a .parent .now)) (c .before .before .loop .c))
-go c = goes _ _ _ _ _ _ (rw (fitting (c .before .before .before)) at (sym (c .before .goes-on .ensures) ∙ c .if1 .taken))
-
--- all heads exist then
-by : (c : tie.Then1 Inv-loop μ-loop)
-    → (let h = c .before .before .before in let a = h .before .before .before .before .before .before .args in Heads (a .units) (a .parent .now) (a .parents .now) (h .heads .result))
-by c =
-    let h = c .before .before .before in
-    let a = h .before .before .before .before .before .before .args in
-    heads-exist (a .units) (a .parent .now) (a .parents .now) (h .heads .result) (and-right (linksFit (a .units) (a .links) (a .ends .now)) (every (nameOk (a .units)) (a .parent .now)) (go c .fit)) (h .heads .ensures (go c .few))
-
-links-fit-requires : tie.Need-links-fit-requires Inv-loop μ-loop
+links-fit-requires : tie.Need-links-fit-requires
 links-fit-requires c κs = search needs
 
-names-ok-requires : tie.Need-names-ok-requires Inv-loop μ-loop
+names-ok-requires : tie.Need-names-ok-requires
 names-ok-requires c κs = search needs
 
-both-requires : tie.Need-both-requires Inv-loop μ-loop
+both-requires : tie.Need-both-requires
 both-requires c κs = search needs
 
-heads-requires : tie.Need-heads-requires Inv-loop μ-loop
-heads-requires c κs = search needs
+leapt-requires : tie.Need-leapt-requires
+leapt-requires c κs = rw (c .both .ensures, c .before .before .before .links-fit .ensures, c .before .names-ok .ensures) refl
 
-loop-holds : tie.Need-loop-holds Inv-loop μ-loop
-loop-holds c = (search needs, turns-begin _ _ _ _)
+returns : tie.Need-returns
+returns c =
+    let t = c .before .before in
+    t .before .leapt .ensures (t .if1 .taken)
 
-goes-on-requires : tie.Need-goes-on-requires Inv-loop μ-loop
-goes-on-requires c κs = search needs
+rounds-requires : tie.Need-rounds-requires
+rounds-requires c κs =
+    let b = c .before .before in
+    let f = b .before .before .before in
+    (rw (b .both .ensures, f .links-fit .ensures, b .before .names-ok .ensures) refl, search (f .before .links-fit-arg .given, needs))
 
-round-requires : tie.Need-round-requires Inv-loop μ-loop
-round-requires c κs =
-    let t = c .before in
-    let a = t .before .before .before .before .before .before .before .before .before .args in
-    let g = go t in
-    let links = and-left (linksFit (a .units) (a .links) (a .ends .now)) (every (nameOk (a .units)) (a .parent .now)) (g .fit) in
-    (g .few, fit-few (a .units) (a .links) (a .ends .now) links, fit-within (a .units) (a .links) (a .ends .now) (search (t .before .before .before .before .before .before .before .before .links-fit-arg .given, needs)) links, by t .exist)
-
-slice-aggregate-ends : tie.Need-slice-aggregate-ends Inv-loop μ-loop
-slice-aggregate-ends c = search needs
-
-slice-aggregate-ends-2 : tie.Need-slice-aggregate-ends-2 Inv-loop μ-loop
-slice-aggregate-ends-2 c = search needs
-
-ends-requires : tie.Need-ends-requires Inv-loop μ-loop
-ends-requires c κs = search needs
-
-ticked-requires : tie.Need-ticked-requires Inv-loop μ-loop
-ticked-requires c κs = search needs
-
-add-made : tie.Need-add-made Inv-loop μ-loop
-add-made c =
-    let t = c .before .before .before .before .before .before in
-    omega (arith, go t .below, t .before .before .before .before .before .before .before .before .before .fits .budget)
-
-loop-less : tie.Need-loop-less Inv-loop μ-loop
-loop-less c = omega (arith, go (c .before .before .before .before .before .before) .below)
-
-loop-again : tie.Need-loop-again Inv-loop μ-loop
-unfolding one auxEnds colorEnds
-loop-again c =
-    let r = c .before .before .before .before in
-    let t = r .before .before in
-    let g = go t in (
-      search (r .round .ok, needs),
-      turns-on _ _ _ _ _ _ _ (t .before .before .loop .inv .1) (g .test) (rw (c .ticked .ensures, g .inside, c .before .ends .ensures, r .round .ensures _ (by t))),
-    )
-
-returns : tie.Need-returns Inv-loop μ-loop
-returns c = turns-over _ _ _ _ _ _ (c .before .before .loop .inv .1) (rw (fitting (c .before .before .before)) at (sym (c .before .goes-on .ensures) ∙ c .if1 .left))
+returns-2 : tie.Need-returns-2
+returns-2 c = c .rounds .ensures
 
 pub run-spec : {M : Type 1} → statement M
-run-spec =
-    tie.close
-    (tie.spec
-    Inv-loop
-    μ-loop
-    links-fit-requires
-    names-ok-requires
-    both-requires
-    heads-requires
-    loop-holds
-    goes-on-requires
-    round-requires
-    slice-aggregate-ends
-    slice-aggregate-ends-2
-    ends-requires
-    ticked-requires
-    add-made
-    loop-less
-    loop-again
-    returns)
+run-spec = tie.close (tie.spec links-fit-requires names-ok-requires both-requires leapt-requires returns rounds-requires returns-2)

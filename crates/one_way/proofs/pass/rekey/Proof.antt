@@ -4,7 +4,7 @@ use Prim.Native.Nat.{_-_, _≤_}
 use lib.ListN.{length}
 use Rattle.lists.specs.Tables.{over}
 use Rattle.lists.specs.Rounds.{over-more, over-all}
-use Rattle.one_way.specs.Hands.{keyOf}
+use Rattle.min_label.specs.Hands.{keyOf}
 use borrow.Author.Needs.{needs}
 use Rattle.one_way.proofs.pass.rekey.Statement.{statement}
 use Rattle.one_way.proofs.pass.rekey.Tie as tie
