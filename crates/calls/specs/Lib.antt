@@ -1,4 +1,2 @@
-pub mod ReportWritten
-pub mod ReportCalled
-pub mod AskLaws
+pub mod FileAnswers
 pub mod Flags

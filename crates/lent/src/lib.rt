@@ -92,7 +92,7 @@ pub fn report(state: &[u16; STATE_WORDS], out: &mut [u8]) -> u32
 {
     let table = words::table_at(state);
     let c = words::clock_at(state);
-    let refused = calls::report_refusal(
+    let refused = asking::report_refusal(
         words::kept(state),
         c.stage,
         table.units,
@@ -106,7 +106,7 @@ pub fn report(state: &[u16; STATE_WORDS], out: &mut [u8]) -> u32
     let components = words::components_at(state);
     let tree = words::tree_at(state);
     let order = words::order_at(state);
-    calls::report_lines(
+    asking::report_lines(
         table.units,
         table.links,
         c.rounds,

@@ -1,15 +1,10 @@
 // From the bytes of a survey file to the bytes of its report: all that the program does between reading and printing. By the calls by value, and on lent
 // words for a caller with a small stack; both print the same.
-mod on_words;
-mod value;
-
 use files::Reading;
-use frames::kinds;
-use frames::line;
 ghost use mathlib.Core.Path.{_≡_};
 ghost use Prim.Native.Nat.{_*_, _≤_};
 ghost use lib.ListN.{length, take};
-ghost use Rattle.reporter.specs.Printed.{WORDS, LEVELS, refusalLine, printedRead, printed, laidOver, laidCount};
+ghost use Rattle.printed.specs.Printed.{WORDS, LEVELS, printedRead, printed, laidOver, laidCount};
 
 // The longest input, and the longest output: the report of 256 units and 1,024 links.
 pub const MAX_INPUT: usize = 65535;
@@ -27,7 +22,7 @@ pub fn report(input: &[u8], out: &mut [u8]) -> u32
     let found = taken(input, &mut words, &mut levels);
     let links = found.links;
     let end = 2 * links;
-    value::surveyed(
+    printed_by_value::surveyed(
         found.unread,
         found.units,
         &words[..end],
@@ -46,7 +41,7 @@ pub fn report_on_words(input: &[u8], out: &mut [u8]) -> u32
     let found = taken(input, &mut words, &mut levels);
     let links = found.links;
     let end = 2 * links;
-    on_words::surveyed(
+    printed_on_words::surveyed(
         found.unread,
         found.units,
         &words[..end],
@@ -88,14 +83,4 @@ fn taken(input: &[u8], words: &mut [u16], levels: &mut [i16]) -> Found
             links: links as usize,
         },
     }
-}
-
-// The line of a refusal.
-pub(crate) fn refusal(number: u8, out: &mut [u8]) -> u32
-    ensures count { λ r. ⌜ r ≡ laidCount (refusalLine number) (length (now (out .entry))) ⌝ }
-    ensures bytes { λ _. ⌜ now (out .exit) ≡ laidOver (refusalLine number) (now (out .entry)) ⌝ }
-{
-    let body = [kinds::REFUSAL, number];
-    line::write(&body, out);
-    if out.len() < 7 { 0 } else { 7 }
 }

@@ -13,7 +13,7 @@ ghost use Rattle.files.specs.File.{linesOf, unitsIn, linkFrames, readRefusal, r
 ghost use Rattle.lent.specs.FileFace.{wordSaid};
 ghost use Rattle.claim.specs.Play;
 ghost use Rattle.claim_on_words.specs.Exchange.{numberTo, stateAfter, lentAfter, madeAfter};
-ghost use Rattle.reporter.specs.Printed.{printed, laidOver, laidCount};
+ghost use Rattle.printed.specs.Printed.{printed, laidOver, laidCount};
 ghost use Rattle.status_lines.specs.Lines.{foremanAnswer, foremanShown, serviceAnswer, serviceShown};
 ghost use Rattle.office.specs.Office.{tickRefusal, tick, seatRefusal, loadSeat};
 ghost use Rattle.seats.specs.Lent.{officeOf};

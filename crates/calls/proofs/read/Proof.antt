@@ -2,7 +2,7 @@
 use mathlib.Core.Path.{sym, ap, _∙_}
 use lib.ListN.{length}
 use borrow.Author.Needs.{needs}
-use Rattle.calls.specs.AskLaws.{readingAnswer, read-answer}
+use Rattle.calls.specs.FileAnswers.{readingAnswer, read-answer}
 use Rattle.survey.specs.View.{of}
 use Rattle.calls.proofs.read.Statement.{statement}
 use Rattle.calls.proofs.read.Tie as tie

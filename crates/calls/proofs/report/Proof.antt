@@ -5,8 +5,8 @@ use Rattle.machine.specs.Report.{report}
 use Rattle.machine.specs.Calls.{reportRefusal, reportAnswer, reported}
 use Rattle.machine.specs.AnswerLaws.{answered-refused, answered-made}
 use Rattle.survey.specs.View.{of}
-use Rattle.calls.specs.AskLaws.{report-told, written-refused}
-use Rattle.calls.specs.ReportCalled.{reported-parts}
+use Rattle.asking.specs.AskLaws.{report-told, written-refused}
+use Rattle.asking.specs.ReportCalled.{reported-parts}
 use borrow.Author.Needs.{needs}
 use Rattle.calls.proofs.report.Statement.{statement}
 use Rattle.calls.proofs.report.Tie as tie

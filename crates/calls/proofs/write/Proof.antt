@@ -2,7 +2,7 @@
 use mathlib.Core.Path.{sym, ap, _∙_}
 use lib.ListN.{length}
 use borrow.Author.Needs.{needs}
-use Rattle.calls.specs.AskLaws.{writingAnswer, write-answer}
+use Rattle.calls.specs.FileAnswers.{writingAnswer, write-answer}
 use Rattle.survey.specs.View.{of}
 use Rattle.calls.proofs.write.Statement.{statement}
 use Rattle.calls.proofs.write.Tie as tie

@@ -4,8 +4,8 @@ use lib.ListN.{length}
 use borrow.Author.Tests.{ne-eqb}
 use Rattle.machine.specs.Report.{report}
 use Rattle.machine.specs.Calls.{reportRefusal, reportAnswer, reported}
-use Rattle.calls.specs.AskLaws.{report-told, written-refused}
-use Rattle.calls.specs.ReportCalled.{reported-parts}
+use Rattle.asking.specs.AskLaws.{report-told, written-refused}
+use Rattle.asking.specs.ReportCalled.{reported-parts}
 use Rattle.words.specs.Layout.{stateOf}
 use borrow.Author.Needs.{needs}
 use Rattle.lent.proofs.report.Statement.{statement}

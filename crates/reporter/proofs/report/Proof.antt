@@ -1,7 +1,7 @@
 -- What was read, then surveyed.
 use mathlib.Core.Path.{sym}
 use lib.Seq.{length-take-le}
-use Rattle.reporter.specs.LaidLaws.{laid-fits}
+use Rattle.printed.specs.LaidLaws.{laid-fits}
 use borrow.Author.Needs.{needs}
 use Rattle.reporter.proofs.report.Statement.{statement}
 use Rattle.reporter.proofs.report.Tie as tie

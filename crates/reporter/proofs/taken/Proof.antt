@@ -1,7 +1,7 @@
 -- By the input's length, and whether the reading is refused.
 use mathlib.Core.Path.{sym, _∙_}
 use native.Mathlib.Omega.{arith}
-use Rattle.reporter.specs.LaidLaws.{input-long, file-refused, file-read}
+use Rattle.printed.specs.LaidLaws.{input-long, file-refused, file-read}
 use borrow.Author.Needs.{needs}
 use Rattle.reporter.proofs.taken.Statement.{statement}
 use Rattle.reporter.proofs.taken.Tie as tie

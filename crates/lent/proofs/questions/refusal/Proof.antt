@@ -1,7 +1,7 @@
 -- By the tests in order.
 use mathlib.Core.Path.{_≡_, refl, sym, _∙_}
 use borrow.Author.Tests.{not-true, not-false}
-use Rattle.calls.specs.AskLaws.{question-malformed, question-early, question-none, question-missing}
+use Rattle.asking.specs.AskLaws.{question-malformed, question-early, question-none, question-missing}
 use borrow.Author.Needs.{needs}
 use Rattle.lent.proofs.questions.refusal.Statement.{statement}
 use Rattle.lent.proofs.questions.refusal.Tie as tie

@@ -1,0 +1,3 @@
+pub mod AskLaws
+pub mod ReportWritten
+pub mod ReportCalled

@@ -1,0 +1,210 @@
+-- What the calls leave is what is printed: a refusal's line, and the report of a finished survey.
+use mathlib.Core.Path.{_≡_, refl, sym, ap, _∙_}
+use mathlib.Core.Bool.{Bool, true, false, cond}
+use mathlib.Core.Logic.{_⊎_, inl, inr}
+use mathlib.Core.List.{List, _++_}
+use Prim.Native.Nat.{ℕ, _*_, _≤_, _<_}
+use native.Mathlib.Decide.{decLt}
+use native.Mathlib.Omega.{arith}
+use lib.Dec.{eqb, ltb}
+use lib.ListN.{length, take, drop}
+use lib.IntN.{ℤ}
+use borrow.Author.Tests.{eq-eqb, ne-eqb, lt-ltb, le-ltb, le-leb, lt-leb, eqb-true}
+use Rattle.lists.specs.All.{cond-keeps}
+use Rattle.lists.specs.Tests.{either}
+use Rattle.table.specs.Refusals.{written}
+use Rattle.table.specs.Table.{badUnitCount, oddWords, tooManyLinks, levelsDiffer, levelOutside, endMissing, equalEnds, repeatedLink, storedRefusal}
+use Rattle.frames.specs.Frame.{lineOver}
+use Rattle.frames.specs.Bodies.{refusalBody}
+use Rattle.frames.specs.FrameLaws.{length-line}
+use Rattle.files.specs.File.{linesOf, readRefusal, readReply, readWords, endsIn, levelsIn, readLevels}
+use Rattle.files.specs.ReadLaws.{unread-told, read-told, read-front, read-front-levels, read-long-levels}
+use Rattle.files.specs.declared.Reading.{Reading}
+use Rattle.files.specs.declared.Reading.the-variants.{Read}
+use Rattle.state.specs.declared.groups.Table.{Table}
+use Rattle.state.specs.declared.reply.Reply.the-variants.{Written}
+use Rattle.machine.specs.State.{State, units, links, finished, FINISHED}
+use Rattle.machine.specs.WellFormed.{wellFormed}
+use Rattle.machine.specs.Load.{Input, linksIn, storedLoadRefusal, begun, loaded}
+use Rattle.machine.specs.StepLaws.{loaded-wellFormed}
+use Rattle.machine.specs.Report.{report, reportLength}
+use Rattle.machine.specs.ReportLaws.{length-report}
+use Rattle.machine.specs.Calls.{numberOf, answered, storedLoadAnswer, roundRefusal, runAnswer, reportRefusal, reportAnswer, reported}
+use Rattle.printed.specs.Printed.{MAX-INPUT, WORDS, LEVELS, countOf, refusalLine, surveyed, printedTable, printedRead, printedFile, printed, laidOver, laidCount}
+use Rattle.printed.specs.PrintedLaws.{surveyed-table, surveyed-finished, surveyed-wellFormed}
+
+-- ---- laying down
+
+pub laid-fits : (text : List ℕ) (places : ℕ) → laidCount text places ≤ places
+unfolding laidCount
+laid-fits text places = go (decLt places (length text))
+  where
+    go : Dec (places < length text) → laidCount text places ≤ places
+    go (yes l) = rw (lt-ltb places (length text) l) (omega arith)
+    go (no l) = rw (le-ltb places (length text) (omega arith)) (omega arith)
+
+-- ---- a refusal's line
+
+length-refusal : (k : ℕ) → length (refusalLine k) ≡ 7
+length-refusal k = length-line (refusalBody k)
+
+pub refusal-line : (k : ℕ) (out : List ℕ) → lineOver (refusalBody k) out ≡ laidOver (refusalLine k) out
+unfolding lineOver laidOver
+refusal-line k out = go (decLt (length out) 7)
+  where
+    go : Dec (length out < 7) → lineOver (refusalBody k) out ≡ laidOver (refusalLine k) out
+    go (yes l) = rw (length-refusal k, lt-leb 7 (length out) l, lt-ltb (length out) 7 l) refl
+    go (no l) =
+        let fits : 7 ≤ length out = omega arith in
+        rw (length-refusal k, le-leb 7 (length out) fits, le-ltb (length out) 7 fits) refl
+
+pub refusal-short : (k places : ℕ) → places < 7 → 0 ≡ laidCount (refusalLine k) places
+unfolding laidCount
+refusal-short k places l = rw (length-refusal k, lt-ltb places 7 l) refl
+
+pub refusal-long : (k places : ℕ) → 7 ≤ places → 7 ≡ laidCount (refusalLine k) places
+unfolding laidCount
+refusal-long k places l = rw (length-refusal k, le-ltb places 7 l) refl
+
+-- ---- load, run and report
+
+module _ (input : Input) where
+  -- a number of a refusal, or 0, is a byte
+  pub number-byte : storedLoadRefusal input < 256
+  unfolding storedRefusal
+  number-byte =
+      let n = input .units in
+      let t = input .words in
+      let ls = input .levels in
+      first (badUnitCount n) 4 _ (omega arith)
+      (first (oddWords t) 5 _ (omega arith)
+      (first (tooManyLinks t) 6 _ (omega arith)
+      (first (levelsDiffer t ls) 15 _ (omega arith)
+      (first (levelOutside ls) 16 _ (omega arith)
+      (first (endMissing n t) 7 _ (omega arith)
+      (first (equalEnds t) 8 _ (omega arith)
+      (first (repeatedLink t) 9 0 (omega arith) (omega arith))))))))
+    where
+      first : (b : Bool) (k later : ℕ) → k < 256 → later < 256 → cond b k later < 256
+      first b k later = cond-keeps (λ (x : ℕ). x < 256) b k later
+
+  -- refused
+  pub table-refused : (storedLoadRefusal input ≡ 0 → ⊥) → printedTable input ≡ refusalLine (storedLoadRefusal input)
+  unfolding printedTable
+  table-refused h = rw (ne-eqb (storedLoadRefusal input) 0 h) refl
+
+  module _ (accepted : storedLoadRefusal input ≡ 0) where
+    unfinished : finished (loaded input) ≡ false
+    unfolding loaded begun
+    unfinished = refl
+
+    -- a load of a stored table on any state and a run with the greatest budget leave the survey
+    pub survey-left : (s begun ended : State) → begun ≡ storedLoadAnswer input s .state → ended ≡ runAnswer 65535 begun .state → ended ≡ surveyed input
+    unfolding storedLoadAnswer runAnswer roundRefusal
+    survey-left s begun ended l r = rw (r, l, accepted) (rw (loaded-wellFormed input accepted, unfinished) refl)
+
+    well : wellFormed (surveyed input) ≡ true
+    well = surveyed-wellFormed input accepted
+
+    at-end : finished (surveyed input) ≡ true
+    at-end = eq-eqb (surveyed input .clock .stage) FINISHED (surveyed-finished input accepted)
+
+    -- the whole is the report of the survey
+    table-printed : printedTable input ≡ report (surveyed input)
+    unfolding printedTable
+    table-printed = rw (eq-eqb (storedLoadRefusal input) 0 accepted) refl
+
+    -- its length, by the table alone
+    printed-length : length (printedTable input) ≡ reportLength (input .units) (linksIn input)
+    unfolding loaded begun
+    printed-length =
+        ap length table-printed ∙ length-report (surveyed input) ∙ ap (λ (x : Table). reportLength (x .units) (x .links)) (surveyed-table input accepted)
+
+    -- refused only where it has too few places
+    report-refusal : (places : ℕ) → reportRefusal (surveyed input) places ≡ cond (ltb places (length (printedTable input))) 14 0
+    unfolding reportRefusal
+    report-refusal places = rw (well, at-end, table-printed, length-report (surveyed input)) refl
+
+    report-number : (places : ℕ) → numberOf (reportAnswer places (surveyed input) .reply) ≡ cond (ltb places (length (printedTable input))) 14 0
+    unfolding reportAnswer
+    report-number places = rw (report-refusal places) (go (ltb places (length (printedTable input))))
+      where
+        go : (b : Bool) → numberOf (answered (cond b 14 0) (surveyed input) (surveyed input) (Written (reportLength (units (surveyed input)) (links (surveyed input)))) .reply) ≡ cond b 14 0
+        go true = refl
+        go false = refl
+
+    pub report-laid : (out : List ℕ) → reported (surveyed input) out ≡ laidOver (printedTable input) out
+    unfolding reported laidOver
+    report-laid out = rw (report-refusal (length out), sym table-printed) (go (ltb (length out) (length (printedTable input))))
+      where
+        go : (b : Bool) → written (cond b 14 0) (printedTable input) out ≡ cond b out (printedTable input ++ drop (length (printedTable input)) out)
+        go true = refl
+        go false = refl
+
+    -- and then so many characters are written
+    pub report-count : (places : ℕ) → countOf (reportAnswer places (surveyed input) .reply) ≡ laidCount (printedTable input) places
+    unfolding reportAnswer laidCount
+    report-count places = rw (report-refusal places, sym (length-report (surveyed input)), sym table-printed) (go (ltb places (length (printedTable input))))
+      where
+        go : (b : Bool) → countOf (answered (cond b 14 0) (surveyed input) (surveyed input) (Written (length (printedTable input))) .reply) ≡ cond b 0 (length (printedTable input))
+        go true = refl
+        go false = refl
+
+    pub report-none : (places : ℕ) → (numberOf (reportAnswer places (surveyed input) .reply) ≡ 0 → ⊥) → 0 ≡ laidCount (printedTable input) places
+    unfolding laidCount
+    report-none places refused = go (ltb places (length (printedTable input))) (λ z. refused (report-number places ∙ z))
+      where
+        go : (b : Bool) → (cond {A = ℕ} b 14 0 ≡ 0 → ⊥) → 0 ≡ cond b 0 (length (printedTable input))
+        go true some = refl
+        go false some = absurd (some refl)
+
+    pub report-all : (places : ℕ) → numberOf (reportAnswer places (surveyed input) .reply) ≡ 0 → reportLength (input .units) (linksIn input) ≡ laidCount (printedTable input) places
+    unfolding laidCount
+    report-all places made = sym printed-length ∙ go (ltb places (length (printedTable input))) (sym (report-number places) ∙ made)
+      where
+        go : (b : Bool) → cond {A = ℕ} b 14 0 ≡ 0 → length (printedTable input) ≡ cond b 0 (length (printedTable input))
+        go true z = omega (arith, z)
+        go false z = refl
+
+-- ---- what was read
+
+pub read-refused : (unread : ℕ) (input : Input) → (unread ≡ 0 → ⊥) → printedRead unread input ≡ refusalLine unread
+unfolding printedRead
+read-refused unread input h = rw (ne-eqb unread 0 h) refl
+
+pub read-taken : (unread : ℕ) (input : Input) → unread ≡ 0 → printedRead unread input ≡ printedTable input
+unfolding printedRead
+read-taken unread input e = rw e refl
+
+module _ (input : List ℕ) where
+  pub input-long : MAX-INPUT < length input → (table : Input) → printed input ≡ printedRead 1 table
+  unfolding printed
+  input-long l table = rw (lt-ltb MAX-INPUT (length input) l) (sym (read-refused 1 table (omega arith)))
+
+  pub input-short : length input ≤ MAX-INPUT → printed input ≡ printedFile input
+  unfolding printed
+  input-short short = rw (le-ltb MAX-INPUT (length input) short) refl
+
+  module _ (words : List ℕ) (levels : List ℤ) (room : (length words ≡ WORDS) × (length levels ≡ LEVELS)) (short : length input ≤ MAX-INPUT) where
+    pub file-refused : (k : ℕ) → readReply input (length words) (length levels) ≡ Reading.Refused k → (table : Input) → printed input ≡ printedRead k table
+    unfolding printedFile
+    file-refused k e table =
+        let r = readRefusal (linesOf input) WORDS LEVELS in
+        let (q, h) = unread-told input WORDS LEVELS k (rw (room .0, room .1) at e) in
+        input-short short ∙ rw (q) (read-refused r _ h ∙ sym (read-refused r table h))
+
+    -- what was read is the table
+    pub file-read : (u m : ℕ) → readReply input (length words) (length levels) ≡ Read u m
+        → (after : List ℕ) → after ≡ readWords input words (length levels) → (heard : List ℤ) → heard ≡ readLevels input (length words) levels
+        → (m ≤ LEVELS) × (printed input ≡ printedRead 0 (record { units = u; words = take (2 * m) after; levels = take m heard }))
+    unfolding printedFile
+    file-read u m e after is heard are =
+        let places = length words in
+        let spaces = length levels in
+        let r = read-told input places spaces u m e in
+        let front : take (2 * m) after ≡ endsIn (linesOf input) = ap (take (2 * m)) is ∙ read-front input places spaces u m e words refl in
+        let first : take m heard ≡ levelsIn (linesOf input) = ap (take m) are ∙ read-front-levels input places spaces u m e levels refl in
+        let none : readRefusal (linesOf input) WORDS LEVELS ≡ 0 = rw (room .0, room .1) at (r .0) in (
+          omega (arith, read-long-levels input places spaces u m e levels refl, room .1),
+          input-short short ∙ rw (none, front, first, r .1) refl,
+        )

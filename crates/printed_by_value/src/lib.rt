@@ -1,0 +1,61 @@
+// A table that was read, loaded, surveyed and reported by the calls by value.
+use survey::Reply;
+use survey::Survey;
+ghost use mathlib.Core.Path.{_≡_};
+ghost use lib.ListN.{length};
+ghost use Rattle.machine.specs.Calls.{numberOf};
+ghost use Rattle.printed.specs.Printed.{countOf, printedRead, laidOver, laidCount};
+
+// A table loaded as a stored one, surveyed to the end and reported, unless reading was refused.
+pub fn surveyed(unread: u8, units: u16, table: &[u16], levels: &[i16], out: &mut [u8]) -> u32
+    ensures count { λ r. ⌜ r ≡ laidCount (printedRead unread (record { units = units; words = now (table .entry); levels = now (levels .entry) })) (length (now (out .entry))) ⌝ }
+    ensures bytes { λ _. ⌜ now (out .exit) ≡ laidOver (printedRead unread (record { units = units; words = now (table .entry); levels = now (levels .entry) })) (now (out .entry)) ⌝ }
+{
+    if unread != 0 {
+        return printed::refusal(unread, out);
+    }
+    let loaded = Survey::new().load_stored(units, table, levels);
+    let reply = loaded.reply;
+    let number = number_of(reply);
+    if number != 0 {
+        return printed::refusal(number, out);
+    }
+    let begun = loaded.survey;
+    let ran = begun.run(65535);
+    let ended = ran.survey;
+    let done = calls::report(ended, out);
+    let said = done.reply;
+    count_of(said)
+}
+
+// The number of a refusal, else 0.
+fn number_of(reply: Reply) -> u8
+    ensures { λ r. ⌜ r ≡ numberOf reply ⌝ }
+{
+    match reply {
+        Reply::Refused(number) => number,
+        Reply::Done => 0,
+        Reply::Made(_) => 0,
+        Reply::Status { .. } => 0,
+        Reply::Unit { .. } => 0,
+        Reply::Link { .. } => 0,
+        Reply::Read { .. } => 0,
+        Reply::Written(_) => 0,
+    }
+}
+
+// The characters that were written.
+fn count_of(reply: Reply) -> u32
+    ensures { λ r. ⌜ r ≡ countOf reply ⌝ }
+{
+    match reply {
+        Reply::Refused(_) => 0,
+        Reply::Done => 0,
+        Reply::Made(_) => 0,
+        Reply::Status { .. } => 0,
+        Reply::Unit { .. } => 0,
+        Reply::Link { .. } => 0,
+        Reply::Read { .. } => 0,
+        Reply::Written(count) => count,
+    }
+}

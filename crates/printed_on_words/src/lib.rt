@@ -1,0 +1,28 @@
+// A table that was read, loaded, surveyed and reported on the words of a state.
+use words::STATE_WORDS;
+ghost use mathlib.Core.Path.{_≡_};
+ghost use lib.ListN.{length};
+ghost use Rattle.printed.specs.Printed.{printedRead, laidOver, laidCount};
+
+// A table loaded as a stored one, surveyed to the end and reported, unless reading was refused.
+pub fn surveyed(unread: u8, units: u16, table: &[u16], levels: &[i16], out: &mut [u8]) -> u32
+    ensures count { λ r. ⌜ r ≡ laidCount (printedRead unread (record { units = units; words = now (table .entry); levels = now (levels .entry) })) (length (now (out .entry))) ⌝ }
+    ensures bytes { λ _. ⌜ now (out .exit) ≡ laidOver (printedRead unread (record { units = units; words = now (table .entry); levels = now (levels .entry) })) (now (out .entry)) ⌝ }
+{
+    if unread != 0 {
+        return printed::refusal(unread, out);
+    }
+    let mut state = [0; STATE_WORDS];
+    let refused = lent::load_stored(&mut state, units, table, levels);
+    if refused != 0 {
+        let number = refused as u8;
+        return printed::refusal(number, out);
+    }
+    let mut made = 0;
+    lent::run(&mut state, 65535, &mut made);
+    if lent::report(&state, out) != 0 {
+        return 0;
+    }
+    // The report's head and tail, a line a unit and a line a link.
+    26 + 23 * (units as u32) + 15 * ((table.len() / 2) as u32)
+}
