@@ -29,12 +29,16 @@ for work in words bytes; do
     done
 done
 
-# the sites on which each question took longest in `bench worst`, beside two of the largest
+# each question on two of the largest sites, and on the one on which it took longest in `bench worst`
 printf '\n%-10s %-12s %12s %12s %8s\n' question site proved survey ratio
-for question in ring lifting doubtful one-way; do
-    for site in path full strip drawn:1834; do
-        asked=$(survey proved $question $site)
-        surveyed=$(survey proved survey $site)
-        printf '%-10s %-12s %12d %12d %8s\n' $question $site "$asked" "$surveyed" "$(echo "$asked $surveyed" | awk '{ printf "%.2f", $1 / $2 }')"
+ask() {
+    for site in full path "$2"; do
+        asked=$(survey proved "$1" "$site")
+        surveyed=$(survey proved survey "$site")
+        printf '%-10s %-12s %12d %12d %8s\n' "$1" "$site" "$asked" "$surveyed" "$(echo "$asked $surveyed" | awk '{ printf "%.2f", $1 / $2 }')"
     done
-done
+}
+ask ring drawn:1143
+ask lifting drawn:1615
+ask doubtful drawn:321
+ask one-way drawn:1145

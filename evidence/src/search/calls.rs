@@ -24,22 +24,23 @@ pub enum Call {
 }
 
 impl Call {
+    /// As the header has it.
     pub fn name(&self) -> &'static str {
         match self {
             Call::Load { .. } => "load",
-            Call::LoadStored { .. } => "load of a stored table",
-            Call::LoadPlanned { .. } => "load with a plan",
+            Call::LoadStored { .. } => "load_stored",
+            Call::LoadPlanned { .. } => "load_planned",
             Call::Round => "round",
             Call::Run { .. } => "run",
             Call::Status { .. } => "status",
             Call::Unit { .. } => "unit",
             Call::Link { .. } => "link",
-            Call::Report { .. } => "state report",
-            Call::ForemanLine { .. } => "foreman's line",
-            Call::ServiceLine { .. } => "service line",
+            Call::Report { .. } => "state_report",
+            Call::ForemanLine { .. } => "foreman_line",
+            Call::ServiceLine { .. } => "service_line",
             Call::Ring { .. } => "ring",
-            Call::LiftingOrder { .. } => "lifting order",
-            Call::Doubtful { .. } => "doubtful links",
+            Call::LiftingOrder { .. } => "lifting_order",
+            Call::Doubtful { .. } => "doubtful",
         }
     }
 }

@@ -11,6 +11,7 @@ mod tally;
 
 use crate::random::Random;
 use crate::words::Calls;
+pub use tally::REFUSALS;
 use tally::Tally;
 
 /// A library under search, and what came up so far.

@@ -70,7 +70,7 @@ impl Search {
             Ok(number)
         });
         let number = all.map_err(|difference| found(&format!("load of seat {seat}"), &format!("{site:?}"), &difference))?;
-        self.tally.number("load of a seat", number);
+        self.tally.number("seat_load", number);
         seats.go_on();
         Ok(())
     }

@@ -21,9 +21,9 @@ enum Change {
 impl Change {
     fn name(&self) -> &'static str {
         match self {
-            Change::Open(_) => "opening of a live table",
-            Change::Add { .. } => "adding to a live table",
-            Change::Withdraw { .. } => "withdrawal from a live table",
+            Change::Open(_) => "live_open",
+            Change::Add { .. } => "live_add",
+            Change::Withdraw { .. } => "live_withdraw",
         }
     }
 }
@@ -139,7 +139,7 @@ impl Search {
         });
         let number = all
             .map_err(|difference| found(&format!("one-way links, {} words", numbers.before().len()), &format!("{site:?}"), &difference))?;
-        self.tally.number("one-way links", number);
+        self.tally.number("one_way", number);
         if number == 0 {
             self.tally.reply(match passes.plain()[0] {
                 1 => "one pass",

@@ -2,30 +2,30 @@
 
 use std::collections::BTreeMap;
 
-/// Each call with the numbers of its refusals, as the header and document 02 have them. 14 of a report of a file stands for no room.
-const REFUSALS: [(&str, &[u32]); 23] = [
+/// Each call of the header, without its `link_survey_`, with the numbers of its refusals. 14 of a report of a file stands for no room.
+pub const REFUSALS: [(&str, &[u32]); 23] = [
     ("report", &[1, 2, 3, 6, 16, 4, 7, 8, 9, 14]),
     ("read", &[1, 2, 3, 6, 16, 14]),
     ("write", &[4, 5, 6, 15, 16, 7, 8, 9, 22, 14]),
     ("load", &[4, 5, 6, 15, 16, 7, 8, 9, 22]),
-    ("load of a stored table", &[4, 5, 6, 15, 16, 7, 8, 9]),
-    ("load with a plan", &[4, 5, 6, 15, 16, 7, 8, 9, 17, 18, 22]),
+    ("load_stored", &[4, 5, 6, 15, 16, 7, 8, 9]),
+    ("load_planned", &[4, 5, 6, 15, 16, 7, 8, 9, 17, 18, 22]),
     ("round", &[10, 11]),
     ("run", &[10, 11]),
     ("status", &[10]),
     ("unit", &[10, 12, 13]),
     ("link", &[10, 12, 13]),
-    ("state report", &[10, 12, 14]),
-    ("foreman's line", &[10, 14]),
-    ("service line", &[10, 14]),
+    ("state_report", &[10, 12, 14]),
+    ("foreman_line", &[10, 14]),
+    ("service_line", &[10, 14]),
     ("ring", &[10, 12, 13, 14]),
-    ("lifting order", &[10, 12, 14, 19, 20]),
-    ("doubtful links", &[10, 12, 13, 15]),
-    ("one-way links", &[4, 5, 6, 7, 8, 9, 14]),
-    ("opening of a live table", &[4, 5, 6, 15, 16, 7, 8, 9]),
-    ("adding to a live table", &[4, 6, 16, 7, 8, 9, 10]),
-    ("withdrawal from a live table", &[4, 6, 16, 7, 8, 9, 10, 21]),
-    ("load of a seat", &[23, 4, 5, 6, 15, 16, 7, 8, 9, 22]),
+    ("lifting_order", &[10, 12, 14, 19, 20]),
+    ("doubtful", &[10, 12, 13, 15]),
+    ("one_way", &[4, 5, 6, 7, 8, 9, 14]),
+    ("live_open", &[4, 5, 6, 15, 16, 7, 8, 9]),
+    ("live_add", &[4, 6, 16, 7, 8, 9, 10]),
+    ("live_withdraw", &[4, 6, 16, 7, 8, 9, 10, 21]),
+    ("seat_load", &[23, 4, 5, 6, 15, 16, 7, 8, 9, 22]),
     ("tick", &[10, 11]),
 ];
 

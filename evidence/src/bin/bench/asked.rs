@@ -184,16 +184,17 @@ pub fn worst(count: u64) {
     let names =
         || LARGEST.iter().map(|shape| shape.to_string()).chain(["strip".into()]).chain((0..count).map(|number| format!("drawn:{number}")));
     for (name, asked) in ASKED {
-        let mut found: Vec<(f64, String)> = Vec::new();
-        for site in names() {
+        let time = |site: &str, times: usize| {
+            let mut question = Question::named(site).expect("a site");
+            best(times, || question.ask(asked, &PROVED))
+        };
+        // a short look at all, a long one at those that seemed to take longest
+        let mut found: Vec<(f64, String)> = names().map(|site| (time(&site, 5), site)).collect();
+        found.sort_by(|a, b| b.0.total_cmp(&a.0));
+        let mut found: Vec<(f64, String)> = found.into_iter().take(40).map(|(_, site)| (time(&site, 200), site)).collect();
+        found.sort_by(|a, b| b.0.total_cmp(&a.0));
+        for (asking, site) in found.into_iter().take(3) {
             let mut question = Question::named(&site).expect("a site");
-            found.push((best(5, || question.ask(asked, &PROVED)), site));
-            found.sort_by(|a, b| b.0.total_cmp(&a.0));
-            found.truncate(3);
-        }
-        for (_, site) in found {
-            let mut question = Question::named(&site).expect("a site");
-            let asking = best(200, || question.ask(asked, &PROVED));
             let survey = best(200, || question.survey(&PROVED));
             let (units, links) = (question.site.units, question.site.links());
             println!("{name:10}{site:>12}{units:>7}{links:>7}{asking:>11.1}{survey:>11.1}{:>8.2}", asking / survey);
