@@ -66,6 +66,20 @@ fn tree(random: &mut Random, n: usize) -> Site {
     Site::new(n, (1..n).map(|v| (random.below(v), v)).collect::<Vec<_>>())
 }
 
+/// A ring, and links between pairs that chance picks, up to so many in all: every unit has a link.
+pub fn ring_and_more(random: &mut Random, n: usize, links: usize) -> Site {
+    let mut order: Vec<(usize, usize)> = (0..n).map(|v| (v, (v + 1) % n)).collect();
+    let mut pairs: HashSet<(usize, usize)> = order.iter().map(|&(a, b)| (a.min(b), a.max(b))).collect();
+    let links = links.min(n * (n - 1) / 2).min(MAX_LINKS);
+    while order.len() < links {
+        let (a, b) = (random.below(n), random.below(n));
+        if a != b && pairs.insert((a.min(b), a.max(b))) {
+            order.push((a, b));
+        }
+    }
+    Site::new(n, order)
+}
+
 /// Up to so many links between pairs that chance picks.
 pub fn scattered(random: &mut Random, n: usize, links: usize) -> Site {
     let links = links.min(n * (n - 1) / 2).min(MAX_LINKS);

@@ -2,7 +2,7 @@
 
 use crate::work::{Bench, LARGEST, SHIFTS, Side, Work, site};
 use plain::random::Random;
-use plain::sites::{Site, scattered};
+use plain::sites::{Site, ring_and_more};
 use std::hint::black_box;
 use std::time::Instant;
 
@@ -100,7 +100,7 @@ pub fn growth() {
     for shape in LARGEST {
         rows(shape, [32, 64, 128, 256].map(|units| site(shape, units).expect("a shape")));
     }
-    rows("links", [128, 256, 512, 1024].map(|links| scattered(&mut Random::new(1, 1), 256, links)));
+    rows("links", [257, 384, 640, 1024].map(|links| ring_and_more(&mut Random::new(1, 1), 256, links)));
 }
 
 fn rows(name: &str, sites: [Site; 4]) {
