@@ -238,16 +238,16 @@ def grouped_by_tag(losses, plan):
     return [(f"G{k}", part) for k, part in enumerate(groups[1:], 2)]
 
 
-def plan_of(losses, before):
+def plan_of(losses, before, named=False):
     near = neighbours_of(losses.site)
     if before is None:
-        return layout.laid_out(near, losses.groups)
-    return layout.kept(layout.laid_out(neighbours_of(before.site), before.groups), near, losses.groups)
+        return layout.laid_out(near, losses.groups, named)
+    return layout.kept(layout.laid_out(neighbours_of(before.site), before.groups, named), near, losses.groups, named)
 
 
 def full_svg(losses, names=None, before=None, bare=False):
     """Every unit and link; bare, without the lines over them."""
-    plan = plan_of(losses, before)
+    plan = plan_of(losses, before, bool(names))
     styles, tags = styles_of(losses), letters_of(losses)
     grouped = grouped_by_tag(losses, plan)
     xs, ys = [x for x, _ in plan.places.values()], [y for _, y in plan.places.values()]

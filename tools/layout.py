@@ -15,6 +15,7 @@ WIDEST = 486  # the radius of a rim that fills the page
 DENSE = 2.6  # from so many links a unit on, a group stands on a rim
 MARGIN = 34  # around the units of a group
 HEADING = 30  # over them, in a frame
+NAMES = 22  # and more at the sides and below, where units have names
 HEADED = 12 * FONT  # a frame is no narrower
 LEAST = 560  # a page is no narrower
 GAP = 18  # between frames
@@ -303,9 +304,9 @@ def rows_of(sizes, limit):
     return corners, wide, y + tall
 
 
-def packed(sizes, above, framed, room):
+def packed(sizes, above, around, framed, room):
     """The frames of groups of these sizes: their corners, their sizes, and the width and height of all."""
-    sizes = [(max(w + 2 * MARGIN, HEADED if framed else 0), h + above + MARGIN) for w, h in sizes]
+    sizes = [(max(w + 2 * around, HEADED if framed else 0), h + above + around) for w, h in sizes]
     area = sum((w + GAP) * (h + GAP) for w, h in sizes)
     limit = min(room[0], max([1.2 * area**0.5] + [w for w, _ in sizes]))
     corners, wide, high = min((rows_of(sizes, side) for side in (limit, room[0])), key=lambda rows: rows[2] > room[1])
@@ -319,7 +320,12 @@ def grid_of(units, limit):
     return {v: [step * (i % row), step * (i // row)] for i, v in enumerate(units)}
 
 
-def laid_out(near, groups):
+def margin(groups, named):
+    """Around the units of a group; a frame has room for names."""
+    return MARGIN + (NAMES if named and len(groups) > 1 else 0)
+
+
+def laid_out(near, groups, named=False):
     """The layout of a site from its first corner on."""
     units = sum(len(part) for part in groups)
     large = max(1.0, (units / ROOMY) ** 0.5)
@@ -328,19 +334,20 @@ def laid_out(near, groups):
     parts = sorted((part for part in groups if len(groups) == 1 or len(part) > 1), key=lambda part: (-len(part), part))
     found = [Group(near, part) for part in parts]
     framed = len(groups) > 1
+    around = margin(groups, named)
     above = MARGIN + HEADING if framed else MARGIN
-    most = room[0] - 2 * MARGIN, room[1] - above - MARGIN
+    most = room[0] - 2 * around, room[1] - above - around
     grid = grid_of(alone, room[0])
     if alone:
-        most = most[0], most[1] - size_of(grid)[1] - above - MARGIN - GAP
+        most = most[0], most[1] - size_of(grid)[1] - above - around - GAP
     for share in 1, 0.9, 0.8, 0.7, 0.6, 0.5, 0.4, 0.3:
         for group in found:
             group.sized(share, most)
-        corners, sizes, wide, high = packed([group.size for group in found] + [size_of(grid)] * bool(alone), above, framed, room)
+        corners, sizes, wide, high = packed([group.size for group in found] + [size_of(grid)] * bool(alone), above, around, framed, room)
         if high <= room[1]:
             break
     boxes = [group.settled() for group in found] + [grid] * bool(alone)
-    corners, sizes, wide, high = packed([size_of(at) for at in boxes], above, framed, room)
+    corners, sizes, wide, high = packed([size_of(at) for at in boxes], above, around, framed, room)
     places, frames, rims = {}, [], {}
     beside = max(0, (LEAST - wide) / 2)
     for k, ((x, y), at, size) in enumerate(zip(corners, boxes, sizes)):
@@ -356,7 +363,7 @@ def laid_out(near, groups):
     return Layout(places, wide + 2 * beside, high, frames if framed else [], deaf, rims)
 
 
-def kept(old, near, groups):
+def kept(old, near, groups, named=False):
     """The layout of a site where each unit of an old layout stands as before; new units stand near those that they hear."""
     places = {v: p for v, p in old.places.items() if v < len(near)}
     rims = {v: rim for v, rim in old.rims.items() if v < len(near)}
@@ -371,7 +378,7 @@ def kept(old, near, groups):
             start = 0.0, old.high + APART
         places[v] = free_place(start, places, rims)
     parts = [part for part in groups if len(part) > 1]
-    boxes = [frame_around(places, part) for part in parts] if len(groups) > 1 else []
+    boxes = [frame_around(places, part, margin(groups, named)) for part in parts] if len(groups) > 1 else []
     apart = all(not overlapping(a, b) for i, a in enumerate(boxes) for b in boxes[:i])
     strangers = any(inside(places[v], box) for box in boxes for v in places if v not in box[4])
     return Layout(places, old.wide, old.high, boxes if apart and not strangers else [], None, rims)
@@ -390,10 +397,10 @@ def free_place(start, places, rims):
     return max(p[0] for p in places.values()) + APART, start[1]
 
 
-def frame_around(places, part):
+def frame_around(places, part, around):
     xs, ys = [places[v][0] for v in part], [places[v][1] for v in part]
-    left, top = min(xs) - MARGIN, min(ys) - MARGIN - HEADING
-    return left, top, max(max(xs) + MARGIN - left, HEADED), max(ys) + MARGIN - top, sorted(part)
+    left, top = min(xs) - around, min(ys) - MARGIN - HEADING
+    return left, top, max(max(xs) + around - left, HEADED), max(ys) + around - top, sorted(part)
 
 
 def overlapping(a, b):
