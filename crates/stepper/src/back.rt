@@ -4,11 +4,25 @@ use state::Labels;
 use state::Range;
 use words::STATE_WORDS;
 ghost use mathlib.Core.Path.{_≡_};
+ghost use Prim.Native.Nat.{_≤_};
 ghost use Rattle.machine.specs.StageSteps.{Moved};
 ghost use Rattle.words.specs.Layout.{stateOf};
 
+// The rounds of the stage that the clock shows.
+pub(crate) fn rounds(stage: u16, words: &mut [u16; STATE_WORDS], budget: u16) -> u16
+    requires { ⌜ (stateOf (now words) .clock .stage ≡ stage) × ((7 ≤ stage) × (stage ≤ 10)) ⌝ }
+    ensures { λ r. ⌜ Moved budget (stateOf (now (words .entry))) r (stateOf (now (words .exit))) ⌝ }
+{
+    match stage {
+        7 => range_stage(words, budget),
+        8 => joins_stage(words, budget),
+        9 => classes_stage(words, budget),
+        _ => labels_stage(words, budget),
+    }
+}
+
 // Stage 7.
-pub(crate) fn range_stage(words: &mut [u16; STATE_WORDS], budget: u16) -> u16
+fn range_stage(words: &mut [u16; STATE_WORDS], budget: u16) -> u16
     requires { ⌜ stateOf (now words) .clock .stage ≡ 7 ⌝ }
     ensures { λ r. ⌜ Moved budget (stateOf (now (words .entry))) r (stateOf (now (words .exit))) ⌝ }
 {
@@ -48,7 +62,7 @@ pub(crate) fn range_stage(words: &mut [u16; STATE_WORDS], budget: u16) -> u16
 }
 
 // Stage 8.
-pub(crate) fn joins_stage(words: &mut [u16; STATE_WORDS], budget: u16) -> u16
+fn joins_stage(words: &mut [u16; STATE_WORDS], budget: u16) -> u16
     requires { ⌜ stateOf (now words) .clock .stage ≡ 8 ⌝ }
     ensures { λ r. ⌜ Moved budget (stateOf (now (words .entry))) r (stateOf (now (words .exit))) ⌝ }
 {
@@ -77,7 +91,7 @@ pub(crate) fn joins_stage(words: &mut [u16; STATE_WORDS], budget: u16) -> u16
 }
 
 // Stage 9.
-pub(crate) fn classes_stage(words: &mut [u16; STATE_WORDS], budget: u16) -> u16
+fn classes_stage(words: &mut [u16; STATE_WORDS], budget: u16) -> u16
     requires { ⌜ stateOf (now words) .clock .stage ≡ 9 ⌝ }
     ensures { λ r. ⌜ Moved budget (stateOf (now (words .entry))) r (stateOf (now (words .exit))) ⌝ }
 {
@@ -101,7 +115,7 @@ pub(crate) fn classes_stage(words: &mut [u16; STATE_WORDS], budget: u16) -> u16
 }
 
 // Stage 10.
-pub(crate) fn labels_stage(words: &mut [u16; STATE_WORDS], budget: u16) -> u16
+fn labels_stage(words: &mut [u16; STATE_WORDS], budget: u16) -> u16
     requires { ⌜ stateOf (now words) .clock .stage ≡ 10 ⌝ }
     ensures { λ r. ⌜ Moved budget (stateOf (now (words .entry))) r (stateOf (now (words .exit))) ⌝ }
 {

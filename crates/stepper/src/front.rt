@@ -5,11 +5,27 @@ use state::Tour;
 use state::Tree;
 use words::STATE_WORDS;
 ghost use mathlib.Core.Path.{_≡_};
+ghost use Prim.Native.Nat.{_≤_};
 ghost use Rattle.machine.specs.StageSteps.{Moved};
 ghost use Rattle.words.specs.Layout.{stateOf};
 
+// The rounds of the stage that the clock shows.
+pub(crate) fn rounds(stage: u16, words: &mut [u16; STATE_WORDS], budget: u16) -> u16
+    requires { ⌜ (stateOf (now words) .clock .stage ≡ stage) × ((1 ≤ stage) × (stage ≤ 6)) ⌝ }
+    ensures { λ r. ⌜ Moved budget (stateOf (now (words .entry))) r (stateOf (now (words .exit))) ⌝ }
+{
+    match stage {
+        1 => components_stage(words, budget),
+        2 => tree_stage(words, budget),
+        3 => tour_stage(words, budget),
+        4 => ranking_stage(words, budget),
+        5 => marks_stage(words, budget),
+        _ => places_stage(words, budget),
+    }
+}
+
 // Stage 1.
-pub(crate) fn components_stage(words: &mut [u16; STATE_WORDS], budget: u16) -> u16
+fn components_stage(words: &mut [u16; STATE_WORDS], budget: u16) -> u16
     requires { ⌜ stateOf (now words) .clock .stage ≡ 1 ⌝ }
     ensures { λ r. ⌜ Moved budget (stateOf (now (words .entry))) r (stateOf (now (words .exit))) ⌝ }
 {
@@ -29,7 +45,7 @@ pub(crate) fn components_stage(words: &mut [u16; STATE_WORDS], budget: u16) -> u
 }
 
 // Stage 2.
-pub(crate) fn tree_stage(words: &mut [u16; STATE_WORDS], budget: u16) -> u16
+fn tree_stage(words: &mut [u16; STATE_WORDS], budget: u16) -> u16
     requires { ⌜ stateOf (now words) .clock .stage ≡ 2 ⌝ }
     ensures { λ r. ⌜ Moved budget (stateOf (now (words .entry))) r (stateOf (now (words .exit))) ⌝ }
 {
@@ -57,7 +73,7 @@ pub(crate) fn tree_stage(words: &mut [u16; STATE_WORDS], budget: u16) -> u16
 }
 
 // Stage 3.
-pub(crate) fn tour_stage(words: &mut [u16; STATE_WORDS], budget: u16) -> u16
+fn tour_stage(words: &mut [u16; STATE_WORDS], budget: u16) -> u16
     requires { ⌜ stateOf (now words) .clock .stage ≡ 3 ⌝ }
     ensures { λ r. ⌜ Moved budget (stateOf (now (words .entry))) r (stateOf (now (words .exit))) ⌝ }
 {
@@ -82,7 +98,7 @@ pub(crate) fn tour_stage(words: &mut [u16; STATE_WORDS], budget: u16) -> u16
 }
 
 // Stage 4.
-pub(crate) fn ranking_stage(words: &mut [u16; STATE_WORDS], budget: u16) -> u16
+fn ranking_stage(words: &mut [u16; STATE_WORDS], budget: u16) -> u16
     requires { ⌜ stateOf (now words) .clock .stage ≡ 4 ⌝ }
     ensures { λ r. ⌜ Moved budget (stateOf (now (words .entry))) r (stateOf (now (words .exit))) ⌝ }
 {
@@ -95,7 +111,7 @@ pub(crate) fn ranking_stage(words: &mut [u16; STATE_WORDS], budget: u16) -> u16
 }
 
 // Stage 5.
-pub(crate) fn marks_stage(words: &mut [u16; STATE_WORDS], budget: u16) -> u16
+fn marks_stage(words: &mut [u16; STATE_WORDS], budget: u16) -> u16
     requires { ⌜ stateOf (now words) .clock .stage ≡ 5 ⌝ }
     ensures { λ r. ⌜ Moved budget (stateOf (now (words .entry))) r (stateOf (now (words .exit))) ⌝ }
 {
@@ -124,7 +140,7 @@ pub(crate) fn marks_stage(words: &mut [u16; STATE_WORDS], budget: u16) -> u16
 }
 
 // Stage 6.
-pub(crate) fn places_stage(words: &mut [u16; STATE_WORDS], budget: u16) -> u16
+fn places_stage(words: &mut [u16; STATE_WORDS], budget: u16) -> u16
     requires { ⌜ stateOf (now words) .clock .stage ≡ 6 ⌝ }
     ensures { λ r. ⌜ Moved budget (stateOf (now (words .entry))) r (stateOf (now (words .exit))) ⌝ }
 {

@@ -19,7 +19,7 @@ const NOT_KEPT: u32 = 10;
 
 const IS_FINISHED: u32 = 11;
 
-// One round: 10, 11.
+// One round: 10, 11. It calls the stages by itself: with two callers each half of them has a frame of its own on the stack, and not one with the other half.
 pub fn round(words: &mut [u16; STATE_WORDS]) -> u32
     ensures number { λ r. ⌜ r ≡ numberOf (roundAnswer (stateOf (now (words .entry))) .reply) ⌝ }
     ensures words { λ _. ⌜ stateOf (now (words .exit)) ≡ roundAnswer (stateOf (now (words .entry))) .state ⌝ }
@@ -28,7 +28,12 @@ pub fn round(words: &mut [u16; STATE_WORDS]) -> u32
     if refused != 0 {
         return refused;
     }
-    go(words, 1);
+    let stage = words::clock_at(words).stage;
+    if stage < 7 {
+        front::rounds(stage, words, 1);
+        return 0;
+    }
+    back::rounds(stage, words, 1);
     0
 }
 
@@ -72,26 +77,11 @@ fn go(words: &mut [u16; STATE_WORDS], budget: u16) -> u16
         if 10 < stage {
             return made;
         }
-        made += rounds(stage, words, budget - made);
+        if stage < 7 {
+            made += front::rounds(stage, words, budget - made);
+            continue;
+        }
+        made += back::rounds(stage, words, budget - made);
     }
     made
-}
-
-// The rounds of the stage that the clock shows.
-fn rounds(stage: u16, words: &mut [u16; STATE_WORDS], budget: u16) -> u16
-    requires { ⌜ (stateOf (now words) .clock .stage ≡ stage) × ((1 ≤ stage) × (stage ≤ 10)) ⌝ }
-    ensures { λ r. ⌜ Moved budget (stateOf (now (words .entry))) r (stateOf (now (words .exit))) ⌝ }
-{
-    match stage {
-        1 => front::components_stage(words, budget),
-        2 => front::tree_stage(words, budget),
-        3 => front::tour_stage(words, budget),
-        4 => front::ranking_stage(words, budget),
-        5 => front::marks_stage(words, budget),
-        6 => front::places_stage(words, budget),
-        7 => back::range_stage(words, budget),
-        8 => back::joins_stage(words, budget),
-        9 => back::classes_stage(words, budget),
-        _ => back::labels_stage(words, budget),
-    }
 }

@@ -16,13 +16,20 @@ Inv-loop words₀ budget made₀ words made = Going budget (stateOf words₀) ma
 abbrev μ-loop : tie.MeasureT-loop
 μ-loop words₀ budget made₀ words made = budget - made
 
--- the run goes on by the rounds of a stage
-further : (c : tie.After-rounds Inv-loop μ-loop)
-    → (let l = c .before .before .before .before .before .before in
+-- the run goes on by the rounds of a stage, an early one or a late one
+early : (c : tie.After-rounds Inv-loop μ-loop)
+    → (let l = c .before .before .before .before .before .before .before in
     Going (l .before .args .budget) (stateOf (l .before .args .words .now)) (l .loop .made + c .rounds .result) (stateOf (c .rounds .last .1 .0)) × (1 ≤ c .rounds .result))
-further c =
-    let l = c .before .before .before .before .before .before in
-    c .rounds .ensures _ _ _ (l .loop .inv) (c .before .before .before .before .before .loop-test .taken) refl
+early c =
+    let i = c .before .before .before .before .before .before in
+    c .rounds .ensures _ _ _ (i .before .loop .inv) (i .loop-test .taken) refl
+
+late : (c : tie.After-rounds2 Inv-loop μ-loop)
+    → (let l = c .before .before .before .before .before .before .before in
+    Going (l .before .args .budget) (stateOf (l .before .args .words .now)) (l .loop .made + c .rounds2 .result) (stateOf (c .rounds2 .last .1 .0)) × (1 ≤ c .rounds2 .result))
+late c =
+    let i = c .before .before .before .before .before .before in
+    c .rounds2 .ensures _ _ _ (i .before .loop .inv) (i .loop-test .taken) refl
 
 loop-holds : tie.Need-loop-holds Inv-loop μ-loop
 loop-holds c = begins _ _ (c .pre)
@@ -37,27 +44,48 @@ returns c =
     ended _ _ _ _ (l .loop .inv) (rw (k .clock-at .ensures) at (c .if1 .taken))
 
 sub-rounds : tie.Need-sub-rounds Inv-loop μ-loop
-sub-rounds c = omega (arith, c .before .before .before .before .before .loop .inv .within)
+sub-rounds c = omega (arith, c .before .before .before .before .before .before .loop .inv .within)
 
 rounds-requires : tie.Need-rounds-requires Inv-loop μ-loop
 rounds-requires c κs =
-    let k = c .before .before in
-    let l = k .before .before .before in
+    let k = c .before .before .before in
     let e = sym (ap (λ (x : Clock). x .stage) (k .clock-at .ensures)) in
-    (e, (rw e at (kept-exact _ .0 (l .loop .inv .well) .from), omega (arith, c .before .if1 .left)))
+    (e, (rw e at (kept-exact _ .0 (k .before .before .before .loop .inv .well) .from), omega (arith, c .before .if2 .taken)))
 
 add-made : tie.Need-add-made Inv-loop μ-loop
 add-made c =
-    let m = further c in
-    omega (arith, m .0 .within, c .before .before .before .before .before .before .before .fits .budget)
+    let m = early c in
+    omega (arith, m .0 .within, c .before .before .before .before .before .before .before .before .fits .budget)
 
 loop-less : tie.Need-loop-less Inv-loop μ-loop
 loop-less c =
-    let m = further c in
+    let m = early c in
     omega (arith, m .1, m .0 .within)
 
 loop-again : tie.Need-loop-again Inv-loop μ-loop
-loop-again c = further c .0
+loop-again c = early c .0
+
+sub-rounds-2 : tie.Need-sub-rounds-2 Inv-loop μ-loop
+sub-rounds-2 c = omega (arith, c .before .before .before .before .before .before .loop .inv .within)
+
+rounds-requires-2 : tie.Need-rounds-requires-2 Inv-loop μ-loop
+rounds-requires-2 c κs =
+    let k = c .before .before .before in
+    let e = sym (ap (λ (x : Clock). x .stage) (k .clock-at .ensures)) in
+    (e, (omega (arith, c .before .if2 .left), omega (arith, c .before .before .if1 .left)))
+
+add-made-2 : tie.Need-add-made-2 Inv-loop μ-loop
+add-made-2 c =
+    let m = late c in
+    omega (arith, m .0 .within, c .before .before .before .before .before .before .before .before .fits .budget)
+
+loop-less-2 : tie.Need-loop-less-2 Inv-loop μ-loop
+loop-less-2 c =
+    let m = late c in
+    omega (arith, m .1, m .0 .within)
+
+loop-again-2 : tie.Need-loop-again-2 Inv-loop μ-loop
+loop-again-2 c = late c .0
 
 returns-2 : tie.Need-returns-2 Inv-loop μ-loop
 returns-2 c = spent _ _ _ _ (c .before .loop .inv) (c .loop-test .left)
@@ -76,4 +104,9 @@ go-spec =
     add-made
     loop-less
     loop-again
+    sub-rounds-2
+    rounds-requires-2
+    add-made-2
+    loop-less-2
+    loop-again-2
     returns-2)

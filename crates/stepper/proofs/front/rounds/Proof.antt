@@ -1,10 +1,10 @@
--- An arm for each stage; the one left is the tenth.
+-- An arm for each stage; the one left is the sixth.
 use mathlib.Core.Path.{_∙_}
 use native.Mathlib.Nat.{le-antisymm}
 use Rattle.machine.specs.Going.{above}
 use borrow.Author.Needs.{needs}
-use Rattle.stepper.proofs.rounds.Statement.{statement}
-use Rattle.stepper.proofs.rounds.Tie as tie
+use Rattle.stepper.proofs.front.rounds.Statement.{statement}
+use Rattle.stepper.proofs.front.rounds.Tie as tie
 
 components-stage-requires : tie.Need-components-stage-requires
 components-stage-requires c κs = search needs
@@ -22,31 +22,15 @@ marks-stage-requires : tie.Need-marks-stage-requires
 marks-stage-requires c κs = search needs
 
 places-stage-requires : tie.Need-places-stage-requires
-places-stage-requires c κs = search needs
-
-range-stage-requires : tie.Need-range-stage-requires
-range-stage-requires c κs = search needs
-
-joins-stage-requires : tie.Need-joins-stage-requires
-joins-stage-requires c κs = search needs
-
-classes-stage-requires : tie.Need-classes-stage-requires
-classes-stage-requires c κs = search needs
-
-labels-stage-requires : tie.Need-labels-stage-requires
-labels-stage-requires c κs =
+places-stage-requires c κs =
     let k = c .before .before .args .stage in
     let p = c .before .before .pre in
     let r = c .before .match .rest in
-    let a2 = above k 1 (p .1 .0) (r .0 .0 .0 .0 .0 .0 .0 .0 .1) in
-    let a3 = above k 2 a2 (r .0 .0 .0 .0 .0 .0 .0 .1) in
-    let a4 = above k 3 a3 (r .0 .0 .0 .0 .0 .0 .1) in
-    let a5 = above k 4 a4 (r .0 .0 .0 .0 .0 .1) in
-    let a6 = above k 5 a5 (r .0 .0 .0 .0 .1) in
-    let a7 = above k 6 a6 (r .0 .0 .0 .1) in
-    let a8 = above k 7 a7 (r .0 .0 .1) in
-    let a9 = above k 8 a8 (r .0 .1) in
-    p .0 ∙ le-antisymm (p .1 .1) (above k 9 a9 (r .1))
+    let a2 = above k 1 (p .1 .0) (r .0 .0 .0 .0 .1) in
+    let a3 = above k 2 a2 (r .0 .0 .0 .1) in
+    let a4 = above k 3 a3 (r .0 .0 .1) in
+    let a5 = above k 4 a4 (r .0 .1) in
+    p .0 ∙ le-antisymm (p .1 .1) (above k 5 a5 (r .1))
 
 returns : tie.Need-returns
 returns c = search needs
@@ -66,18 +50,6 @@ returns-5 c = search needs
 returns-6 : tie.Need-returns-6
 returns-6 c = search needs
 
-returns-7 : tie.Need-returns-7
-returns-7 c = search needs
-
-returns-8 : tie.Need-returns-8
-returns-8 c = search needs
-
-returns-9 : tie.Need-returns-9
-returns-9 c = search needs
-
-returns-10 : tie.Need-returns-10
-returns-10 c = search needs
-
 pub rounds-spec : {M : Type 1} → statement M
 rounds-spec =
     tie.close
@@ -88,17 +60,9 @@ rounds-spec =
     ranking-stage-requires
     marks-stage-requires
     places-stage-requires
-    range-stage-requires
-    joins-stage-requires
-    classes-stage-requires
-    labels-stage-requires
     returns
     returns-2
     returns-3
     returns-4
     returns-5
-    returns-6
-    returns-7
-    returns-8
-    returns-9
-    returns-10)
+    returns-6)
