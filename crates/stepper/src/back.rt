@@ -4,19 +4,19 @@ use state::Labels;
 use state::Range;
 use words::STATE_WORDS;
 ghost use mathlib.Core.Path.{_≡_};
+ghost use mathlib.Core.Logic.{_≢_};
 ghost use Prim.Native.Nat.{_≤_};
 ghost use Rattle.machine.specs.StageSteps.{Moved};
 ghost use Rattle.words.specs.Layout.{stateOf};
 
-// The rounds of the stage that the clock shows.
+// The rounds of stage 7, 8 or 10, which the clock shows.
 pub(crate) fn rounds(stage: u16, words: &mut [u16; STATE_WORDS], budget: u16) -> u16
-    requires { ⌜ (stateOf (now words) .clock .stage ≡ stage) × ((7 ≤ stage) × (stage ≤ 10)) ⌝ }
+    requires { ⌜ (stateOf (now words) .clock .stage ≡ stage) × ((7 ≤ stage) × (stage ≤ 10) × (stage ≢ 9)) ⌝ }
     ensures { λ r. ⌜ Moved budget (stateOf (now (words .entry))) r (stateOf (now (words .exit))) ⌝ }
 {
     match stage {
         7 => range_stage(words, budget),
         8 => joins_stage(words, budget),
-        9 => classes_stage(words, budget),
         _ => labels_stage(words, budget),
     }
 }
@@ -91,7 +91,7 @@ fn joins_stage(words: &mut [u16; STATE_WORDS], budget: u16) -> u16
 }
 
 // Stage 9.
-fn classes_stage(words: &mut [u16; STATE_WORDS], budget: u16) -> u16
+pub(crate) fn classes_stage(words: &mut [u16; STATE_WORDS], budget: u16) -> u16
     requires { ⌜ stateOf (now words) .clock .stage ≡ 9 ⌝ }
     ensures { λ r. ⌜ Moved budget (stateOf (now (words .entry))) r (stateOf (now (words .exit))) ⌝ }
 {

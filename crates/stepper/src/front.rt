@@ -9,13 +9,12 @@ ghost use Prim.Native.Nat.{_≤_};
 ghost use Rattle.machine.specs.StageSteps.{Moved};
 ghost use Rattle.words.specs.Layout.{stateOf};
 
-// The rounds of the stage that the clock shows.
+// The rounds of one of the stages 2 to 6, which the clock shows.
 pub(crate) fn rounds(stage: u16, words: &mut [u16; STATE_WORDS], budget: u16) -> u16
-    requires { ⌜ (stateOf (now words) .clock .stage ≡ stage) × ((1 ≤ stage) × (stage ≤ 6)) ⌝ }
+    requires { ⌜ (stateOf (now words) .clock .stage ≡ stage) × ((2 ≤ stage) × (stage ≤ 6)) ⌝ }
     ensures { λ r. ⌜ Moved budget (stateOf (now (words .entry))) r (stateOf (now (words .exit))) ⌝ }
 {
     match stage {
-        1 => components_stage(words, budget),
         2 => tree_stage(words, budget),
         3 => tour_stage(words, budget),
         4 => ranking_stage(words, budget),
@@ -25,7 +24,7 @@ pub(crate) fn rounds(stage: u16, words: &mut [u16; STATE_WORDS], budget: u16) ->
 }
 
 // Stage 1.
-fn components_stage(words: &mut [u16; STATE_WORDS], budget: u16) -> u16
+pub(crate) fn components_stage(words: &mut [u16; STATE_WORDS], budget: u16) -> u16
     requires { ⌜ stateOf (now words) .clock .stage ≡ 1 ⌝ }
     ensures { λ r. ⌜ Moved budget (stateOf (now (words .entry))) r (stateOf (now (words .exit))) ⌝ }
 {

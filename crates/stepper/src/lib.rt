@@ -19,7 +19,8 @@ const NOT_KEPT: u32 = 10;
 
 const IS_FINISHED: u32 = 11;
 
-// One round: 10, 11. It calls the stages by itself: with two callers each half of them has a frame of its own on the stack, and not one with the other half.
+// One round: 10, 11. It calls the stages by itself: what has two callers keeps a frame of its own on the stack, so that the tables of a leap (stages 1 and
+// 9) do not stand beside those of the other stages.
 pub fn round(words: &mut [u16; STATE_WORDS]) -> u32
     ensures number { λ r. ⌜ r ≡ numberOf (roundAnswer (stateOf (now (words .entry))) .reply) ⌝ }
     ensures words { λ _. ⌜ stateOf (now (words .exit)) ≡ roundAnswer (stateOf (now (words .entry))) .state ⌝ }
@@ -29,6 +30,14 @@ pub fn round(words: &mut [u16; STATE_WORDS]) -> u32
         return refused;
     }
     let stage = words::clock_at(words).stage;
+    if stage == 1 {
+        front::components_stage(words, 1);
+        return 0;
+    }
+    if stage == 9 {
+        back::classes_stage(words, 1);
+        return 0;
+    }
     if stage < 7 {
         front::rounds(stage, words, 1);
         return 0;
@@ -76,6 +85,14 @@ fn go(words: &mut [u16; STATE_WORDS], budget: u16) -> u16
         let stage = words::clock_at(words).stage;
         if 10 < stage {
             return made;
+        }
+        if stage == 1 {
+            made += front::components_stage(words, budget - made);
+            continue;
+        }
+        if stage == 9 {
+            made += back::classes_stage(words, budget - made);
+            continue;
         }
         if stage < 7 {
             made += front::rounds(stage, words, budget - made);

@@ -1,4 +1,4 @@
--- By whether the call is refused. A round is a run of one, of a stage that is early or late.
+-- By whether the call is refused. A round is a run of one, of the stage that the clock shows.
 use mathlib.Core.Path.{_≡_, refl, sym, ap, _∙_}
 use mathlib.Core.Bool.{true, false}
 use Prim.Native.Nat.{ℕ, _+_, _≤_}
@@ -12,7 +12,7 @@ use Rattle.machine.specs.Step.{step}
 use Rattle.machine.specs.Going.{begins, spent, ran-one}
 use Rattle.machine.specs.StageSteps.{Moved}
 use Rattle.machine.specs.RunAnswers.{accepted}
-use Rattle.machine.specs.Calls.{roundAnswer}
+use Rattle.machine.specs.Calls.{roundRefusal, roundAnswer}
 use Rattle.words.specs.Layout.{stateOf}
 use borrow.Author.Needs.{needs}
 use Rattle.stepper.proofs.round.Statement.{statement}
@@ -28,6 +28,16 @@ one-round s s′ made w f m =
     let g = m 1 s 0 (begins 1 s w) (omega arith) refl in
     sym (ap (λ (p : State × ℕ). p .0) (spent 1 s (0 + made) s′ (g .0) (omega (arith, g .1)))) ∙ ran-one s f
 
+-- the stage that the clock shows, of a state that is not refused
+shown : (k : tie.After-clock-at) → stateOf (k .before .before .before .before .before .args .words .now) .clock .stage ≡ k .clock-at .result .stage
+shown k = sym (ap (λ (x : Clock). x .stage) (k .clock-at .ensures))
+
+taken : (k : tie.After-clock-at) → (let s = stateOf (k .before .before .before .before .before .args .words .now) in (roundRefusal s ≡ 0) × (wellFormed s ≡ true) × (finished s ≡ false))
+taken k =
+    let none = sym (k .before .before .before .refusal .ensures) ∙ k .before .before .if1 .left in
+    let a = accepted _ none in
+    (none, a .0, a .1)
+
 refusal-requires : tie.Need-refusal-requires
 refusal-requires c κs = search needs
 
@@ -40,36 +50,47 @@ returns c =
 clock-at-requires : tie.Need-clock-at-requires
 clock-at-requires c κs = search needs
 
-rounds-requires : tie.Need-rounds-requires
-rounds-requires c κs =
-    let k = c .before .before in
-    let e = sym (ap (λ (x : Clock). x .stage) (k .clock-at .ensures)) in
-    let none = sym (k .before .before .before .refusal .ensures) ∙ k .before .before .if1 .left in
-    (e, (rw e at (kept-exact _ .0 (accepted _ none .0) .from), omega (arith, c .before .if2 .taken)))
+components-stage-requires : tie.Need-components-stage-requires
+components-stage-requires c κs = shown (c .before .before) ∙ c .before .if2 .taken
 
 returns-2 : tie.Need-returns-2
 unfolding roundAnswer
 returns-2 c =
-    let k = c .before .before .before in
-    let none = sym (k .before .before .before .refusal .ensures) ∙ k .before .before .if1 .left in
-    let a = accepted _ none in
-    rw none (refl, one-round _ _ _ (a .0) (a .1) (c .rounds .ensures))
+    let t = taken (c .before .before .before) in
+    rw (t .0) (refl, one-round _ _ _ (t .1) (t .2) (c .components-stage .ensures))
 
-rounds-requires-2 : tie.Need-rounds-requires-2
-rounds-requires-2 c κs =
-    let k = c .before .before in
-    let e = sym (ap (λ (x : Clock). x .stage) (k .clock-at .ensures)) in
-    let none = sym (k .before .before .before .refusal .ensures) ∙ k .before .before .if1 .left in
-    let a = accepted _ none in
-    (e, (omega (arith, c .before .if2 .left), rw e at (unfinished _ (a .0) (a .1))))
+classes-stage-requires : tie.Need-classes-stage-requires
+classes-stage-requires c κs = shown (c .before .before .before) ∙ c .before .if3 .taken
 
 returns-3 : tie.Need-returns-3
 unfolding roundAnswer
 returns-3 c =
-    let k = c .before .before .before in
-    let none = sym (k .before .before .before .refusal .ensures) ∙ k .before .before .if1 .left in
-    let a = accepted _ none in
-    rw none (refl, one-round _ _ _ (a .0) (a .1) (c .rounds2 .ensures))
+    let t = taken (c .before .before .before .before) in
+    rw (t .0) (refl, one-round _ _ _ (t .1) (t .2) (c .classes-stage .ensures))
+
+rounds-requires : tie.Need-rounds-requires
+rounds-requires c κs =
+    let k = c .before .before .before .before in
+    let from = rw (shown k) at (kept-exact _ .0 (taken k .1) .from) in
+    (shown k, (omega (arith, from, c .before .before .before .if2 .left), omega (arith, c .before .if4 .taken)))
+
+returns-4 : tie.Need-returns-4
+unfolding roundAnswer
+returns-4 c =
+    let t = taken (c .before .before .before .before .before) in
+    rw (t .0) (refl, one-round _ _ _ (t .1) (t .2) (c .rounds .ensures))
+
+rounds-requires-2 : tie.Need-rounds-requires-2
+rounds-requires-2 c κs =
+    let k = c .before .before .before .before in
+    let to = rw (shown k) at (unfinished _ (taken k .1) (taken k .2)) in
+    (shown k, (omega (arith, c .before .if4 .left), to, c .before .before .if3 .left))
+
+returns-5 : tie.Need-returns-5
+unfolding roundAnswer
+returns-5 c =
+    let t = taken (c .before .before .before .before .before) in
+    rw (t .0) (refl, one-round _ _ _ (t .1) (t .2) (c .rounds2 .ensures))
 
 pub round-spec : {M : Type 1} → statement M
 round-spec =
@@ -78,7 +99,11 @@ round-spec =
     refusal-requires
     returns
     clock-at-requires
-    rounds-requires
+    components-stage-requires
     returns-2
+    classes-stage-requires
+    returns-3
+    rounds-requires
+    returns-4
     rounds-requires-2
-    returns-3)
+    returns-5)

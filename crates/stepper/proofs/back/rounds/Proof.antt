@@ -12,17 +12,14 @@ range-stage-requires c κs = search needs
 joins-stage-requires : tie.Need-joins-stage-requires
 joins-stage-requires c κs = search needs
 
-classes-stage-requires : tie.Need-classes-stage-requires
-classes-stage-requires c κs = search needs
-
 labels-stage-requires : tie.Need-labels-stage-requires
 labels-stage-requires c κs =
     let k = c .before .before .args .stage in
     let p = c .before .before .pre in
     let r = c .before .match .rest in
-    let a8 = above k 7 (p .1 .0) (r .0 .0 .1) in
-    let a9 = above k 8 a8 (r .0 .1) in
-    p .0 ∙ le-antisymm (p .1 .1) (above k 9 a9 (r .1))
+    let a8 = above k 7 (p .1 .0) (r .0 .1) in
+    let a9 = above k 8 a8 (r .1) in
+    p .0 ∙ le-antisymm (p .1 .1) (above k 9 a9 (p .1 .2))
 
 returns : tie.Need-returns
 returns c = search needs
@@ -33,18 +30,13 @@ returns-2 c = search needs
 returns-3 : tie.Need-returns-3
 returns-3 c = search needs
 
-returns-4 : tie.Need-returns-4
-returns-4 c = search needs
-
 pub rounds-spec : {M : Type 1} → statement M
 rounds-spec =
     tie.close
     (tie.spec
     range-stage-requires
     joins-stage-requires
-    classes-stage-requires
     labels-stage-requires
     returns
     returns-2
-    returns-3
-    returns-4)
+    returns-3)
