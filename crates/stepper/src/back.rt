@@ -1,4 +1,5 @@
 // The rounds of each of the stages 7 to 10 on the words of a state.
+use state::Aux;
 use state::Global;
 use state::Labels;
 use state::Range;
@@ -97,20 +98,24 @@ pub(crate) fn classes_stage(words: &mut [u16; STATE_WORDS], budget: u16) -> u16
 {
     let table = words::table_at(words);
     let tree = words::tree_at(words);
-    let aux = words::aux_at(words);
+    let Aux {
+        parents,
+        links,
+        color,
+    } = words::aux_at(words);
     let r = classes::run(
         table.units,
         table.links,
         budget,
         &table.ends,
         &tree.parent,
-        &aux.links,
-        &aux.parents,
+        &links,
+        &parents,
         words::clock_at(words),
-        aux.color,
+        color,
     );
     words::lay_clock(r.clock, words);
-    words::lay_aux(&aux.parents, &aux.links, &r.color, words);
+    words::lay_aux(&parents, &links, &r.color, words);
     r.made
 }
 

@@ -32,9 +32,10 @@ returns : tie.Need-returns
 returns c =
     let start = c .before .before .before .before .before .before .before .before .before .before .before .before .before .before .before .before .before .before .before .before .before .before .before .before .before .before .before in
     let s = stateOf (start .args .words .now) in
+    let aux = c .before .before .before .before .before .before .before .before .before .before .before .before .before .before .before .before .before .before .before .before .before in
     moved (Rounds.stage s) (start .args .budget) (record { color = s .aux .color; clock = s .clock; made = 0 }) _ s _ (start .pre) refl refl
-    (rw (c .before .before .before .before .before .before .before .before .before .before .before .before .clock-at .ensures, c .before .before .before .before .before .before .before .before .before .before .before .before .before .before .before .before .before .before .before .before .before .aux-at .ensures, c .before .before .before .before .before .before .before .before .before .before .before .before .before .before .before .before .before .before .before .before .before .before .before .tree-at .ensures, c .before .before .before .before .before .before .before .before .before .before .before .before .before .before .before .before .before .before .before .before .before .before .before .before .before .table-at .ensures) at (c .before .before .before .before .before .before .before .before .before .before .run .ensures))
-    (rw (c .lay-aux .ensures, c .before .before .before .before .before .before .before .lay-clock .ensures, c .before .before .before .before .before .before .before .before .before .before .before .before .before .before .before .before .before .before .before .before .before .aux-at .ensures) refl)
+    (rw (c .before .before .before .before .before .before .before .before .before .before .clock-at .ensures, aux .aux-at .ensures, aux .before .before .tree-at .ensures, aux .before .before .before .before .table-at .ensures) at (c .before .before .before .before .before .before .before .before .before .run .ensures))
+    (rw (c .lay-aux .ensures, c .before .before .before .before .before .before .lay-clock .ensures, aux .aux-at .ensures) refl)
 
 pub classes-stage-spec : {M : Type 1} → statement M
 classes-stage-spec =
