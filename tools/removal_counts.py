@@ -1,8 +1,8 @@
 #!/usr/bin/env python3
 """What removal_check must print: python3 tools/removal_counts.py > crates/removal_check/stdout
 
-Draws the tables that removal_check draws, and counts single points, lone links and labels in ways of its own: rings are listed one by one on
-the small tables, and on all tables two links go together until the removal of a unit parts them."""
+Draws the tables that removal_check reads, writes them to its data, and counts single points, lone links and labels in ways of its own: rings are
+listed one by one on the small tables, and on all tables two links go together until the removal of a unit parts them."""
 
 from itertools import combinations, permutations
 from pathlib import Path
@@ -177,8 +177,18 @@ def counted_by_rings(units, links):
     return singles, lones, len(labels)
 
 
+def stream(tables):
+    """How many tables there are, and each: the unit count, how many links it has, each link with its ends in the high and the low byte."""
+    lines = [[len(tables)]]
+    for units, links in tables:
+        lines += [units], [len(links), *(256 * a + b for a, b in links)]
+    return "".join(" ".join(map(str, line)) + "\n" for line in lines)
+
+
 def main():
-    names = (Path(__file__).parent.parent / "crates/removal_check/args").read_text().splitlines()
+    crate = Path(__file__).parent.parent / "crates/removal_check"
+    args = (crate / "args").read_text().splitlines()
+    files, names = args[::2], args[1::2]
     kinds = [list(small(units)) for units in range(1, 6)]
     for tables in kinds:
         for table in tables:
@@ -187,7 +197,8 @@ def main():
     assert len(kinds) == len(names)
     print("tables, units, links, single points, lone links, labels, differences:")
     totals = [0] * 7
-    for name, tables in zip(names, kinds):
+    for file, name, tables in zip(files, names, kinds):
+        (crate / "data" / file).write_text(stream(tables))
         found = [counted(*table) for table in tables]
         counts = [len(tables), sum(units for units, _ in tables), sum(len(links) for _, links in tables), *map(sum, zip(*found)), 0]
         totals = [a + b for a, b in zip(totals, counts)]

@@ -1,69 +1,68 @@
-// Surveys tables with the library and again by removal, and compares: all tables of one to five units, then tables of every shape. A line
-// for each kind of table has the counts and the kind's name, which is an argument.
-mod across;
-mod chance;
+// Surveys the tables of each stream with the library and again by removal, and compares: all tables of one to five units, then tables of every shape. A
+// line for each stream has the counts and its name; the arguments are the file and the name of each. "fault" stands for a stream that is none.
 mod compare;
-mod draw;
 mod groups;
 mod removal;
-mod row;
-mod shapes;
-mod shuffle;
-mod small;
 
 use libc::STDOUT_FILENO;
 use std::num::wrapping_add_u64;
-
-// The kinds: all tables of 1, 2, 3, 4 and 5 units, then the shapes.
-const SMALL: u16 = 5;
+use streams::Cursor;
+ghost use mathlib.Core.Path.{_≡_};
+ghost use lib.ListN.{length};
 
 const KINDS: u16 = 25;
 
-fn tables_of(kind: u16) -> u16 {
-    match kind {
-        0 => 1,
-        1 => 2,
-        2 => 8,
-        3 => 64,
-        4 => 1024,
-        _ => 20,
-    }
-}
-
-// The small table of so many units with that number.
-fn small_one(units: u16, number: u16, counts: &mut [u64; 7]) {
+// A table: the unit count, the list of links, each one word.
+fn case(stream: &[u8], cursor: Cursor, counts: &mut [u64; 7]) -> Cursor {
+    let units = streams::next_number(stream, cursor);
+    let links = streams::next_number(stream, units.cursor);
     let mut pairs = [0u16; 1024];
-    let links = small::drawn(&mut pairs, units, number);
-    compare::table(units, links, &pairs, counts);
+    let after = streams::series::words(stream, links.cursor, links.value, &mut pairs);
+    compare::table(
+        (units.value % 65536) as u16,
+        (links.value % 65536) as u16,
+        &pairs,
+        counts,
+    );
+    after
 }
 
-// The table of a shape at that turn.
-fn shaped_one(shape: u16, turn: u16, seed: u64, counts: &mut [u64; 7]) {
-    let mut pairs = [0u16; 1024];
-    let units = shapes::unit_count(shape, turn, seed);
-    let links = shapes::drawn(shape, &mut pairs, seed, units);
-    shuffle::shuffled(&mut pairs, units, links, seed);
-    compare::table(units, links, &pairs, counts);
-}
-
-// Draws and compares one table of a kind.
-fn one(kind: u16, i: u16, counts: &mut [u64; 7]) {
-    if kind < SMALL {
-        small_one(kind + 1, i, counts);
-    } else {
-        let shape = kind - SMALL;
-        let seed = (shape as u64) * 65536 + (i as u64) * 16 + 16;
-        shaped_one(shape, i, seed, counts);
-    }
-}
-
-fn each(kind: u16, counts: &mut [u64; 7]) {
-    let count = tables_of(kind);
-    let mut i: u16 = 0;
-    while i < count {
-        one(kind, i, counts);
+// Every table of a stream, which begins with how many there are.
+fn cases(stream: &[u8], counts: &mut [u64; 7]) {
+    let count = streams::next_number(stream, streams::begin());
+    let total = count.value;
+    let first = count.cursor;
+    let mut c = first;
+    let mut i: u32 = 0;
+    while i < total {
+        c = case(stream, c, counts);
         i += 1;
     }
+    if !streams::ended(stream, c) {
+        io::write_all(STDOUT_FILENO, b"fault\n");
+    }
+}
+
+// Room for a stream.
+fn room() -> [u8; 131072]
+    ensures { λ r. ⌜ 131072 ≡ length r ⌝ }
+{
+    [0; 131072]
+}
+
+// The file of argument `i`.
+fn one(i: usize, counts: &mut [u64; 7]) {
+    let mut name = io::buffer();
+    let length = os::arg(i, &mut name);
+    let fd = os::open_read(&name[..length]);
+    if fd < 0 {
+        os::fail(&name[..length]);
+        return;
+    }
+    let mut input = room();
+    let got = io::read_full(fd, &mut input);
+    libc::close(fd);
+    cases(&input[..got], counts);
 }
 
 // Prints the counts, and adds them to the totals.
@@ -77,18 +76,19 @@ fn printed(counts: &[u64; 7], totals: &mut [u64; 7]) {
     }
 }
 
-fn name(kind: usize) {
+fn name(i: usize) {
     let mut text = io::buffer();
-    let length = os::arg(kind, &mut text);
+    let length = os::arg(i, &mut text);
     io::write_all(STDOUT_FILENO, &text[..length]);
     io::write_all(STDOUT_FILENO, b"\n");
 }
 
 fn line(kind: u16, totals: &mut [u64; 7]) {
     let mut counts = [0u64; 7];
-    each(kind, &mut counts);
+    let file = 2 * (kind as usize) + 1;
+    one(file, &mut counts);
     printed(&counts, totals);
-    name((kind as usize) + 1);
+    name(file + 1);
 }
 
 fn main() {
