@@ -24,13 +24,13 @@ const LABELS: usize = 5;
 const DIFFERENCES: usize = 6;
 
 // So many more at a place.
-fn add(counts: &mut [u64; 7], place: usize, more: u16) {
+pub(crate) fn add(counts: &mut [u64; 7], place: usize, more: u64) {
     if place < 7 {
-        counts[place] = wrapping_add_u64(counts[place], more as u64);
+        counts[place] = wrapping_add_u64(counts[place], more);
     }
 }
 
-fn flag(yes: bool) -> u16 {
+fn flag(yes: bool) -> u64 {
     if yes { 1 } else { 0 }
 }
 
@@ -143,8 +143,8 @@ fn asked(s: Survey, units: u16, links: u16, pairs: &[u16; 1024], counts: &mut [u
 
 fn counted(units: u16, links: u16, counts: &mut [u64; 7]) {
     add(counts, TABLES, 1);
-    add(counts, UNITS, units);
-    add(counts, LINKS, links);
+    add(counts, UNITS, units as u64);
+    add(counts, LINKS, links as u64);
 }
 
 // Prints the words of a table: those of its file, two for each link.

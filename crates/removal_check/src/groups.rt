@@ -32,15 +32,15 @@ pub(crate) fn merge(marks: &mut [u16], i: u16, j: u16) -> u16
 {
     let one = slices::word(marks, i as usize);
     let other = slices::word(marks, j as usize);
-    if one < other {
-        remark(marks, other, one);
-        return 1;
+    if one == other {
+        return 0;
     }
-    if other < one {
-        remark(marks, one, other);
-        return 1;
-    }
-    0
+    remark(
+        marks,
+        values::greatest_of(one, other),
+        values::least_of(one, other),
+    );
+    1
 }
 
 // A link that is kept joins the groups of its ends, unless an end is unit `x`.

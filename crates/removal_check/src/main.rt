@@ -5,7 +5,6 @@ mod groups;
 mod removal;
 
 use libc::STDOUT_FILENO;
-use std::num::wrapping_add_u64;
 use streams::Cursor;
 ghost use mathlib.Core.Path.{_≡_};
 ghost use lib.ListN.{length};
@@ -65,13 +64,17 @@ fn one(i: usize, counts: &mut [u64; 7]) {
     cases(&input[..got], counts);
 }
 
+fn count(n: u64) {
+    io::print_decimal(STDOUT_FILENO, n);
+    io::write_all(STDOUT_FILENO, b" ");
+}
+
 // Prints the counts, and adds them to the totals.
 fn printed(counts: &[u64; 7], totals: &mut [u64; 7]) {
     let mut i = 0;
     while i < 7 {
-        io::print_decimal(STDOUT_FILENO, counts[i]);
-        io::write_all(STDOUT_FILENO, b" ");
-        totals[i] = wrapping_add_u64(totals[i], counts[i]);
+        count(counts[i]);
+        compare::add(totals, i, counts[i]);
         i += 1;
     }
 }

@@ -5,49 +5,31 @@ use Rattle.removal_check.proofs.printed.Statement.{statement}
 use Rattle.removal_check.proofs.printed.Tie as tie
 
 abbrev Inv-loop : tie.InvT-loop
-Inv-loop counts totals₀ i₀ t4 totals i = i ≤ 7
+Inv-loop counts totals₀ i₀ totals i = i ≤ 7
 
 abbrev μ-loop : tie.MeasureT-loop
-μ-loop counts totals₀ i₀ t4 totals i = 7 - i
+μ-loop counts totals₀ i₀ totals i = 7 - i
 
 loop-holds : tie.Need-loop-holds Inv-loop μ-loop
 loop-holds c = search needs
 
-mul-print-decimal : tie.Need-mul-print-decimal Inv-loop μ-loop
-mul-print-decimal c = search needs
+mul-count : tie.Need-mul-count Inv-loop μ-loop
+mul-count c = search needs
 
-element-copy-out-print-decimal : tie.Need-element-copy-out-print-decimal Inv-loop μ-loop
-element-copy-out-print-decimal c = search needs
+element-copy-out-count : tie.Need-element-copy-out-count Inv-loop μ-loop
+element-copy-out-count c = search needs
 
-print-decimal-requires : tie.Need-print-decimal-requires Inv-loop μ-loop
-print-decimal-requires c κs = tt
+count-requires : tie.Need-count-requires Inv-loop μ-loop
+count-requires c κs = search needs
 
-slice-aggregate-write-all : tie.Need-slice-aggregate-write-all Inv-loop μ-loop
-slice-aggregate-write-all c = search needs
+mul-add : tie.Need-mul-add Inv-loop μ-loop
+mul-add c = search needs
 
-write-all-requires : tie.Need-write-all-requires Inv-loop μ-loop
-write-all-requires c κs = tt
+element-copy-out-add : tie.Need-element-copy-out-add Inv-loop μ-loop
+element-copy-out-add c = search needs
 
-mul-wrapping-add-u64 : tie.Need-mul-wrapping-add-u64 Inv-loop μ-loop
-mul-wrapping-add-u64 c = search needs
-
-element-copy-out-wrapping-add-u64 : tie.Need-element-copy-out-wrapping-add-u64 Inv-loop μ-loop
-element-copy-out-wrapping-add-u64 c = search needs
-
-mul-wrapping-add-u64-2 : tie.Need-mul-wrapping-add-u64-2 Inv-loop μ-loop
-mul-wrapping-add-u64-2 c = search needs
-
-element-copy-out-wrapping-add-u64-2 : tie.Need-element-copy-out-wrapping-add-u64-2 Inv-loop μ-loop
-element-copy-out-wrapping-add-u64-2 c = search needs
-
-wrapping-add-u64-requires : tie.Need-wrapping-add-u64-requires Inv-loop μ-loop
-wrapping-add-u64-requires c κs = tt
-
-mul-totals : tie.Need-mul-totals Inv-loop μ-loop
-mul-totals c = search needs
-
-element-write-totals : tie.Need-element-write-totals Inv-loop μ-loop
-element-write-totals c = search needs
+add-requires : tie.Need-add-requires Inv-loop μ-loop
+add-requires c κs = search needs
 
 add-i : tie.Need-add-i Inv-loop μ-loop
 add-i c = search needs
@@ -59,7 +41,7 @@ loop-again : tie.Need-loop-again Inv-loop μ-loop
 loop-again c = search needs
 
 returns : tie.Need-returns Inv-loop μ-loop
-returns c = tt
+returns c = search needs
 
 pub printed-spec : {M : Type 1} → statement M
 printed-spec =
@@ -68,18 +50,12 @@ printed-spec =
     Inv-loop
     μ-loop
     loop-holds
-    mul-print-decimal
-    element-copy-out-print-decimal
-    print-decimal-requires
-    slice-aggregate-write-all
-    write-all-requires
-    mul-wrapping-add-u64
-    element-copy-out-wrapping-add-u64
-    mul-wrapping-add-u64-2
-    element-copy-out-wrapping-add-u64-2
-    wrapping-add-u64-requires
-    mul-totals
-    element-write-totals
+    mul-count
+    element-copy-out-count
+    count-requires
+    mul-add
+    element-copy-out-add
+    add-requires
     add-i
     loop-less
     loop-again
