@@ -12,7 +12,7 @@ use lib.Seq.{take-at, drop-at, drop-drop}
 use borrow.Author.Tests.{eq-eqb, ne-eqb}
 use Rattle.lists.specs.Tests.{either}
 use Rattle.levels.specs.Level.{toWords, fromWords}
-use Rattle.words.specs.Layout.{part, laid}
+use Rattle.copies.specs.Parts.{part, laid}
 use Rattle.live_table.specs.Live.{Live, held, liveOf, added, withdrawn}
 use Rattle.live_table.specs.LiveCalls.{Answer, answered, addRefusal, addAnswer, withdrawRefusal, withdrawAnswer}
 use Rattle.live_on_words.specs.LiveLayout.{LIVE-WORDS, liveIn, liveWords, wordsLeft, liveLeft}

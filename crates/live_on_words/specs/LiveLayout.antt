@@ -5,7 +5,8 @@ use Prim.Native.Nat.{ℕ}
 use lib.Dec.{eqb}
 use lib.ListN.{getD, take}
 use Rattle.levels.specs.Level.{toWords, fromWords}
-use Rattle.words.specs.Layout.{extent, part}
+use Rattle.copies.specs.Parts.{part}
+use Rattle.words.specs.Layout.{extent}
 use Rattle.live_table.specs.Live.{Live}
 use Rattle.live_table.specs.LiveCalls.{Answer}
 

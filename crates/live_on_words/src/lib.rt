@@ -1,6 +1,5 @@
 // A live table (T-09) in the words that a caller lends: opened, and changed by a link at a time. A number that comes back is that of the refusal, 0 where
 // the call was not refused; on a refusal no word is altered.
-mod copies;
 mod layout;
 
 use live::Answer;

@@ -10,7 +10,8 @@ use lib.Seq.{take-at, drop-at, take-append-le, drop-append-le, length-take-le, d
 use borrow.Author.Tests.{eqb-true, eqb-false, ltb-true, ltb-false}
 use Rattle.lists.specs.All.{All}
 use Rattle.machine.specs.State.{State}
-use Rattle.words.specs.Layout.{sizes, extent, size, place, part, field, STATE-WORDS, stateBy, stateOf, laid}
+use Rattle.copies.specs.Parts.{part, laid}
+use Rattle.words.specs.Layout.{sizes, extent, size, place, field, STATE-WORDS, stateBy, stateOf}
 
 -- ---- where fields lie
 

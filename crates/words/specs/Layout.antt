@@ -1,8 +1,9 @@
 -- A state as words: its numbers and tables one after the other, in the order of its groups. Where each lies follows from one list of sizes.
-use mathlib.Core.List.{List, [], _∷_, _++_}
+use mathlib.Core.List.{List, [], _∷_}
 use Prim.Native.Nat.{ℕ, _+_}
-use lib.ListN.{length, getD, take, drop}
+use lib.ListN.{getD, take}
 use Rattle.levels.specs.Level.{fromWords}
+use Rattle.copies.specs.Parts.{part}
 use Rattle.machine.specs.State.{State}
 
 -- the words of each field: counts, ends, clock; color, parent, dist; next, pred, jump, sum, forward; nd, pre; low, high, little, big; global low and
@@ -24,10 +25,6 @@ size i = getD sizes i 0
 -- where a field begins
 abbrev pub place : ℕ → ℕ
 place i = extent (take i sizes)
-
--- n words from a place on
-unfoldable pub part : ℕ → ℕ → List ℕ → List ℕ
-part at n ws = take n (drop at ws)
 
 abbrev pub field : ℕ → List ℕ → List ℕ
 field i ws = part (place i) (size i) ws
@@ -53,7 +50,3 @@ stateBy f =
 -- the state that words are
 unfoldable pub stateOf : List ℕ → State
 stateOf ws = stateBy (λ (i : ℕ). field i ws)
-
--- words after xs was laid over them from a place on
-unfoldable pub laid : ℕ → List ℕ → List ℕ → List ℕ
-laid at xs ws = take at ws ++ xs ++ drop (at + length xs) ws

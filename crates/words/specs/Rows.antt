@@ -12,7 +12,8 @@ use Rattle.levels.specs.Level.{inRange, wordLevel}
 use Rattle.levels.specs.WordLaws.{words-range}
 use Rattle.rules.specs.Bounds.{nameOk, numberOk, distOk}
 use Rattle.machine.specs.WellFormed.{entriesOk}
-use Rattle.words.specs.Layout.{extent, place, part, field, STATE-WORDS, stateOf}
+use Rattle.copies.specs.Parts.{part}
+use Rattle.words.specs.Layout.{extent, place, field, STATE-WORDS, stateOf}
 
 pub two-parts : (at n m : ℕ) (ws : List ℕ) → part at (n + m) ws ≡ part at n ws ++ part (at + n) m ws
 unfolding part

@@ -10,7 +10,8 @@ use lib.Seq.{length-take-le, take-all, getD-take, getD-drop}
 use Rattle.levels.specs.Level.{toWords, fromWords}
 use Rattle.levels.specs.WordLaws.{words-kept}
 use Rattle.machine.specs.State.{State}
-use Rattle.words.specs.Layout.{sizes, extent, place, part, field, STATE-WORDS, stateOf}
+use Rattle.copies.specs.Parts.{part}
+use Rattle.words.specs.Layout.{sizes, extent, place, field, STATE-WORDS, stateOf}
 use Rattle.words.specs.Rows.{row, two-parts}
 
 -- the fields of a state, in the order of the sizes, with the words of its levels and whether a plan was given

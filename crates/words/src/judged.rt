@@ -11,7 +11,8 @@ ghost use Rattle.lists.specs.Folds.{every};
 ghost use Rattle.levels.specs.Level.{inRange, wordLevel};
 ghost use Rattle.rules.specs.Bounds.{nameOk, numberOk, distOk};
 ghost use Rattle.machine.specs.WellFormed.{wellFormed, entriesOk};
-ghost use Rattle.words.specs.Layout.{part, stateOf};
+ghost use Rattle.copies.specs.Parts.{part};
+ghost use Rattle.words.specs.Layout.{stateOf};
 
 pub fn kept(words: &[u16; STATE_WORDS]) -> bool
     ensures { λ r. ⌜ r ≡ wellFormed (stateOf (now (words .entry))) ⌝ }

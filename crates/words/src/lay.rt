@@ -1,5 +1,4 @@
 // The groups of a state, laid over its words.
-use super::copies;
 use super::layout;
 use super::layout::STATE_WORDS;
 use state::Clock;
@@ -8,7 +7,8 @@ ghost use mathlib.Core.Path.{_≡_};
 ghost use Prim.Native.Nat.{_+_, _≤_};
 ghost use lib.ListN.{length};
 ghost use Rattle.machine.specs.State;
-ghost use Rattle.words.specs.Layout.{stateOf, laid};
+ghost use Rattle.copies.specs.Parts.{laid};
+ghost use Rattle.words.specs.Layout.{stateOf};
 
 // Two tables, each from its place on.
 fn lay_two<'a>(one: &'a [u16], at: usize, two: &'a [u16], next: usize, words: &mut [u16])

@@ -1,5 +1,4 @@
 // A state in the words that a caller lends: where each table lies, its groups taken out and laid down, and the kept test.
-mod copies;
 mod judged;
 mod lay;
 mod layout;

@@ -1,5 +1,4 @@
 // The groups of a state, taken out of its words.
-use super::copies;
 use super::layout;
 use super::layout::STATE_WORDS;
 use state::Aux;

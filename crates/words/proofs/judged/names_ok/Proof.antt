@@ -5,7 +5,7 @@ use native.Mathlib.Omega.{arith}
 use lib.ListN.{take, drop}
 use Rattle.lists.specs.Folds.{every}
 use Rattle.rules.specs.Bounds.{nameOk}
-use Rattle.words.specs.Layout.{part}
+use Rattle.copies.specs.Parts.{part}
 use borrow.Author.Needs.{needs}
 use Rattle.words.proofs.judged.names_ok.Statement.{statement}
 use Rattle.words.proofs.judged.names_ok.Tie as tie

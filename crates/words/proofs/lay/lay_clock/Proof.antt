@@ -3,6 +3,7 @@ use mathlib.Core.Path.{refl}
 use mathlib.Core.List.{[], _∷_}
 use Rattle.words.specs.Layout.{stateOf}
 use Rattle.words.specs.FieldLaws.{laid-fields}
+use Rattle.copies.specs.CopyLaws.{laid-in}
 use borrow.Author.Needs.{needs}
 use Rattle.words.proofs.lay.lay_clock.Statement.{statement}
 use Rattle.words.proofs.lay.lay_clock.Tie as tie
@@ -11,11 +12,11 @@ slice-aggregate-lay : tie.Need-slice-aggregate-lay
 slice-aggregate-lay c = search needs
 
 lay-requires : tie.Need-lay-requires
-lay-requires c κs = search needs
+lay-requires c κs = tt
 
 returns : tie.Need-returns
 unfolding stateOf
-returns c = laid-fields ((2, _) ∷ []) _ _ (c .lay .ensures) (search needs) ((tt, refl), tt)
+returns c = laid-fields ((2, _) ∷ []) _ _ (laid-in _ _ _ (c .lay .ensures) (search needs)) (search needs) ((tt, refl), tt)
 
 pub lay-clock-spec : {M : Type 1} → statement M
 lay-clock-spec = tie.close (tie.spec slice-aggregate-lay lay-requires returns)

@@ -2,16 +2,17 @@
 use mathlib.Core.List.{[], _∷_}
 use Rattle.words.specs.Layout.{stateOf}
 use Rattle.words.specs.FieldLaws.{laid-fields}
+use Rattle.copies.specs.CopyLaws.{laid-in}
 use borrow.Author.Needs.{needs}
 use Rattle.words.proofs.lay.lay_components.Statement.{statement}
 use Rattle.words.proofs.lay.lay_components.Tie as tie
 
 lay-requires : tie.Need-lay-requires
-lay-requires c κs = search needs
+lay-requires c κs = tt
 
 returns : tie.Need-returns
 unfolding stateOf
-returns c = laid-fields ((3, _) ∷ []) _ _ (c .lay .ensures) (search needs) ((tt, search needs), tt)
+returns c = laid-fields ((3, _) ∷ []) _ _ (laid-in _ _ _ (c .lay .ensures) (search needs)) (search needs) ((tt, search needs), tt)
 
 pub lay-components-spec : {M : Type 1} → statement M
 lay-components-spec = tie.close (tie.spec lay-requires returns)

@@ -6,20 +6,20 @@ use Rattle.words.proofs.take.range_at.Statement.{statement}
 use Rattle.words.proofs.take.range_at.Tie as tie
 
 units-at-requires : tie.Need-units-at-requires
-units-at-requires c κs = search needs
+units-at-requires c κs = tt
 
 units-at-requires-2 : tie.Need-units-at-requires-2
-units-at-requires-2 c κs = search needs
+units-at-requires-2 c κs = tt
 
 units-at-requires-3 : tie.Need-units-at-requires-3
-units-at-requires-3 c κs = search needs
+units-at-requires-3 c κs = tt
 
 units-at-requires-4 : tie.Need-units-at-requires-4
-units-at-requires-4 c κs = search needs
+units-at-requires-4 c κs = tt
 
 returns : tie.Need-returns
 unfolding stateOf
-returns c = rw (c .before .before .before .before .before .before .units-at .ensures, c .before .before .before .before .units-at2 .ensures, c .before .before .units-at3 .ensures, c .units-at4 .ensures) refl
+returns c = rw (c .before .before .before .before .before .before .units-at .ensures .0 (search needs), c .before .before .before .before .units-at2 .ensures .0 (search needs), c .before .before .units-at3 .ensures .0 (search needs), c .units-at4 .ensures .0 (search needs)) refl
 
 pub range-at-spec : {M : Type 1} → statement M
 range-at-spec =

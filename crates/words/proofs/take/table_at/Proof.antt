@@ -8,7 +8,7 @@ use Rattle.words.proofs.take.table_at.Statement.{statement}
 use Rattle.words.proofs.take.table_at.Tie as tie
 
 ends-at-requires : tie.Need-ends-at-requires
-ends-at-requires c κs = search needs
+ends-at-requires c κs = tt
 
 element-copy-out-t7 : tie.Need-element-copy-out-t7
 element-copy-out-t7 c = search needs
@@ -20,7 +20,7 @@ returns : tie.Need-returns
 unfolding stateOf
 returns c =
     let ws = c .before .before .before .before .args .words .now in
-    rw (number-in 0 2 0 ws (lit< tt), number-in 0 2 1 ws (lit< tt), c .before .before .ends-at .ensures) refl
+    rw (number-in 0 2 0 ws (lit< tt), number-in 0 2 1 ws (lit< tt), c .before .before .ends-at .ensures .0 (search needs)) refl
 
 pub table-at-spec : {M : Type 1} → statement M
 table-at-spec =

@@ -7,11 +7,11 @@ use lib.ListN.{length, getD, drop}
 use mir.Syntax.{w16}
 use mir.ValLaws.{toZ-ofZ}
 use Rattle.levels.specs.Level.{wordLevel, fromWords}
-use Rattle.words.specs.Layout.{part}
-use Rattle.words.specs.LevelCopies.{level-small, levels-begin, levels-next, levels-end}
+use Rattle.copies.specs.Parts.{part}
+use Rattle.copies.specs.LevelCopies.{level-small, levels-begin, levels-next, levels-end}
 use borrow.Author.Needs.{needs}
-use Rattle.live_on_words.proofs.copies.copy_levels.Statement.{statement}
-use Rattle.live_on_words.proofs.copies.copy_levels.Tie as tie
+use Rattle.copies.proofs.levels_inside.Statement.{statement}
+use Rattle.copies.proofs.levels_inside.Tie as tie
 
 abbrev Inv-loop : tie.InvT-loop
 Inv-loop words at to₀ i₀ to i = (i ≤ length to₀) × (length to ≡ length to₀) × (to ≡ fromWords (part at i words) ++ drop i to₀)
@@ -68,8 +68,8 @@ returns c =
     let a = l .before .before .args in
     l .loop .inv .2 ∙ levels-end (a .words .now) (a .to .now) (a .at) (l .loop .i) (omega arith)
 
-pub copy-levels-spec : {M : Type 1} → statement M
-copy-levels-spec =
+pub levels-inside-spec : {M : Type 1} → statement M
+levels-inside-spec =
     tie.close
     (tie.spec
     Inv-loop

@@ -12,7 +12,7 @@ use lib.Seq.{length-take-le, take-suc, getD-drop, drop-length}
 use Rattle.lists.specs.Puts.{put-one}
 use Rattle.levels.specs.Level.{wordLevel, fromWords}
 use Rattle.levels.specs.LevelLaws.{signed-few, signed-many}
-use Rattle.words.specs.Layout.{part}
+use Rattle.copies.specs.Parts.{part}
 
 -- the level in a word has 16 bits
 pub level-small : (w : ℕ) → mag (wordLevel w) < 32768
