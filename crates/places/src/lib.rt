@@ -3,9 +3,10 @@ use state::Clock;
 use table::ABSENT;
 use values::counts;
 ghost use mathlib.Core.Path.{_≡_};
-ghost use mathlib.Core.Bool.{cond};
+ghost use mathlib.Core.Bool.{true, cond};
 ghost use Prim.Native.Nat.{_≤_};
 ghost use Rattle.rules.specs.Order.{preRound};
+ghost use Rattle.machine.specs.InStage.{inStage};
 ghost use Rattle.machine.specs.StageRun.{stageRun};
 ghost use Rattle.places.specs.Rounds.{on, one};
 
@@ -20,6 +21,60 @@ pub struct Ran {
 
 // At most so many rounds.
 pub fn run<'a>(
+    units: u16,
+    budget: u16,
+    color: &'a [u16; 256],
+    parent: &'a [u16; 256],
+    clock: Clock,
+    pre: [u16; 256],
+    jump: [u16; 512],
+    sum: [u16; 512],
+) -> Ran
+    ensures { λ r. ⌜ r ≡ stageRun (on units) (one units (now (color .entry)) (now (parent .entry))) budget
+        (record { pre = pre; jump = jump; sum = sum; clock = clock; made = 0 }) ⌝ }
+{
+    let goes_on = clock::goes_on(true, units, 6, 0, budget, clock);
+    if values::both(ranked::tried(units, budget), goes_on) {
+        return at_once(units, budget, color, parent, clock, pre, jump, sum);
+    }
+    rounds(units, budget, color, parent, clock, pre, jump, sum)
+}
+
+// The rest of the stage at once, where that is found right.
+fn at_once<'a>(
+    units: u16,
+    budget: u16,
+    color: &'a [u16; 256],
+    parent: &'a [u16; 256],
+    clock: Clock,
+    pre: [u16; 256],
+    jump: [u16; 512],
+    sum: [u16; 512],
+) -> Ran
+    requires { ⌜ inStage units 6 clock ≡ true ⌝ }
+    ensures { λ r. ⌜ r ≡ stageRun (on units) (one units (now (color .entry)) (now (parent .entry))) budget
+        (record { pre = pre; jump = jump; sum = sum; clock = clock; made = 0 }) ⌝ }
+{
+    let rest = ranked::leap(units, budget, clock, jump, sum);
+    if !rest.right {
+        return rounds(units, budget, color, parent, clock, pre, jump, sum);
+    }
+    let before = rest.jump;
+    let total = rest.sum;
+    let c = rest.clock;
+    let mut place = pre;
+    number(units, color, parent, &total, &mut place);
+    Ran {
+        pre: place,
+        jump: before,
+        sum: total,
+        clock: c,
+        made: rest.made,
+    }
+}
+
+// At most so many rounds, one after the other.
+fn rounds<'a>(
     units: u16,
     budget: u16,
     color: &'a [u16; 256],

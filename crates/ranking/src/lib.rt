@@ -2,9 +2,11 @@
 use state::Clock;
 use table::ABSENT;
 ghost use mathlib.Core.Path.{_≡_};
+ghost use mathlib.Core.Bool.{true};
 ghost use Prim.Native.Nat.{min};
 ghost use lib.ListN.{length};
 ghost use Rattle.rules.specs.Ranking.{sumRound, jumpRound, requestsOf};
+ghost use Rattle.machine.specs.InStage.{inStage};
 ghost use Rattle.machine.specs.StageRun.{stageRun};
 ghost use Rattle.ranking.specs.Rounds.{on, one};
 
@@ -18,6 +20,39 @@ pub struct Ran {
 
 // At most so many rounds.
 pub fn run(units: u16, budget: u16, clock: Clock, jump: [u16; 512], sum: [u16; 512]) -> Ran
+    ensures { λ r. ⌜ r ≡ stageRun (on units) (one units) budget
+        (record { jump = jump; sum = sum; clock = clock; made = 0 }) ⌝ }
+{
+    let goes_on = clock::goes_on(true, units, 4, 0, budget, clock);
+    if values::both(ranked::tried(units, budget), goes_on) {
+        return at_once(units, budget, clock, jump, sum);
+    }
+    rounds(units, budget, clock, jump, sum)
+}
+
+// The rest of the stage at once, where that is found right.
+fn at_once(units: u16, budget: u16, clock: Clock, jump: [u16; 512], sum: [u16; 512]) -> Ran
+    requires { ⌜ inStage units 4 clock ≡ true ⌝ }
+    ensures { λ r. ⌜ r ≡ stageRun (on units) (one units) budget
+        (record { jump = jump; sum = sum; clock = clock; made = 0 }) ⌝ }
+{
+    let rest = ranked::leap(units, budget, clock, jump, sum);
+    if !rest.right {
+        return rounds(units, budget, clock, jump, sum);
+    }
+    let before = rest.jump;
+    let total = rest.sum;
+    let c = rest.clock;
+    Ran {
+        jump: before,
+        sum: total,
+        clock: c,
+        made: rest.made,
+    }
+}
+
+// At most so many rounds, one after the other.
+fn rounds(units: u16, budget: u16, clock: Clock, jump: [u16; 512], sum: [u16; 512]) -> Ran
     ensures { λ r. ⌜ r ≡ stageRun (on units) (one units) budget
         (record { jump = jump; sum = sum; clock = clock; made = 0 }) ⌝ }
 {
