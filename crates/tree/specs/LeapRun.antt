@@ -1,22 +1,17 @@
 -- The rounds of stage 2 that a leap stands for, as the run of the definition.
-use mathlib.Core.Path.{_≡_, refl, sym, ap, _∙_}
-use mathlib.Core.Bool.{Bool, true, false, cond, not, _&&_, _||_}
-use mathlib.Core.Logic.{_⊎_, inl, inr, _≢_}
+use mathlib.Core.Path.{_≡_, refl, sym, _∙_}
+use mathlib.Core.Bool.{Bool, true, false, not, _&&_}
 use mathlib.Core.List.{List}
 use Prim.Native.Nat.{ℕ, zero, suc, _+_, _-_, _≤_, _<_, min}
-use native.Mathlib.Decide.{ℕ-discrete, decLt}
 use native.Mathlib.Omega.{arith}
-use lib.Dec.{eqb, leb, ltb}
+use lib.Dec.{leb, ltb}
 use lib.IntN.{ℤ}
-use lib.ListN.{length}
-use borrow.Author.Tests.{eq-eqb, ne-eqb, le-leb, leb-true, lt-leb, lt-ltb, le-ltb}
-use Rattle.lists.specs.Rounds.{over-cong-in}
-use Rattle.lists.specs.Tables.{over, getD-over, over-over, over-cong}
+use borrow.Author.Tests.{leb-true, lt-ltb}
+use Rattle.lists.specs.Tables.{over, over-over, over-cong}
 use Rattle.lists.specs.Tests.{and-left, and-right, and-true, refuted, not-both}
-use Rattle.rules.specs.Basics.{ABSENT, at}
-use Rattle.rules.specs.Tree.{unitOf, parentRound, distRound, treeEnds}
+use Rattle.rules.specs.Basics.{at}
+use Rattle.rules.specs.Tree.{parentRound, distRound, treeEnds}
 use Rattle.rules.specs.Fits.{linksFit}
-use Rattle.rules.specs.Ceilings.{ceiling}
 use Rattle.state.specs.declared.groups.Clock.{Clock}
 use Rattle.machine.specs.State.{MAX-ROUNDS, MAX-REQUESTS}
 use Rattle.machine.specs.Step.{nextClock}
@@ -24,21 +19,8 @@ use Rattle.machine.specs.InStage.{Ready, lastAt, inStage, stands, may, in-stage
 use Rattle.machine.specs.StageRun.{stageRun, Turning, turns-begin, turns-on, turns-over}
 use Rattle.tree.specs.declared.Ran.{Ran}
 use Rattle.tree.specs.Rounds.{on, one, after-search}
-use Rattle.tree.specs.Goal.{Goal, nearestKey, shown, dist-next, parent-next, ends-not, ends-now, goal-next}
-
--- ---- the tables that the rounds leave
-
--- v is still to be visited where so many rounds are made
-abbrev pub unvisited : ℕ → List ℕ → ℕ → Bool
-unvisited made far v = leb made (at far v) && not (eqb (at far v) ABSENT)
-
--- and has the best neighbour one nearer as its parent then
-abbrev pub parentLeft : ℕ → ℕ → List ℕ → List ℤ → List ℕ → List ℕ → ℕ → ℕ
-parentLeft m made ends levels far parent v = cond (unvisited made far v) (unitOf (nearestKey m ends levels far v)) (at parent v)
-
--- the same from a table of keys
-abbrev pub parentFrom : ℕ → List ℕ → List ℕ → List ℕ → ℕ → ℕ
-parentFrom made far cand parent v = cond (unvisited made far v) (unitOf (at cand v)) (at parent v)
+use Rattle.distances.specs.Goal.{Goal, parentLeft, Leapt}
+use Rattle.tree_leap.specs.GoalRounds.{dist-next, parent-next, ends-not, ends-now, goal-next, parents-onward, gone, parent-ended, dist-ended}
 
 -- ---- a round
 
@@ -80,57 +62,6 @@ module _ (n m : ℕ) (plan ends : List ℕ) (levels : List ℤ) (color : List �
       → ending x (parentRound n m (x .clock .made) ends levels color (x .dist) (x .parent)) (distRound n m (x .clock .made) ends levels color (x .dist))
       ≡ one n m 0 plan ends levels color x
   one-ending x e = sym (one-by x true e ∙ rw (is-last n (x .clock)) refl)
-
--- ---- the tables, a round later
-
--- what a round visits it leaves visited
-visited-once : (made f key parent : ℕ) → made < ABSENT → Dec (f ≡ made)
-    → cond (leb (suc made) f && not (eqb f ABSENT)) key (cond (eqb f made) key parent) ≡ cond (leb made f && not (eqb f ABSENT)) key parent
-visited-once made f key parent few (yes e) =
-    rw (lt-leb (suc made) f (omega (arith, e)), eq-eqb f made e, le-leb made f (omega (arith, e)), ne-eqb f ABSENT (λ q. omega (arith, q, e, few))) refl
-visited-once made f key parent few (no e) = rw (ne-eqb f made e, later (decLt made f)) refl
-  where
-    later : Dec (made < f) → leb (suc made) f ≡ leb made f
-    later (yes l) = le-leb (suc made) f (omega (arith, l)) ∙ sym (le-leb made f (omega (arith, l)))
-    later (no l) = lt-leb (suc made) f (omega (arith, l)) ∙ sym (lt-leb made f (omega (arith, l, e)))
-
-module _ (n m made last : ℕ) (ends : List ℕ) (levels : List ℤ) (dist far : List ℕ) (g : Goal n m made last ends levels dist far) where
-  parents-onward : (parent : List ℕ)
-      → over n (parentLeft m (suc made) ends levels far (over n (λ (v : ℕ). cond (eqb (at far v) made) (unitOf (nearestKey m ends levels far v)) (at parent v)) parent))
-      (over n (λ (v : ℕ). cond (eqb (at far v) made) (unitOf (nearestKey m ends levels far v)) (at parent v)) parent)
-      ≡ over n (parentLeft m made ends levels far parent) parent
-  parents-onward parent =
-      over-over n (parentLeft m (suc made) ends levels far (over n now parent)) now parent
-      ∙ over-cong-in 0 n (parentLeft m (suc made) ends levels far (over n now parent)) (parentLeft m made ends levels far parent) parent
-      (λ (v : ℕ) (h : v < n) (l : v < length parent).
-      rw (getD-over n now parent v 0 h l)
-      (visited-once made (at far v) (unitOf (nearestKey m ends levels far v)) (at parent v) (omega (arith, g .to, g .small)) (ℕ-discrete (at far v) made)))
-    where
-      now : ℕ → ℕ
-      now v = cond (eqb (at far v) made) (unitOf (nearestKey m ends levels far v)) (at parent v)
-
-  -- after the last round none is left to be visited
-  gone : made ≡ last → (v : ℕ) → v < n → (at far v < made) ⊎ (at far v ≡ ABSENT)
-  gone e v h = go (decLt (at far v) made)
-    where
-      found : (at far v ≡ ABSENT) ⊎ ((at far v < last) × (unitOf (nearestKey m ends levels far v) ≢ ABSENT)) → (at far v < made) ⊎ (at far v ≡ ABSENT)
-      found (inl a) = inr a
-      found (inr a) = inl (omega (arith, a .0, e))
-
-      go : Dec (at far v < made) → (at far v < made) ⊎ (at far v ≡ ABSENT)
-      go (yes l) = inl l
-      go (no l) = found (g .led v h (omega (arith, l)))
-
-  parent-ended : (v key parent : ℕ) → (at far v < made) ⊎ (at far v ≡ ABSENT)
-      → cond (eqb (at far v) made) key parent ≡ cond (unvisited made far v) key parent
-  parent-ended v key parent (inl l) = rw (ne-eqb (at far v) made (λ q. omega (arith, q, l)), lt-leb made (at far v) l) refl
-  parent-ended v key parent (inr a) =
-      rw (ne-eqb (at far v) made (λ q. omega (arith, q, a, g .to, g .small)), eq-eqb (at far v) ABSENT a, le-leb made (at far v) (omega (arith, a, g .to, g .small))) refl
-
-  dist-ended : (v : ℕ) → v < n → (at far v < made) ⊎ (at far v ≡ ABSENT) → cond (eqb (at far v) made) made (at dist v) ≡ at far v
-  dist-ended v h (inl l) = rw (ne-eqb (at far v) made (λ q. omega (arith, q, l)), g .known v h, lt-ltb (at far v) made l) refl
-  dist-ended v h (inr a) =
-      rw (ne-eqb (at far v) made (λ q. omega (arith, q, a, g .to, g .small)), g .known v h, le-ltb (at far v) made (omega (arith, a, g .to, g .small))) (sym a)
 
 -- ---- the clock
 
@@ -234,3 +165,20 @@ module _ (n m last : ℕ) (plan ends : List ℕ) (levels : List ℤ) (color far 
       (leaps (last - x .clock .made) left x 0 x (turns-begin (on n m ends) (one n m 0 plan ends levels color) left x) go g (omega (arith, g .to)) room (omega (arith, g .to, few)))
       (refuted (ltb count left && on n m ends y)
       (λ t. not-both (inStage n 2 (y .clock)) (and-right (linksFit n m ends) (inStage n 2 (y .clock)) (and-right (ltb count left) (on n m ends y) t)) (off-ended n _ _)))
+
+-- the state with these tables is what the rest of a run leaves, where the budget covers the rounds
+pub leapt-run : (n m left given last more rounds : ℕ) (plan ends : List ℕ) (levels : List ℤ) (color : List ℕ) (x : Ran) (new-parent new-dist : List ℕ)
+    → given ≡ 0 → linksFit n m ends ≡ true → inStage n 2 (x .clock) ≡ true → Leapt n m (x .clock .made) last ends levels (x .parent) (x .dist) new-parent new-dist
+    → more ≡ last - x .clock .made → more < left → rounds ≡ min (x .clock .rounds + (more + 1)) MAX-ROUNDS
+    → _≡_ {A = Ran}
+    (record {
+      parent = new-parent;
+      dist = new-dist;
+      clock = record { stage = 3; made = 0; rounds = rounds; requests = x .clock .requests };
+      made = x .made + (more + 1);
+    })
+    (stageRun (on n m ends) (one n m given plan ends levels color) left x)
+leapt-run n m left given last more rounds plan ends levels color x new-parent new-dist none fit inside l is few counted =
+    let count : more + 1 ≡ last + 1 - x .clock .made = omega (arith, is, l .goal .to) in
+    rw (none, counted, count, l .parents, l .dists)
+    (leap-run n m last plan ends levels color (l .far) left x (and-true (linksFit n m ends) (inStage n 2 (x .clock)) fit inside) (l .goal) (l .room) (omega (arith, few, count)))

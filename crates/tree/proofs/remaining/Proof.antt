@@ -6,28 +6,27 @@ use native.Mathlib.Omega.{arith}
 use lib.Dec.{eqb, ltb}
 use borrow.Author.Tests.{eqb-true, ltb-true, not-false}
 use Rattle.lists.specs.Tests.{and-left, and-right}
-use Rattle.rules.specs.Fits.{fit-few, fit-within}
 use Rattle.machine.specs.InStage.{Ready, may}
-use Rattle.tree.specs.Nearer.{Leapt, leapt-run}
+use Rattle.tree.specs.LeapRun.{leapt-run}
 use borrow.Author.Needs.{needs}
 use Rattle.tree.proofs.remaining.Statement.{statement}
 use Rattle.tree.proofs.remaining.Tie as tie
 
 abbrev start : tie.Else1 → tie.Start
-start c = c .before .before .before .before .before .before .before .before
+start c = c .before .before .before .before .before
 
-abbrev found : tie.Else1 → tie.After-taken
+abbrev found : tie.Else1 → tie.After-leap
 found c = c .before .before .before .before
 
 -- the tests passed
 record Fine (c : tie.Else1) : Type 0 where
-  pub right : found c .taken .result .right ≡ true
+  pub right : found c .leap .result .right ≡ true
   pub none : start c .args .given ≡ 0
   pub covered : c .before .before .before .less .result < start c .args .left
 
 fine : (c : tie.Else1) → Fine c
 fine c =
-    let r = found c .taken .result .right in
+    let r = found c .leap .result .right in
     let g = eqb (start c .args .given) 0 in
     let l = ltb (c .before .before .before .less .result) (start c .args .left) in
     let all : (r && (g && l)) ≡ true = sym (rw (c .before .before .both .ensures) at (c .before .both2 .ensures)) ∙ not-false _ (c .if1 .left) in
@@ -44,14 +43,11 @@ ready c = may (c .args .units) 2 (c .args .clock) (omega arith) (c .pre .1)
 -- few rounds are left
 few : (c : tie.Else1) → c .before .before .before .less .result < 257
 few c =
-    let l = found c .taken .ensures (fine c .right) in
+    let l = found c .leap .ensures (fine c .right) in
     omega (arith, c .before .before .before .less .ensures, l .room, l .goal .few)
 
-taken-requires : tie.Need-taken-requires
-taken-requires c κs =
-    let s = c .before .before .before in
-    let a = s .args in
-    (ready s .few, fit-few (a .units) (a .links) (a .ends .now) (s .pre .0), fit-within (a .units) (a .links) (a .ends .now) (s .pre .2) (s .pre .0), s .pre .2, s .pre .3)
+leap-requires : tie.Need-leap-requires
+leap-requires c κs = search needs
 
 less-requires : tie.Need-less-requires
 less-requires c κs = search needs
@@ -80,15 +76,15 @@ add-t23 c = record { fits = omega (arith, few (c .before .before .before .before
 add-t25 : tie.Need-add-t25
 add-t25 c =
     let e = c .before .before .before .before in
-    record { fits = omega (arith, fine e .covered, start e .pre .4) }
+    record { fits = omega (arith, fine e .covered, start e .pre .2) }
 
 returns-2 : tie.Need-returns-2
 returns-2 c =
     let e = c .before .before .before .before in
     let s = start e in
     let a = s .args in
-    let l = found e .taken .ensures (fine e .right) in
-    λ t. leapt-run (a .units) (a .links) (a .left) (a .given) (found e .taken .result .last) _ _ (a .plan .now) (a .ends .now) (a .levels .now) (a .color .now)
+    let l = found e .leap .ensures (fine e .right) in
+    λ t. leapt-run (a .units) (a .links) (a .left) (a .given) (found e .leap .result .last) _ _ (a .plan .now) (a .ends .now) (a .levels .now) (a .color .now)
     (record { parent = a .parent; dist = a .dist; clock = a .clock; made = a .made }) _ _ (fine e .none) (s .pre .0) (s .pre .1) l (e .before .before .before .less .ensures) (fine e .covered)
     (c .least-of .ensures)
 
@@ -96,7 +92,7 @@ pub remaining-spec : {M : Type 1} → statement M
 remaining-spec =
     tie.close
     (tie.spec
-    taken-requires
+    leap-requires
     less-requires
     both-requires
     both-requires-2

@@ -2,7 +2,7 @@
 use mathlib.Core.Path.{sym, _∙_}
 use Prim.Native.Nat.{_-_}
 use native.Mathlib.Omega.{arith}
-use Rattle.rules.specs.Fits.{linksFit, fit-within}
+use Rattle.rules.specs.Fits.{linksFit, fit-few, fit-within}
 use Rattle.machine.specs.InStage.{Goes, goes}
 use Rattle.machine.specs.StageRun.{Turning, turns-begin, turns-on, turns-over}
 use Rattle.tree.specs.Rounds.{on, one}
@@ -46,39 +46,40 @@ sub-remaining c = omega (arith, go (c .before) .below)
 
 remaining-requires : tie.Need-remaining-requires Inv-loop μ-loop
 remaining-requires c κs =
-    let t = c .before .before .before .before .before in
+    let t = c .before in
     let g = go t in
-    (g .fit, g .inside, search needs, search needs, omega (arith, g .below, t .before .before .before .before .before .before .before .before .fits .budget))
+    (g .fit, g .inside, omega (arith, g .below, t .before .before .before .before .before .before .before .before .fits .budget))
 
 returns : tie.Need-returns Inv-loop μ-loop
 returns c =
     let r = c .before .before in
-    r .remaining .ensures (c .before .if3 .taken) ∙ sym (r .before .before .before .before .before .before .before .before .loop .inv .left)
+    r .remaining .ensures (c .before .if3 .taken) ∙ sym (r .before .before .before .before .loop .inv .left)
 
 round-requires : tie.Need-round-requires Inv-loop μ-loop
 round-requires c κs =
-    let t = c .before .before .before .before .before in
+    let t = c .before in
     let g = go t in
-    let a = t .before .before .before .before .before .before .before .before .args in
-    (g .few, search needs, fit-within (a .units) (a .links) (a .ends .now) (search needs) (g .fit), search needs, search needs, search needs)
+    let lent = t .before .before .before .before .before .before .before in
+    let a = lent .before .args in
+    (g .few, fit-few (a .units) (a .links) (a .ends .now) (g .fit), fit-within (a .units) (a .links) (a .ends .now) (lent .links-fit-arg .given .0) (g .fit))
 
 ticked-requires : tie.Need-ticked-requires Inv-loop μ-loop
 ticked-requires c κs = search needs
 
 add-made : tie.Need-add-made Inv-loop μ-loop
 add-made c =
-    let t = c .before .before .before .before .before .before .before .before .before in
+    let t = c .before .before .before .before .before in
     omega (arith, go t .below, t .before .before .before .before .before .before .before .before .fits .budget)
 
 loop-less : tie.Need-loop-less Inv-loop μ-loop
-loop-less c = omega (arith, go (c .before .before .before .before .before .before .before .before .before) .below)
+loop-less c = omega (arith, go (c .before .before .before .before .before) .below)
 
 loop-again : tie.Need-loop-again Inv-loop μ-loop
 unfolding one
 loop-again c =
     let k = c .before .before in
     let r = k .before in
-    let t = r .before .before .before .before .before .before in
+    let t = r .before .before in
     let g = go t in
     turns-on _ _ _ _ _ _ _ (t .before .before .loop .inv) (g .test) (rw (k .ticked .ensures, g .inside, r .round .ensures .0, r .round .ensures .1 .0, r .round .ensures .1 .1))
 

@@ -1,0 +1,56 @@
+-- Ends of links read below 256, the rest of a greater number: where the links fit they are the ends themselves.
+use mathlib.Core.Path.{_≡_, refl, ap, _∙_}
+use mathlib.Core.Bool.{Bool, not}
+use mathlib.Core.List.{List, map}
+use Prim.Native.Nat.{ℕ, zero, suc, _+_, _*_, _%_, _<_, min}
+use native.Mathlib.Omega.{arith}
+use lib.IntN.{ℤ}
+use lib.ListN.{List·getD-map}
+use Rattle.lists.specs.FoldLaws.{fold-cong}
+use Rattle.lists.specs.Folds.{some}
+use Rattle.lists.specs.Tables.{over-cong}
+use Rattle.table.specs.Table.{endA, endB}
+use Rattle.rules.specs.Fits.{EndsWithin}
+use Rattle.rules.specs.Tree.{NO-KEY, candidate, bestKey, chosenParent, visits, parentRound, distRound, treeEnds}
+
+unfoldable pub wrapped : List ℕ → List ℕ
+wrapped ends = map (λ (x : ℕ). x % 256) ends
+
+module _ (ends : List ℕ) (j : ℕ) where
+  pub first-wrapped : endA (wrapped ends) j ≡ endA ends j % 256
+  unfolding wrapped
+  first-wrapped = List·getD-map (λ (x : ℕ). x % 256) ends (2 * j) 0
+
+  pub second-wrapped : endB (wrapped ends) j ≡ endB ends j % 256
+  unfolding wrapped
+  second-wrapped = List·getD-map (λ (x : ℕ). x % 256) ends (2 * j + 1) 0
+
+some-cong : (n : ℕ) (f g : ℕ → Bool) → ((v : ℕ) → f v ≡ g v) → some n f ≡ some n g
+some-cong zero f g h = refl
+some-cong (suc n) f g h = rw (some-cong n f g h, h n) refl
+
+module _ (m made : ℕ) (ends : List ℕ) (levels : List ℤ) (color dist : List ℕ) (within : EndsWithin 256 m ends) where
+  best-wrapped : (v : ℕ) → bestKey m made (wrapped ends) levels dist v ≡ bestKey m made ends levels dist v
+  unfolding bestKey
+  best-wrapped v =
+      fold-cong min m (candidate made (wrapped ends) levels dist v) (candidate made ends levels dist v) NO-KEY
+      (λ (j : ℕ) (l : j < m).
+      let a : endA (wrapped ends) j ≡ endA ends j = first-wrapped ends j ∙ omega (arith, within .1 (2 * j) (omega (arith, l))) in
+      let b : endB (wrapped ends) j ≡ endB ends j = second-wrapped ends j ∙ omega (arith, within .1 (2 * j + 1) (omega (arith, l))) in
+      rw (a, b) refl)
+
+  visits-wrapped : (v : ℕ) → visits m made (wrapped ends) levels color dist v ≡ visits m made ends levels color dist v
+  unfolding visits chosenParent
+  visits-wrapped v = rw (best-wrapped v) refl
+
+  pub parents-wrapped : (n : ℕ) (parent : List ℕ) → parentRound n m made (wrapped ends) levels color dist parent ≡ parentRound n m made ends levels color dist parent
+  unfolding parentRound chosenParent
+  parents-wrapped n parent = over-cong n _ _ parent (λ (v : ℕ) (h : v < n). rw (visits-wrapped v, best-wrapped v) refl)
+
+  pub dists-wrapped : (n : ℕ) → distRound n m made (wrapped ends) levels color dist ≡ distRound n m made ends levels color dist
+  unfolding distRound
+  dists-wrapped n = over-cong n _ _ dist (λ (v : ℕ) (h : v < n). rw (visits-wrapped v) refl)
+
+  pub ends-wrapped : (n : ℕ) → treeEnds n m made (wrapped ends) levels color dist ≡ treeEnds n m made ends levels color dist
+  unfolding treeEnds
+  ends-wrapped n = ap not (some-cong n (visits m made (wrapped ends) levels color dist) (visits m made ends levels color dist) visits-wrapped)
