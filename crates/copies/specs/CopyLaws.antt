@@ -50,6 +50,17 @@ module _ (from ws : List ℕ) (at n place : ℕ) (there : at + n ≤ length from
       let whole : i ≡ length (part at n from) = omega (arith, e, length-part) in
       rw (whole, take-length (part at n from)) refl
 
+-- ---- words made one by one
+
+pub paste-next : (ws xs : List ℕ) (at i x : ℕ) → x ≡ getD xs i 0 → i < length xs → at + length xs ≤ length ws
+    → set (paste ws at xs i) (at + i) x ≡ paste ws at xs (i + 1)
+paste-next ws xs at i x e h l =
+    rw (add-one i) (ap (λ (y : ℕ). set (paste ws at xs i) (at + i) y) e ∙ paste-suc ws at xs i 0 (omega (arith, h, l)) h)
+
+pub paste-end : (ws xs : List ℕ) (at i : ℕ) → i ≡ length xs → at + length xs ≤ length ws → paste ws at xs i ≡ laidIn at xs ws
+unfolding laid laidIn
+paste-end ws xs at i e l = rw (le-leb (at + length xs) (length ws) l, e, take-length xs) refl
+
 -- ---- a table over words
 
 part-whole : (xs : List ℕ) → part 0 (length xs) xs ≡ xs

@@ -1,18 +1,25 @@
 -- Words copied out one by one as levels.
 use mathlib.Core.Path.{_≡_, refl, ap, _∙_}
 use mathlib.Core.List.{List, [], _∷_, _++_, append-nil}
-use Prim.Native.Nat.{ℕ, suc, _+_, _≤_, _<_}
+use Prim.Native.Nat.{ℕ, zero, suc, _+_, _≤_, _<_}
 use native.Mathlib.Decide.{decLt}
 use native.Mathlib.Numerals.{add-one}
 use native.Mathlib.Omega.{arith}
-use lib.IntN.{ℤ}
+use lib.IntN.{ℤ, pos}
 use lib.Signed.{mag}
 use lib.ListN.{length, getD, set, take, drop, length-drop}
 use lib.Seq.{length-take-le, take-suc, getD-drop, drop-length}
 use Rattle.lists.specs.Puts.{put-one}
-use Rattle.levels.specs.Level.{wordLevel, fromWords}
+use Rattle.levels.specs.Level.{levelWord, wordLevel, toWords, fromWords}
 use Rattle.levels.specs.LevelLaws.{signed-few, signed-many}
 use Rattle.copies.specs.Parts.{part}
+
+-- each level is one word
+pub word-at : (ls : List ℤ) (i : ℕ) → i < length ls → levelWord (getD ls i (pos 0)) ≡ getD (toWords ls) i 0
+unfolding toWords
+word-at [] i h = absurd (omega arith)
+word-at (z ∷ ls) zero h = refl
+word-at (z ∷ ls) (suc i) h = word-at ls i (omega (arith, h))
 
 -- the level in a word has 16 bits
 pub level-small : (w : ℕ) → mag (wordLevel w) < 32768

@@ -2,8 +2,8 @@
 ghost use mathlib.Core.Path.{_≡_};
 ghost use Prim.Native.Nat.{_+_, _≤_};
 ghost use lib.Dec.{leb};
-ghost use lib.ListN.{length};
-ghost use Rattle.levels.specs.Level.{fromWords};
+ghost use lib.ListN.{length, replicate};
+ghost use Rattle.levels.specs.Level.{toWords, fromWords};
 ghost use Rattle.copies.specs.Parts.{part, laid, laidIn, copied, PartOr, copiedLevels, LevelsOr};
 
 // Whether so many words are there from `at` on.
@@ -37,6 +37,36 @@ pub fn lay(table: &[u16], at: usize, words: &mut [u16])
         return;
     }
     carry(table, 0, count, words, at);
+}
+
+// So many words from `at` on become `x`.
+pub fn fill(x: u16, at: usize, count: usize, words: &mut [u16])
+    ensures { λ _. ⌜ now (words .exit) ≡ laidIn at (replicate count x) (now (words .entry)) ⌝ }
+{
+    if !fits(at, count, words.len()) {
+        return;
+    }
+    let mut i = 0;
+    while i < count {
+        words[at + i] = x;
+        i += 1;
+    }
+}
+
+// Levels over the words from `at` on, each as its word, which stands for it.
+pub fn lay_levels(levels: &[i16], at: usize, words: &mut [u16])
+    ensures words { λ _. ⌜ now (words .exit) ≡ laidIn at (toWords (now (levels .entry))) (now (words .entry)) ⌝ }
+    ensures back { λ _. ⌜ (at + length (now (levels .entry)) ≤ length (now (words .entry)) → fromWords (toWords (now (levels .entry))) ≡ now (levels .entry)) ⌝ }
+{
+    if !fits(at, levels.len(), words.len()) {
+        return;
+    }
+    let mut i = 0;
+    while i < levels.len() {
+        let level = levels[i];
+        words[at + i] = levels::word_of(level);
+        i += 1;
+    }
 }
 
 // The words from `at` on, as many as `to` takes.

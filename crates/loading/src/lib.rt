@@ -88,7 +88,7 @@ fn lay_loaded(units: u16, table: &[u16], levels: &[i16], words: &mut [u16; STATE
     requires { ⌜ storedRefusal units (now table) (now levels) ≡ 0 ⌝ }
     ensures { λ _. ⌜ stateOf (now (words .exit)) ≡ loaded (record { units = units; words = now (table .entry); levels = now (levels .entry) }) ⌝ }
 {
-    words::lay_table(begin::table(units, table, levels), words);
+    words::lay_table(units, table, levels, words);
     words::lay_clock(begin::clock(), words);
     front(words);
     back(words);

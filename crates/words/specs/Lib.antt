@@ -3,3 +3,4 @@ pub mod FieldLaws
 pub mod Rows
 pub mod SameWords
 pub mod Bare
+pub mod TableLaid

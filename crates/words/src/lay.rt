@@ -2,13 +2,15 @@
 use super::layout;
 use super::layout::STATE_WORDS;
 use state::Clock;
-use state::Table;
+use table::ABSENT;
 ghost use mathlib.Core.Path.{_≡_};
-ghost use Prim.Native.Nat.{_+_, _≤_};
-ghost use lib.ListN.{length};
+ghost use Prim.Native.Nat.{_+_, _≤_, min};
+ghost use lib.ListN.{length, take};
 ghost use Rattle.machine.specs.State;
+ghost use Rattle.machine.specs.Load.{tableOf};
 ghost use Rattle.copies.specs.Parts.{laid};
 ghost use Rattle.words.specs.Layout.{stateOf};
+ghost use Rattle.words.specs.TableLaid.{withEnds, withLevels};
 
 // Two tables, each from its place on.
 fn lay_two<'a>(one: &'a [u16], at: usize, two: &'a [u16], next: usize, words: &mut [u16])
@@ -19,14 +21,39 @@ fn lay_two<'a>(one: &'a [u16], at: usize, two: &'a [u16], next: usize, words: &m
     copies::lay(two, next, words);
 }
 
-// The counts, the ends and the levels.
-pub fn lay_table(t: Table, words: &mut [u16; STATE_WORDS])
-    ensures { λ _. ⌜ stateOf (now (words .exit)) ≡ State.withTable t (stateOf (now (words .entry))) ⌝ }
+// How many of so many entries a table of this size holds.
+fn held(size: usize, count: usize) -> usize
+    ensures { λ r. ⌜ r ≡ min size count ⌝ }
 {
-    copies::lay(&[t.units, t.links], layout::UNITS, words);
-    copies::lay(&t.ends, layout::ENDS, words);
-    let levels = levels::words_of(&t.levels);
-    copies::lay(&levels, layout::LEVELS, words);
+    if size < count { size } else { count }
+}
+
+// The counts and the ends that a load takes, made where they lie: its first 2,048 words, absent past the last.
+fn lay_ends(units: u16, table: &[u16], words: &mut [u16; STATE_WORDS])
+    ensures { λ _. ⌜ stateOf (now (words .exit)) ≡ withEnds units (take 2048 (now (table .entry))) (stateOf (now (words .entry))) ⌝ }
+{
+    let count = held(2048, table.len());
+    copies::lay(&[units, (count / 2) as u16], layout::UNITS, words);
+    copies::fill(ABSENT, layout::ENDS, 2048, words);
+    copies::lay(&table[..count], layout::ENDS, words);
+}
+
+// The levels, in the same way: the first 1,024, and 0 past the last.
+fn lay_levels(levels: &[i16], words: &mut [u16; STATE_WORDS])
+    ensures { λ _. ⌜ stateOf (now (words .exit)) ≡ withLevels (take 1024 (now (levels .entry))) (stateOf (now (words .entry))) ⌝ }
+{
+    let count = held(1024, levels.len());
+    copies::fill(0, layout::LEVELS, 1024, words);
+    copies::lay_levels(&levels[..count], layout::LEVELS, words);
+}
+
+// The table that a load takes.
+pub fn lay_table(units: u16, table: &[u16], levels: &[i16], words: &mut [u16; STATE_WORDS])
+    ensures { λ _. ⌜ stateOf (now (words .exit))
+        ≡ State.withTable (tableOf (record { units = units; words = take 2048 (now (table .entry)); levels = take 1024 (now (levels .entry)) })) (stateOf (now (words .entry))) ⌝ }
+{
+    lay_ends(units, table, words);
+    lay_levels(levels, words);
 }
 
 // The clock.

@@ -7,9 +7,6 @@ use borrow.Author.Needs.{needs}
 use Rattle.loading.proofs.lay_loaded.Statement.{statement}
 use Rattle.loading.proofs.lay_loaded.Tie as tie
 
-table-requires : tie.Need-table-requires
-table-requires c κs = search needs
-
 lay-table-requires : tie.Need-lay-table-requires
 lay-table-requires c κs = search needs
 
@@ -28,16 +25,15 @@ back-requires c κs = search needs
 returns : tie.Need-returns
 unfolding loaded begun
 returns c =
-    let s = c .before .before .before .before .before .before .before .before .before .before .before in
+    let s = c .before .before .before .before .before .before .before .before .before .before in
     let a = s .args in
     let fits = passed-fits (a .units) (a .table .now) (a .levels .now) (s .pre) in
-    rw (c .back .ensures, c .before .before .front .ensures, c .before .before .before .before .lay-clock .ensures, c .before .before .before .before .before .before .clock .ensures, c .before .before .before .before .before .before .before .lay-table .ensures, c .before .before .before .before .before .before .before .before .before .table .ensures, take-all 2048 (a .table .now) (fits .0), take-all 1024 (a .levels .now) (fits .1)) refl
+    rw (c .back .ensures, c .before .before .front .ensures, c .before .before .before .before .lay-clock .ensures, c .before .before .before .before .before .before .clock .ensures, c .before .before .before .before .before .before .before .lay-table .ensures, take-all 2048 (a .table .now) (fits .0), take-all 1024 (a .levels .now) (fits .1)) refl
 
 pub lay-loaded-spec : {M : Type 1} → statement M
 lay-loaded-spec =
     tie.close
     (tie.spec
-    table-requires
     lay-table-requires
     clock-requires
     lay-clock-requires
