@@ -3,8 +3,8 @@ use mathlib.Core.Path.{_≡_, refl, sym, ap, _∙_}
 use mathlib.Core.Bool.{Bool, true, false, cond, not, _&&_, true≢false}
 use mathlib.Core.Logic.{_⊎_, inl, inr}
 use mathlib.Core.List.{List}
-use Prim.Native.Nat.{ℕ, _+_, _≤_, _<_, min}
-use native.Mathlib.Decide.{ℕ-discrete, decLt}
+use Prim.Native.Nat.{ℕ, _≤_, _<_, min}
+use native.Mathlib.Decide.{decLt}
 use native.Mathlib.Omega.{arith}
 use lib.Dec.{eqb}
 use lib.ListN.{length}
@@ -17,15 +17,15 @@ use Rattle.lists.specs.Tests.{either, refuted, and-right, and-true, cond-true, 
 use Rattle.table.specs.Table.{endA, endB}
 use Rattle.rules.specs.Basics.{ABSENT, at, isRoot, heard}
 use Rattle.rules.specs.Components.{leastHeard}
-use Rattle.rules.specs.Aux.{joined, heardOver, leastJoined, auxRound, auxEnds}
+use Rattle.rules.specs.Aux.{heardOver, leastJoined, auxRound, auxEnds}
 use Rattle.state.specs.declared.groups.Clock.{Clock}
 use Rattle.machine.specs.InStage.{inStage, stands}
-use Rattle.leaps.specs.Settling.{spread}
+use Rattle.settling.specs.Settling.{spread}
 use Rattle.leaps.specs.Leapt.{Spreads}
 use Rattle.classes.specs.declared.Ran.{Ran}
 use Rattle.classes.specs.Absorbed.{least-rest}
 use Rattle.classes.specs.Propagation.{saidBy}
-use Rattle.classes.specs.Pairs.{Hears, linksHeard, joinsHeard}
+use Rattle.join_pairs.specs.Pairs.{Hears, linksHeard, joinsHeard}
 use Rattle.classes.specs.Rounds.{fits, on, one}
 
 -- the values, the clock and the rounds made

@@ -5,4 +5,3 @@ pub mod Propagation
 pub mod RoundLaws
 pub mod Rounds
 pub mod Leap
-pub mod Pairs

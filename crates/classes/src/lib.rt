@@ -18,7 +18,6 @@ ghost use Rattle.classes.specs.Rounds.{fits, on, one};
 
 mod heads;
 mod links;
-mod pairs;
 
 // The table of the stage, the clock, and the rounds made.
 pub struct Ran {
@@ -165,7 +164,7 @@ fn over_pairs<'a>(
         (record { color = color; clock = clock; made = 0 })) ⌝ }
 {
     let mut table = [0; 2560];
-    let count = pairs::joins(units, links, ends, parent, linked, parents, &mut table);
+    let count = join_pairs::joins(units, links, ends, parent, linked, parents, &mut table);
     let value = propagation::said(units, 0, color);
     let said = heads::without_roots(units, parent, value);
     let most = values::greatest_of(2, values::less(units, 1));

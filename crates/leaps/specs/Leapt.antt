@@ -21,8 +21,8 @@ use Rattle.machine.specs.State.{MAX-ROUNDS, MAX-REQUESTS}
 use Rattle.machine.specs.Step.{nextClock}
 use Rattle.machine.specs.InStage.{Ready, lastAt, inStage, stands, may, in-stage}
 use Rattle.machine.specs.StageRun.{stageRun, stage-on, stage-off}
-use Rattle.leaps.specs.Settling.{spread, Settling, settling-round, goes-on, stays}
-use Rattle.leaps.specs.Found.{Found}
+use Rattle.settling.specs.Settling.{spread, Settling, settling-round, goes-on, stays}
+use Rattle.settling.specs.Found.{Found}
 
 -- the rounds of the stage still to come: those that change something and the one that does not, which is never the first of a stage
 abbrev pub roundsIn : ℕ → ℕ → ℕ

@@ -1,4 +1,1 @@
-pub mod Settling
-pub mod Chains
-pub mod Found
 pub mod Leapt

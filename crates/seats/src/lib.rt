@@ -1,30 +1,14 @@
 // Several sites over one channel (T-12): eight seats in words that the caller lends, and whose turn it is. A seat is the words of a survey, empty while its
 // unit count is 0, so that cleared memory is eight empty seats. A number that comes back is that of a refusal, 0 where there was none; on a refusal nothing
 // lent is altered.
-mod judged;
-mod turns;
 
 use words::STATE_WORDS;
 ghost use mathlib.Core.Path.{_≡_};
 ghost use Prim.Native.Nat.{ℕ};
 ghost use Rattle.office.specs.Office.{tickRefusal, tick, seatRefusal, loadSeat};
 ghost use Rattle.seats.specs.Lent.{officeOf};
+pub use turns::Turn;
 pub use turns::pick;
-
-// The seat last served.
-#[repr(C)]
-pub struct Turn {
-    pub last: u16,
-}
-
-impl Turn {
-    // Before any tick: the search begins at seat 0, the next after 7.
-    pub fn new() -> Turn
-        ensures { λ r. ⌜ r .last ≡ 7 ⌝ }
-    {
-        Turn { last: 7 }
-    }
-}
 
 // What a tick replies: its number, and the seat last served after it.
 pub struct Served {
@@ -52,8 +36,8 @@ pub fn serve(last: u16, seats: &mut [[u16; STATE_WORDS]; 8]) -> Served
     if 7 < last {
         return Served { number: 10, last };
     }
-    let next = turns::pick(last, judged::flags(seats));
-    if !judged::others_sound(seats, next) {
+    let next = turns::pick(last, seat_tests::flags(seats));
+    if !seat_tests::others_sound(seats, next) {
         return Served { number: 10, last };
     }
     if 7 < next {

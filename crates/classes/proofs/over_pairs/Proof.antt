@@ -1,8 +1,7 @@
 -- By the law of leaps over the pairs.
 use mathlib.Core.Path.{_≡_, sym, ap, _∙_}
 use mathlib.Core.Bool.{cond}
-use mathlib.Core.List.{List}
-use Prim.Native.Nat.{ℕ, _-_}
+use Prim.Native.Nat.{ℕ, _-_, min}
 use native.Mathlib.Omega.{arith}
 use lib.Dec.{eqb}
 use borrow.Author.Tests.{eq-eqb}
@@ -19,14 +18,8 @@ use borrow.Author.Needs.{needs}
 use Rattle.classes.proofs.over_pairs.Statement.{statement}
 use Rattle.classes.proofs.over_pairs.Tie as tie
 
-slice-aggregate-joins : tie.Need-slice-aggregate-joins
-slice-aggregate-joins c = search needs
-
 joins-requires : tie.Need-joins-requires
-joins-requires c κs =
-    let s = c .before in
-    let a = s .args in
-    (s .pre .0, fit-few (a .units) (a .links) (a .ends .now) (and-left (linksFit (a .units) (a .links) (a .ends .now)) (every (nameOk (a .units)) (a .parent .now)) (s .pre .1)), search needs)
+joins-requires c κs = search needs
 
 said-requires : tie.Need-said-requires
 said-requires c κs = search needs
@@ -51,9 +44,11 @@ returns c =
     let m = c .before .before in
     let w = m .before .before in
     let d = w .before in
-    let j = d .before .before in
+    let j = d .before in
     let s = j .before .before in
     let a = s .args in
+    let units : min (a .units) 256 ≡ a .units = omega (arith, s .pre .0) in
+    let links : min (a .links) 1024 ≡ a .links = omega (arith, fit-few (a .units) (a .links) (a .ends .now) (and-left (linksFit (a .units) (a .links) (a .ends .now)) (every (nameOk (a .units)) (a .parent .now)) (s .pre .1))) in
     let none = eq-eqb (a .clock .made) 0 (s .pre .3) in
     let says : w .without-roots .result ≡ cond (eqb (a .clock .made) 0) (numbers (a .units) (a .parent .now) (a .color)) (a .color) =
     w .without-roots .ensures ∙ ap (unrooted (a .units) (a .parent .now)) (d .said .ensures) ∙ sym (cond-true (eqb (a .clock .made) 0) (numbers (a .units) (a .parent .now) (a .color)) (a .color) none) in
@@ -62,9 +57,9 @@ returns c =
     let all : a .budget - 0 ≡ a .budget = omega arith in
     λ right.
     leapt-run ran (on (a .units) (a .links) (a .ends .now) (a .parent .now)) (one (a .units) (a .links) (a .ends .now) (a .parent .now) (a .linked .now) (a .parents .now)) (a .units) (j .joins .result) 9 _ (numbers (a .units) (a .parent .now)) (RootsAbsent (a .units) (a .parent .now))
-    (spreads (a .units) (a .links) (a .ends .now) (a .parent .now) (a .linked .now) (a .parents .now) (j .joins .result) _ (j .joins .ensures) (s .pre .1)) (a .budget) (a .color) (a .clock) 0 _ _ _
+    (spreads (a .units) (a .links) (a .ends .now) (a .parent .now) (a .linked .now) (a .parents .now) (j .joins .result) _ (rw (units, links) at (j .joins .ensures .0)) (s .pre .1)) (a .budget) (a .color) (a .clock) 0 _ _ _
     (rw (m .greatest-of .ensures, m .before .less .ensures, says) at (c .leap .ensures right)) fine (s .pre .2)
     ∙ ap (λ (b : ℕ). stageRun (on (a .units) (a .links) (a .ends .now) (a .parent .now)) (one (a .units) (a .links) (a .ends .now) (a .parent .now) (a .linked .now) (a .parents .now)) b (ran (a .color) (a .clock) 0)) all
 
 pub over-pairs-spec : {M : Type 1} → statement M
-over-pairs-spec = tie.close (tie.spec slice-aggregate-joins joins-requires said-requires without-roots-requires less-requires greatest-of-requires slice-aggregate-leap leap-requires returns)
+over-pairs-spec = tie.close (tie.spec joins-requires said-requires without-roots-requires less-requires greatest-of-requires slice-aggregate-leap leap-requires returns)

@@ -1,12 +1,15 @@
 -- By which end is nearer.
-use mathlib.Core.Path.{_≡_, refl, sym, _∙_}
+use mathlib.Core.Path.{_≡_, refl, sym, ap, _∙_}
 use mathlib.Core.Bool.{true, false}
-use Prim.Native.Nat.{_+_, _%_}
+use Prim.Native.Nat.{ℕ, _+_, _%_, min}
 use native.Mathlib.Omega.{arith}
 use lib.Dec.{eqb}
 use mir.Syntax.{w16}
 use mir.ValLaws.{toZ-ofZ}
+use Rattle.lists.specs.Scatter.{takesIn}
+use Rattle.table.specs.Table.{maxUnits}
 use Rattle.rules.specs.Basics.{at}
+use Rattle.rules.specs.Tree.{keyOf}
 use borrow.Author.Needs.{needs}
 use Rattle.distances.proofs.offer_nearer.Statement.{statement}
 use Rattle.distances.proofs.offer_nearer.Tie as tie
@@ -41,7 +44,7 @@ returns c =
     let level = toZ-ofZ w16 (a .level) (start .fits .level) in
     let first : eqb (at (a .far .now) (a .a) + 1) (at (a .far .now) (a .b)) ≡ true = sym (o .one-more .ensures) ∙ t .if1 .taken in
     let unit : a .b % 256 ≡ a .b = omega (arith, start .pre .1) in
-    let put = rw (c .before .key-of .ensures, level, unit) at (c .offer .ensures) in
+    let put = rw (c .before .key-of .ensures, level) at (c .offer .ensures) ∙ ap (λ (v : ℕ). takesIn min maxUnits (a .cand .now) v (keyOf (a .level) (a .a))) unit in
     (rw first put, rw first refl)
 
 one-more-requires-2 : tie.Need-one-more-requires-2
@@ -64,7 +67,7 @@ returns-2 c =
     let first : eqb (at (a .far .now) (a .a) + 1) (at (a .far .now) (a .b)) ≡ false = sym (o .one-more .ensures) ∙ n .if1 .left in
     let second : eqb (at (a .far .now) (a .b) + 1) (at (a .far .now) (a .a)) ≡ true = sym (t .before .one-more2 .ensures) ∙ t .if2 .taken in
     let unit : a .a % 256 ≡ a .a = omega (arith, start .pre .0) in
-    let put = rw (c .before .key-of2 .ensures, level, unit) at (c .offer2 .ensures) in
+    let put = rw (c .before .key-of2 .ensures, level) at (c .offer2 .ensures) ∙ ap (λ (v : ℕ). takesIn min maxUnits (a .cand .now) v (keyOf (a .level) (a .b))) unit in
     (rw (first, second) put, rw (first, second) refl)
 
 returns-3 : tie.Need-returns-3

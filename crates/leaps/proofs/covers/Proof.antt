@@ -1,6 +1,5 @@
 -- Test by test.
 use mathlib.Core.Bool.{false≢true}
-use native.Mathlib.Omega.{arith}
 use borrow.Author.Tests.{leb-true}
 use borrow.Author.Needs.{needs}
 use Rattle.leaps.proofs.covers.Statement.{statement}

@@ -41,10 +41,10 @@ use denote.Triple.Walked.{says, Stays, stay-ref, gave-ref, walkOf, goes-ref, goe
 use denote.Signature.{Slot, plain}
 use Rattle.office.specs.Office as office
 use Rattle.seats.specs.Lent.{officeOf}
-use Rattle.seats.specs.declared.Turn.{Turn}
+use Rattle.turns.specs.declared.Turn.{Turn}
 use Rattle.seats.specs.declared.Served.{Served}
-use Rattle.seats.proofs.Turn as T
-use Rattle.seats.proofs.Turn.Laws as T′
+use Rattle.turns.proofs.Turn as T
+use Rattle.turns.proofs.Turn.Laws as T′
 use Rattle.seats.proofs.Served as S
 use Rattle.seats.proofs.Served.Laws as S′
 use Rattle.seats.proofs.serve as serve
