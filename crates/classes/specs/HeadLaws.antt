@@ -18,7 +18,8 @@ use Rattle.lists.specs.Scatter.{takesIn, fold-absorbs, single-over}
 use Rattle.rules.specs.Basics.{ABSENT, at, isRoot}
 use Rattle.rules.specs.Bounds.{nameOk}
 use Rattle.rules.specs.BoundLaws.{Names, name-exact, names-at}
-use Rattle.classes.specs.Propagation.{headOf, Heads, toHeads}
+use Rattle.heads.specs.Heads.{headOf, Heads}
+use Rattle.classes.specs.Propagation.{toHeads}
 
 pub heads-exist : (n : ℕ) (parent marks heads : List ℕ) → every (nameOk n) parent ≡ true → ((u : ℕ) → u < n → at heads u ≡ headOf parent marks u)
     → Heads n parent marks heads

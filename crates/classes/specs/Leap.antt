@@ -24,7 +24,7 @@ use Rattle.settling.specs.Settling.{spread}
 use Rattle.leaps.specs.Leapt.{Spreads}
 use Rattle.classes.specs.declared.Ran.{Ran}
 use Rattle.classes.specs.Absorbed.{least-rest}
-use Rattle.classes.specs.Propagation.{saidBy}
+use Rattle.heads.specs.Heads.{saidBy}
 use Rattle.join_pairs.specs.Pairs.{Hears, linksHeard, joinsHeard}
 use Rattle.classes.specs.Rounds.{fits, on, one}
 

@@ -24,7 +24,8 @@ use Rattle.rules.specs.Fits.{EndsWithin}
 use Rattle.rules.specs.ComponentsLaws.{over-said}
 use Rattle.rules.specs.Aux.{heardOver, leastJoined, auxSaid, auxRound}
 use Rattle.classes.specs.Absorbed.{least-alike, least-aside}
-use Rattle.classes.specs.Propagation.{saidBy, heardIf, overLinks, Heads, toHeads, byHead, leastOf}
+use Rattle.heads.specs.Heads.{saidBy, Heads, leastOf}
+use Rattle.classes.specs.Propagation.{heardIf, overLinks, toHeads, byHead}
 use Rattle.classes.specs.HeadLaws.{to-over}
 
 -- a link of a and b: x and y are their values, x′ and y′ what they say, and it is known of each end whether it is a root and whether it is v

@@ -13,11 +13,11 @@ ghost use Rattle.rules.specs.Fits.{EndsWithin};
 ghost use Rattle.machine.specs.InStage.{inStage};
 ghost use Rattle.machine.specs.StageRun.{stageRun};
 ghost use Rattle.classes.specs.Leap.{ran};
-ghost use Rattle.classes.specs.Propagation.{Heads};
+ghost use Rattle.heads.specs.Heads.{Heads};
 ghost use Rattle.classes.specs.Rounds.{fits, on, one};
 
-mod heads;
 mod links;
+mod tell;
 
 // The table of the stage, the clock, and the rounds made.
 pub struct Ran {
@@ -189,7 +189,7 @@ fn rounds<'a>(
         (one units links (now (ends .entry)) (now (parent .entry)) (now (linked .entry)) (now (parents .entry))) budget
         (record { color = color; clock = clock; made = 0 }) ⌝ }
 {
-    let heads = heads::heads(units, parent, parents);
+    let heads = heads::of(units, parent, parents);
     let mut value = color;
     let mut c = clock;
     let mut made: u16 = 0;
@@ -227,6 +227,6 @@ fn round<'a>(
     let said = heads::without_roots(units, parent, value);
     let mut heard = said;
     links::propagate(units, links, ends, linked, &said, &mut heard);
-    let told = heads::propagate(units, heads, &said, &mut heard);
+    let told = tell::propagate(units, heads, &said, &mut heard);
     heads::least(units, parent, &told, &heard, value)
 }

@@ -51,7 +51,7 @@ returns c =
     let links : min (a .links) 1024 ≡ a .links = omega (arith, fit-few (a .units) (a .links) (a .ends .now) (and-left (linksFit (a .units) (a .links) (a .ends .now)) (every (nameOk (a .units)) (a .parent .now)) (s .pre .1))) in
     let none = eq-eqb (a .clock .made) 0 (s .pre .3) in
     let says : w .without-roots .result ≡ cond (eqb (a .clock .made) 0) (numbers (a .units) (a .parent .now) (a .color)) (a .color) =
-    w .without-roots .ensures ∙ ap (unrooted (a .units) (a .parent .now)) (d .said .ensures) ∙ sym (cond-true (eqb (a .clock .made) 0) (numbers (a .units) (a .parent .now) (a .color)) (a .color) none) in
+    rw units at (w .without-roots .ensures) ∙ ap (unrooted (a .units) (a .parent .now)) (d .said .ensures) ∙ sym (cond-true (eqb (a .clock .made) 0) (numbers (a .units) (a .parent .now) (a .color)) (a .color) none) in
     let fine : RootsAbsent (a .units) (a .parent .now) (cond (eqb (a .clock .made) 0) (numbers (a .units) (a .parent .now) (a .color)) (a .color)) =
     rw none (roots-absent (a .units) (a .parent .now) (over (a .units) (λ (v : ℕ). v) (a .color)) (omega (arith, s .pre .0, s .good, length-over (a .units) (λ (v : ℕ). v) (a .color)))) in
     let all : a .budget - 0 ≡ a .budget = omega arith in

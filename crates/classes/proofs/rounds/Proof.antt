@@ -1,8 +1,9 @@
 -- Round after round: each is one of the definition's, as long as the stage goes on.
 use mathlib.Core.Path.{_≡_, sym, _∙_}
-use Prim.Native.Nat.{_-_}
+use Prim.Native.Nat.{_-_, min}
 use native.Mathlib.Omega.{arith}
 use lib.ListN.{length}
+use borrow.Author.Tests.{lt-ltb}
 use Rattle.lists.specs.Folds.{every}
 use Rattle.lists.specs.Tests.{and-left, and-right}
 use Rattle.rules.specs.Components.{colorEnds}
@@ -11,7 +12,7 @@ use Rattle.rules.specs.Bounds.{nameOk}
 use Rattle.rules.specs.Fits.{linksFit, fit-few, fit-within}
 use Rattle.machine.specs.InStage.{Goes, goes}
 use Rattle.machine.specs.StageRun.{Turning, turns-begin, turns-on, turns-over}
-use Rattle.classes.specs.Propagation.{Heads}
+use Rattle.heads.specs.Heads.{Heads}
 use Rattle.classes.specs.HeadLaws.{heads-exist}
 use Rattle.classes.specs.Rounds.{fits, on, one}
 use borrow.Author.Needs.{needs}
@@ -31,14 +32,15 @@ go c = goes _ _ _ _ _ _ (rw (c .before .before .before .before .pre .0) at (sym 
 
 -- all heads exist then
 by : (c : tie.Then1 Inv-loop μ-loop)
-    → (let h = c .before .before .before in let a = h .before .args in Heads (a .units) (a .parent .now) (a .parents .now) (h .heads .result))
+    → (let h = c .before .before .before in let a = h .before .args in Heads (a .units) (a .parent .now) (a .parents .now) (h .of .result))
 by c =
     let h = c .before .before .before in
     let a = h .before .args in
-    heads-exist (a .units) (a .parent .now) (a .parents .now) (h .heads .result) (and-right (linksFit (a .units) (a .links) (a .ends .now)) (every (nameOk (a .units)) (a .parent .now)) (go c .fit)) (h .heads .ensures (go c .few))
+    heads-exist (a .units) (a .parent .now) (a .parents .now) (h .of .result) (and-right (linksFit (a .units) (a .links) (a .ends .now)) (every (nameOk (a .units)) (a .parent .now)) (go c .fit))
+    (λ u l. rw (lt-ltb u (min (a .units) 256) (omega (arith, l, go c .few))) at (h .of .ensures u (omega (arith, l, go c .few))))
 
-heads-requires : tie.Need-heads-requires Inv-loop μ-loop
-heads-requires c κs = search needs
+of-requires : tie.Need-of-requires Inv-loop μ-loop
+of-requires c κs = search needs
 
 loop-holds : tie.Need-loop-holds Inv-loop μ-loop
 loop-holds c = (search needs, turns-begin _ _ _ _)
@@ -93,7 +95,7 @@ rounds-spec =
     (tie.spec
     Inv-loop
     μ-loop
-    heads-requires
+    of-requires
     loop-holds
     goes-on-requires
     round-requires

@@ -1,14 +1,26 @@
 -- Unit by unit.
-use mathlib.Core.Path.{_≡_, refl}
-use Prim.Native.Nat.{_≤_, _-_}
+use mathlib.Core.Path.{_≡_, refl, _∙_}
+use mathlib.Core.Bool.{cond}
+use mathlib.Core.List.{List}
+use Prim.Native.Nat.{ℕ, _≤_, _<_, _-_, min}
+use native.Mathlib.Decide.{decLt}
 use native.Mathlib.Omega.{arith}
-use lib.ListN.{length}
-use Rattle.lists.specs.Tables.{over, getD-over}
+use lib.Dec.{ltb}
+use lib.ListN.{length, getD}
+use borrow.Author.Tests.{lt-ltb, le-ltb}
+use Rattle.lists.specs.Tables.{over, getD-over, getD-over-past}
 use Rattle.lists.specs.Rounds.{over-more}
-use Rattle.classes.specs.Propagation.{headOf}
+use Rattle.rules.specs.Basics.{ABSENT}
+use Rattle.heads.specs.Heads.{headOf}
 use borrow.Author.Needs.{needs}
-use Rattle.classes.proofs.heads.heads.Statement.{statement}
-use Rattle.classes.proofs.heads.heads.Tie as tie
+use Rattle.heads.proofs.of.Statement.{statement}
+use Rattle.heads.proofs.of.Tie as tie
+
+-- a head, or what was there
+head-at : (n : ℕ) (f : ℕ → ℕ) (old new : List ℕ) (u : ℕ) → length old ≡ 256 → new ≡ over n f old → u < 256 → getD old u 0 ≡ ABSENT → Dec (u < n)
+    → getD new u 0 ≡ cond (ltb u n) (f u) ABSENT
+head-at n f old new u full is h was (yes l) = rw (is, lt-ltb u n l) (getD-over n f old u 0 l (omega (arith, h, full)))
+head-at n f old new u full is h was (no l) = rw (is, le-ltb u n (omega (arith, l))) (getD-over-past n f old u 0 (omega (arith, l)) ∙ was)
 
 abbrev Inv-loop : tie.InvT-loop
 Inv-loop units parent parents count new₀ u₀ new u = (u ≤ count) × (length new₀ ≡ 256) × (length new ≡ 256) × (new ≡ over u (headOf parent parents) new₀)
@@ -74,11 +86,14 @@ loop-again c =
 returns : tie.Need-returns Inv-loop μ-loop
 returns c =
     let s = c .before in
-    let a = s .before .before .before .args in
-    λ few u h. rw (s .loop .inv .3) (getD-over (s .loop .u) (headOf (a .parent .now) (a .parents .now)) _ u 0 (omega (arith, few, h, s .before .before .least-of .ensures, c .loop-test .left)) (omega (arith, few, h, s .loop .inv .1)))
+    let blank = s .before in
+    let few = blank .before in
+    let a = few .before .args in
+    let all : s .loop .u ≡ min (a .units) 256 = omega (arith, s .loop .inv .0, c .loop-test .left, few .least-of .ensures) in
+    λ u h. head-at (min (a .units) 256) (headOf (a .parent .now) (a .parents .now)) (blank .blank .result) (s .loop .new) u (s .loop .inv .1) (rw all at (s .loop .inv .3)) h (blank .blank .ensures u h) (decLt u (min (a .units) 256))
 
-pub heads-spec : {M : Type 1} → statement M
-heads-spec =
+pub of-spec : {M : Type 1} → statement M
+of-spec =
     tie.close
     (tie.spec
     Inv-loop

@@ -9,8 +9,8 @@ use Rattle.lists.specs.Rounds.{over-more}
 use Rattle.classes.specs.Propagation.{toHeads, byHead}
 use Rattle.classes.specs.HeadLaws.{to-none, to-more}
 use borrow.Author.Needs.{needs}
-use Rattle.classes.proofs.heads.propagate.Statement.{statement}
-use Rattle.classes.proofs.heads.propagate.Tie as tie
+use Rattle.classes.proofs.tell.propagate.Statement.{statement}
+use Rattle.classes.proofs.tell.propagate.Tie as tie
 
 abbrev Inv-loop : tie.InvT-loop
 Inv-loop units heads said t₀ told₀ u₀ t told u =

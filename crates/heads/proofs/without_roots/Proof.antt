@@ -4,16 +4,19 @@ use Prim.Native.Nat.{_≤_, _-_}
 use lib.ListN.{length}
 use Rattle.lists.specs.Tables.{over}
 use Rattle.lists.specs.Rounds.{over-more, over-all}
-use Rattle.classes.specs.Propagation.{saidBy}
+use Rattle.heads.specs.Heads.{saidBy}
 use borrow.Author.Needs.{needs}
-use Rattle.classes.proofs.heads.without_roots.Statement.{statement}
-use Rattle.classes.proofs.heads.without_roots.Tie as tie
+use Rattle.heads.proofs.without_roots.Statement.{statement}
+use Rattle.heads.proofs.without_roots.Tie as tie
 
 abbrev Inv-loop : tie.InvT-loop
-Inv-loop units parent value new₀ v₀ new v = (v ≤ units) × (length new ≡ 256) × (new ≡ over v (saidBy parent value) new₀)
+Inv-loop units parent value count new₀ v₀ new v = (v ≤ count) × (length new ≡ 256) × (new ≡ over v (saidBy parent value) new₀)
 
 abbrev μ-loop : tie.MeasureT-loop
-μ-loop units parent value new₀ v₀ new v = units - v
+μ-loop units parent value count new₀ v₀ new v = count - v
+
+least-of-requires : tie.Need-least-of-requires Inv-loop μ-loop
+least-of-requires c κs = search needs
 
 loop-holds : tie.Need-loop-holds Inv-loop μ-loop
 loop-holds c = search needs
@@ -51,12 +54,12 @@ loop-less c = search needs
 loop-again : tie.Need-loop-again Inv-loop μ-loop
 loop-again c =
     let s = c .before .before .before in
-    let a = s .before .args in
+    let a = s .before .before .args in
     let is : c .choose .result ≡ saidBy (a .parent .now) (a .t3) (s .loop .v) = cc in
     (search needs, search needs, over-more _ _ _ _ _ _ (s .loop .inv .2) is refl)
 
 returns : tie.Need-returns Inv-loop μ-loop
-returns c = c .before .loop .inv .2 ∙ over-all _ _ _ _ (c .before .loop .inv .0) (c .loop-test .left)
+returns c = rw (← c .before .before .least-of .ensures) (c .before .loop .inv .2 ∙ over-all _ _ _ _ (c .before .loop .inv .0) (c .loop-test .left))
 
 pub without-roots-spec : {M : Type 1} → statement M
 without-roots-spec =
@@ -64,6 +67,7 @@ without-roots-spec =
     (tie.spec
     Inv-loop
     μ-loop
+    least-of-requires
     loop-holds
     cast-at
     mul-choose

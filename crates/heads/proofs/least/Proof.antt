@@ -4,16 +4,19 @@ use Prim.Native.Nat.{_≤_, _-_}
 use lib.ListN.{length}
 use Rattle.lists.specs.Tables.{over}
 use Rattle.lists.specs.Rounds.{over-more, over-all}
-use Rattle.classes.specs.Propagation.{leastOf}
+use Rattle.heads.specs.Heads.{leastOf}
 use borrow.Author.Needs.{needs}
-use Rattle.classes.proofs.heads.least.Statement.{statement}
-use Rattle.classes.proofs.heads.least.Tie as tie
+use Rattle.heads.proofs.least.Statement.{statement}
+use Rattle.heads.proofs.least.Tie as tie
 
 abbrev Inv-loop : tie.InvT-loop
-Inv-loop units parent told t new₀ v₀ new v = (v ≤ units) × (length new ≡ 256) × (new ≡ over v (leastOf parent told t) new₀)
+Inv-loop units parent told t count new₀ v₀ new v = (v ≤ count) × (length new ≡ 256) × (new ≡ over v (leastOf parent told t) new₀)
 
 abbrev μ-loop : tie.MeasureT-loop
-μ-loop units parent told t new₀ v₀ new v = units - v
+μ-loop units parent told t count new₀ v₀ new v = count - v
+
+least-of-requires : tie.Need-least-of-requires Inv-loop μ-loop
+least-of-requires c κs = search needs
 
 loop-holds : tie.Need-loop-holds Inv-loop μ-loop
 loop-holds c = search needs
@@ -33,8 +36,8 @@ mul-least-of-2 c = search needs
 element-copy-out-least-of-2 : tie.Need-element-copy-out-least-of-2 Inv-loop μ-loop
 element-copy-out-least-of-2 c = search needs
 
-least-of-requires : tie.Need-least-of-requires Inv-loop μ-loop
-least-of-requires c κs = search needs
+least-of-requires-2 : tie.Need-least-of-requires-2 Inv-loop μ-loop
+least-of-requires-2 c κs = search needs
 
 mul-choose : tie.Need-mul-choose Inv-loop μ-loop
 mul-choose c = search needs
@@ -60,12 +63,12 @@ loop-less c = search needs
 loop-again : tie.Need-loop-again Inv-loop μ-loop
 loop-again c =
     let s = c .before .before .before .before .before .before in
-    let a = s .before .args in
+    let a = s .before .before .args in
     let is : c .choose .result ≡ leastOf (a .parent .now) (a .told .now) (a .t .now) (s .loop .v) = cc in
     (search needs, search needs, over-more _ _ _ _ _ _ (s .loop .inv .2) is refl)
 
 returns : tie.Need-returns Inv-loop μ-loop
-returns c = c .before .loop .inv .2 ∙ over-all _ _ _ _ (c .before .loop .inv .0) (c .loop-test .left)
+returns c = rw (← c .before .before .least-of .ensures) (c .before .loop .inv .2 ∙ over-all _ _ _ _ (c .before .loop .inv .0) (c .loop-test .left))
 
 pub least-spec : {M : Type 1} → statement M
 least-spec =
@@ -73,13 +76,14 @@ least-spec =
     (tie.spec
     Inv-loop
     μ-loop
+    least-of-requires
     loop-holds
     cast-at
     mul-least-of
     element-copy-out-least-of
     mul-least-of-2
     element-copy-out-least-of-2
-    least-of-requires
+    least-of-requires-2
     mul-choose
     element-copy-out-choose
     choose-requires
