@@ -11,8 +11,8 @@ ghost use Rattle.machine.specs.InStage.{inStage};
 ghost use Rattle.machine.specs.StageRun.{stageRun};
 ghost use Rattle.tree.specs.Rounds.{on, parentsAfter, distsAfter, endsAfter, one};
 
-// So many rounds are made one by one before a leap: most sites end the stage with the next few.
-const LEAP_AFTER: u16 = 3;
+// So many rounds are made one by one before a leap: the first sets out from the roots.
+const LEAP_AFTER: u16 = 1;
 
 // The tables of the stage, the clock, and the rounds made.
 pub struct Ran {
