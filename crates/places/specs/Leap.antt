@@ -1,8 +1,8 @@
 -- Stage 6 as a ranking that numbers the places with its last round.
-use mathlib.Core.Path.{_≡_, refl}
+use mathlib.Core.Path.{refl}
 use mathlib.Core.Bool.{true, _&&_}
 use mathlib.Core.List.{List}
-use Prim.Native.Nat.{ℕ, _+_}
+use Prim.Native.Nat.{ℕ}
 use native.Mathlib.Omega.{arith}
 use Rattle.lists.specs.Tests.{refuted}
 use Rattle.rules.specs.Order.{preRound}

@@ -1,10 +1,10 @@
 -- What a walk finds of an object is one number, its key: the rank times 65,536 and the sum. The tests that code makes of these numbers, and that they say what
 -- Found asks.
-use mathlib.Core.Path.{_≡_, refl, sym, _∙_}
+use mathlib.Core.Path.{_≡_, refl, sym, ap, _∙_}
 use mathlib.Core.Bool.{Bool, true, cond, _&&_}
 use mathlib.Core.Logic.{_⊎_, inl, inr}
 use mathlib.Core.List.{List}
-use Prim.Native.Nat.{ℕ, suc, _+_, _*_, _/_, _%_, _≤_, _<_, max}
+use Prim.Native.Nat.{ℕ, _+_, _/_, _%_, _≤_, _<_, max}
 use native.Mathlib.Numerals.{add-one}
 use native.Mathlib.Decide.{ℕ-discrete}
 use native.Mathlib.Omega.{arith}
@@ -14,7 +14,8 @@ use borrow.Author.Tests.{eqb-true, eq-eqb, ne-eqb, ltb-true, leb-true}
 use Rattle.lists.specs.All.{every-at}
 use Rattle.lists.specs.Folds.{fold, every}
 use Rattle.lists.specs.Folds as Folds
-use Rattle.lists.specs.FoldLaws.{max-choice, fold-before, fold-is}
+use Rattle.lists.specs.FoldLaws.{max-choice, fold-cong, fold-before, fold-is}
+use Rattle.lists.specs.Sums.{sum-cong}
 use Rattle.lists.specs.Tables.{over, length-over, getD-over}
 use Rattle.lists.specs.Tests.{and-left, and-right}
 use Rattle.rules.specs.Basics.{ABSENT, MAX-NUMBER, at}
@@ -34,9 +35,9 @@ keyRight k jump sum key a =
     cond (eqb (at jump a) ABSENT) (eqb (at key a) (at sum a))
     (ltb (at jump a) k && eqb (at key a) (at key (at jump a) + (65536 + at sum a)))
 
--- how often all objects ask, and the last of them
-abbrev pub digitsIn : List ℕ → ℕ → ℕ
-digitsIn key a = digits (rankIn (at key a))
+-- how often an object asks, by a table of ranks
+abbrev pub digitsAt : List ℕ → ℕ → ℕ
+digitsAt rank a = digits (at rank a)
 
 -- numbers whose sums pass no bound
 pub numbers-below : (t : List ℕ) (i : ℕ) → i < length t → every numberOk t ≡ true → at t i ≤ MAX-NUMBER
@@ -88,29 +89,35 @@ module _ (k : ℕ) (jump sum key ended : List ℕ) (few : k ≤ 512) (jumps : k 
           let b = sum-below (at jump a) below in
           inr (record { below = below; ranks = omega (arith, is, own-below a l, b); sums = omega (arith, is, own-below a l, b) })
 
-  pub found-keys : (requests rounds : ℕ) → requests ≡ Folds.sum k (digitsIn key) → rounds ≡ fold max k (digitsIn key) 0 → Found k jump sum ended requests rounds
-  unfolding digitsOf
-  found-keys requests rounds asks is =
-      record {
-        rank = λ (a : ℕ). rankIn (at key a);
-        total = λ (a : ℕ). sumIn (at key a);
-        ranked = ranked-keys;
-        all = all;
-        asked = asks;
-        most = λ a l. rw is (fold-before max-choice k (digitsIn key) 0 a l);
-        some = rw is (fold-is max-choice k (digitsIn key) 0);
-      }
+  module _ (ranks : List ℕ) (ranked : ranks ≡ over k (λ (a : ℕ). rankIn (at key a)) sum) where
+    rank-at : (a : ℕ) → a < k → digitsAt ranks a ≡ digits (rankIn (at key a))
+    rank-at a l = ap digits (rw ranked (getD-over k (λ (a : ℕ). rankIn (at key a)) sum a 0 l (omega (arith, l, sums))))
+
+    found-keys : (requests rounds : ℕ) → requests ≡ Folds.sum k (digitsAt ranks) → rounds ≡ fold max k (digitsAt ranks) 0 → Found k jump sum ended requests rounds
+    unfolding digitsOf
+    found-keys requests rounds asks is =
+        let each-asks : ℕ → ℕ = λ (a : ℕ). digits (rankIn (at key a)) in
+        let most : rounds ≡ fold max k each-asks 0 = is ∙ fold-cong max k (digitsAt ranks) each-asks 0 rank-at in
+        record {
+          rank = λ (a : ℕ). rankIn (at key a);
+          total = λ (a : ℕ). sumIn (at key a);
+          ranked = ranked-keys;
+          all = all;
+          asked = asks ∙ sum-cong k (digitsAt ranks) each-asks rank-at;
+          most = λ a l. rw most (fold-before max-choice k each-asks 0 a l);
+          some = rw most (fold-is max-choice k each-asks 0);
+        }
 
 -- all tests together
-pub found-by : (k : ℕ) (jump sum key ended : List ℕ) (requests rounds : ℕ) (one two three both right : Bool) → k ≤ 512 → k ≤ length jump → k ≤ length sum
-    → ended ≡ over k (λ (a : ℕ). sumIn (at key a)) sum → one ≡ every numberOk sum → two ≡ every numberOk ended
+pub found-by : (k : ℕ) (jump sum key ended ranks : List ℕ) (requests rounds : ℕ) (one two three both right : Bool) → k ≤ 512 → k ≤ length jump → k ≤ length sum
+    → ended ≡ over k (λ (a : ℕ). sumIn (at key a)) sum → ranks ≡ over k (λ (a : ℕ). rankIn (at key a)) sum → one ≡ every numberOk sum → two ≡ every numberOk ended
     → (three ≡ true → (a : ℕ) → a < k → keyRight k jump sum key a ≡ true)
-    → requests ≡ Folds.sum k (digitsIn key) → rounds ≡ fold max k (digitsIn key) 0
+    → requests ≡ Folds.sum k (digitsAt ranks) → rounds ≡ fold max k (digitsAt ranks) 0
     → both ≡ (one && two) → right ≡ (both && three) → right ≡ true → Found k jump sum ended requests rounds
-found-by k jump sum key ended requests rounds one two three both right few jumps sums all own whole each asks is b r e =
+found-by k jump sum key ended ranks requests rounds one two three both right few jumps sums all ranked own whole each asks is b r e =
     let t : (both && three) ≡ true = sym r ∙ e in
     let u : (one && two) ≡ true = sym b ∙ and-left both three t in
-    found-keys k jump sum key ended few jumps sums all (sym own ∙ and-left one two u) (sym whole ∙ and-right one two u) (each (and-right both three t)) requests rounds asks is
+    found-keys k jump sum key ended few jumps sums all (sym own ∙ and-left one two u) (sym whole ∙ and-right one two u) (each (and-right both three t)) ranks ranked requests rounds asks is
 
 -- ---- loops over objects
 

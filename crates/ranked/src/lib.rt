@@ -4,10 +4,8 @@ use state::Clock;
 use table::ABSENT;
 use values::bounds;
 ghost use mathlib.Core.Path.{_≡_};
-ghost use mathlib.Core.Bool.{true, _&&_};
-ghost use Prim.Native.Nat.{ℕ, _+_, _*_, _≤_, min};
-ghost use lib.Dec.{leb};
-ghost use Rattle.lists.specs.Tables.{over};
+ghost use mathlib.Core.Bool.{true};
+ghost use Prim.Native.Nat.{_+_, _≤_, min};
 ghost use Rattle.rules.specs.Ceilings.{rankingCeiling};
 ghost use Rattle.ranked.specs.Leapt.{tried, cleared, passed, Found, Leapt};
 
@@ -133,7 +131,8 @@ fn found(arcs: usize, jump: [u16; 512], sum: [u16; 512]) -> Summed
 {
     let key = walk::walk(arcs, &jump, &sum);
     let total = tests::sums(arcs, &key, sum);
-    let asked = tests::asked(arcs, &key);
+    let rank = tests::ranks(arcs, &key, sum);
+    let asked = tests::asked(arcs, &rank);
     let bounded = values::both(bounds::numbers_ok(&sum), bounds::numbers_ok(&total));
     let right = values::both(bounded, tests::keys_right(arcs, &jump, &sum, &key));
     Summed {

@@ -8,7 +8,7 @@ ghost use lib.ListN.{getD};
 ghost use Rattle.lists.specs.Folds as Folds;
 ghost use Rattle.lists.specs.Tables.{over};
 ghost use Rattle.ranked.specs.Ranked.{digits};
-ghost use Rattle.ranked.specs.Keys.{rankIn, sumIn, digitsIn, keyRight};
+ghost use Rattle.ranked.specs.Keys.{rankIn, sumIn, digitsAt, keyRight};
 
 // How often all objects ask, and in how many rounds.
 pub(crate) struct Counted {
@@ -119,18 +119,32 @@ pub(crate) fn sums(arcs: usize, key: &[u32; 512], sum: [u16; 512]) -> [u16; 512]
     new
 }
 
-// An object asks once for each digit of its rank.
-pub(crate) fn asked(arcs: usize, key: &[u32; 512]) -> Counted
+// Each object with its rank.
+pub(crate) fn ranks(arcs: usize, key: &[u32; 512], old: [u16; 512]) -> [u16; 512]
     requires { ⌜ arcs ≤ 512 ⌝ }
-    ensures requests { λ r. ⌜ r .requests ≡ Folds.sum arcs (digitsIn (now (key .entry))) ⌝ }
-    ensures rounds { λ r. ⌜ r .rounds ≡ Folds.fold max arcs (digitsIn (now (key .entry))) 0 ⌝ }
+    ensures { λ r. ⌜ r ≡ over arcs (λ (a : ℕ). rankIn (getD (now (key .entry)) a 0)) old ⌝ }
+{
+    let mut new = old;
+    let mut a = 0;
+    while a < arcs {
+        new[a] = rank_in(key[a]);
+        a += 1;
+    }
+    new
+}
+
+// An object asks once for each digit of its rank. Ranks in words of their own are taken several at a time.
+pub(crate) fn asked(arcs: usize, rank: &[u16; 512]) -> Counted
+    requires { ⌜ arcs ≤ 512 ⌝ }
+    ensures requests { λ r. ⌜ r .requests ≡ Folds.sum arcs (digitsAt (now (rank .entry))) ⌝ }
+    ensures rounds { λ r. ⌜ r .rounds ≡ Folds.fold max arcs (digitsAt (now (rank .entry))) 0 ⌝ }
     ensures few { λ r. ⌜ r .rounds ≤ 16 ⌝ }
 {
     let mut requests: u16 = 0;
     let mut rounds: u16 = 0;
     let mut a = 0;
     while a < arcs {
-        let more = digits(rank_in(key[a]));
+        let more = digits(rank[a]);
         requests += more;
         rounds = values::greatest_of(rounds, more);
         a += 1;

@@ -3,11 +3,17 @@
 use table::ABSENT;
 ghost use Prim.Native.Nat.{_≤_, _<_};
 
-// Which object follows each.
-fn followers(arcs: usize, jump: &[u16; 512]) -> [u16; 512]
+// Which object follows each; those without a predecessor are the firsts, and so many.
+fn followers(
+    arcs: usize,
+    jump: &[u16; 512],
+    next: &mut [u16; 512],
+    firsts: &mut [u16; 512],
+) -> usize
     requires { ⌜ arcs ≤ 512 ⌝ }
+    ensures { λ r. ⌜ r ≤ 512 ⌝ }
 {
-    let mut next = [ABSENT; 512];
+    let mut count: usize = 0;
     let mut a: usize = 0;
     while a < arcs {
         let before = jump[a];
@@ -16,9 +22,11 @@ fn followers(arcs: usize, jump: &[u16; 512]) -> [u16; 512]
             a += 1;
             continue;
         }
+        firsts[count] = a as u16;
+        count += 1;
         a += 1;
     }
-    next
+    count
 }
 
 // The key of the first object of a list.
@@ -32,10 +40,11 @@ fn following(key: u32, own: u16) -> u32 {
 }
 
 // The list that begins with object `begin`.
-fn follow<'a>(begin: usize, sum: &'a [u16; 512], next: &'a [u16; 512], key: &mut [u32; 512])
-    requires { ⌜ begin < 512 ⌝ }
-{
-    let mut a = begin;
+fn follow<'a>(begin: u16, sum: &'a [u16; 512], next: &'a [u16; 512], key: &mut [u32; 512]) {
+    if 512 <= begin {
+        return;
+    }
+    let mut a = begin as usize;
     let mut here = first(sum[a]);
     let mut left: u16 = 512;
     while 0 < left {
@@ -54,16 +63,14 @@ fn follow<'a>(begin: usize, sum: &'a [u16; 512], next: &'a [u16; 512], key: &mut
 pub(crate) fn walk<'a>(arcs: usize, jump: &'a [u16; 512], sum: &'a [u16; 512]) -> [u32; 512]
     requires { ⌜ arcs ≤ 512 ⌝ }
 {
-    let next = followers(arcs, jump);
+    let mut next = [ABSENT; 512];
+    let mut firsts = [0; 512];
     let mut key = [0; 512];
-    let mut a = 0;
-    while a < arcs {
-        if jump[a] == ABSENT {
-            follow(a, sum, &next, &mut key);
-            a += 1;
-            continue;
-        }
-        a += 1;
+    let count = followers(arcs, jump, &mut next, &mut firsts);
+    let mut i = 0;
+    while i < count {
+        follow(firsts[i], sum, &next, &mut key);
+        i += 1;
     }
     key
 }

@@ -11,6 +11,9 @@ walk-requires c κs = search needs
 sums-requires : tie.Need-sums-requires
 sums-requires c κs = search needs
 
+ranks-requires : tie.Need-ranks-requires
+ranks-requires c κs = search needs
+
 asked-requires : tie.Need-asked-requires
 asked-requires c κs = search needs
 
@@ -42,11 +45,12 @@ returns c =
     let whole = b .before in
     let own = whole .before .before in
     let q = own .before .before in
-    let s = q .before .before in
+    let r = q .before .before in
+    let s = r .before .before in
     let start = s .before .before .before .before .before in
     let a = start .args in (
-      found-by (a .arcs) (a .t2) (a .t3) _ _ _ _ _ _ _ _ _ (start .pre) (omega (arith, start .pre, start .good .1 .0)) (omega (arith, start .pre, start .good .1 .1 .0))
-          (s .sums .ensures) (own .numbers-ok .ensures) (whole .numbers-ok2 .ensures) (k .keys-right .ensures) (q .asked .ensures .0) (q .asked .ensures .1 .0)
+      found-by (a .arcs) (a .t2) (a .t3) _ _ _ _ _ _ _ _ _ _ (start .pre) (omega (arith, start .pre, start .good .1 .0)) (omega (arith, start .pre, start .good .1 .1 .0))
+          (s .sums .ensures) (r .ranks .ensures) (own .numbers-ok .ensures) (whole .numbers-ok2 .ensures) (k .keys-right .ensures) (q .asked .ensures .0) (q .asked .ensures .1 .0)
           (b .both .ensures) (c .both2 .ensures),
       q .asked .ensures .1 .1,
     )
@@ -57,6 +61,7 @@ found-spec =
     (tie.spec
     walk-requires
     sums-requires
+    ranks-requires
     asked-requires
     slice-aggregate-numbers-ok
     numbers-ok-requires

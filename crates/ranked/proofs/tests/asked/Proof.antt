@@ -4,34 +4,33 @@ use Prim.Native.Nat.{ℕ, _+_, _*_, _≤_, _-_, max}
 use native.Mathlib.Nat.{le-antisymm}
 use native.Mathlib.Omega.{arith}
 use Rattle.lists.specs.Folds.{fold}
-use Rattle.ranked.specs.Keys.{digitsIn, fold-more}
+use Rattle.ranked.specs.Keys.{digitsAt, fold-more}
 use borrow.Author.Needs.{needs}
 use Rattle.ranked.proofs.tests.asked.Statement.{statement}
 use Rattle.ranked.proofs.tests.asked.Tie as tie
 
 abbrev Inv-loop : tie.InvT-loop
-Inv-loop arcs key requests₀ rounds₀ a₀ requests rounds a = (a ≤ arcs) × (requests ≤ 16 * a) × (rounds ≤ 16) × (requests ≡ fold _+_ a (digitsIn key) 0) × (rounds ≡ fold max a (digitsIn key) 0)
+Inv-loop arcs rank requests₀ rounds₀ a₀ requests rounds a = (a ≤ arcs) × (requests ≤ 16 * a) × (rounds ≤ 16) × (requests ≡ fold _+_ a (digitsAt rank) 0) × (rounds ≡ fold max a (digitsAt rank) 0)
 
 abbrev μ-loop : tie.MeasureT-loop
-μ-loop arcs key requests₀ rounds₀ a₀ requests rounds a = arcs - a
+μ-loop arcs rank requests₀ rounds₀ a₀ requests rounds a = arcs - a
 
 loop-holds : tie.Need-loop-holds Inv-loop μ-loop
 loop-holds c = search needs
 
-mul-rank-in : tie.Need-mul-rank-in Inv-loop μ-loop
-mul-rank-in c = search needs
+mul-digits : tie.Need-mul-digits Inv-loop μ-loop
+mul-digits c = search needs
 
-element-copy-out-rank-in : tie.Need-element-copy-out-rank-in Inv-loop μ-loop
-element-copy-out-rank-in c = search needs
-
-rank-in-requires : tie.Need-rank-in-requires Inv-loop μ-loop
-rank-in-requires c κs = search needs
+element-copy-out-digits : tie.Need-element-copy-out-digits Inv-loop μ-loop
+element-copy-out-digits c = search needs
 
 digits-requires : tie.Need-digits-requires Inv-loop μ-loop
 digits-requires c κs = search needs
 
 add-requests : tie.Need-add-requests Inv-loop μ-loop
-add-requests c = omega (arith, c .digits .ensures .1, c .before .before .before .before .loop .inv .0, c .before .before .before .before .loop .inv .1, c .before .before .before .loop-test .taken, c .before .before .before .before .before .pre)
+add-requests c =
+    let s = c .before .before .before in
+    omega (arith, c .digits .ensures .1, s .loop .inv .0, s .loop .inv .1, c .before .before .loop-test .taken, s .before .pre)
 
 greatest-of-requires : tie.Need-greatest-of-requires Inv-loop μ-loop
 greatest-of-requires c κs = search needs
@@ -45,16 +44,15 @@ loop-less c = search needs
 loop-again : tie.Need-loop-again Inv-loop μ-loop
 loop-again c =
     let d = c .before in
-    let r = d .before in
-    let s = r .before .before .before in
-    let key = s .before .args .key .now in
-    let more : d .digits .result ≡ digitsIn key (s .loop .a) = rw (r .rank-in .ensures) at (d .digits .ensures .0) in
+    let s = d .before .before .before in
+    let rank = s .before .args .rank .now in
+    let more = d .digits .ensures .0 in
     let most = rw more at (c .greatest-of .ensures) in (
       search needs,
       omega (arith, d .digits .ensures .1, s .loop .inv .1),
       omega (arith, c .greatest-of .ensures, d .digits .ensures .1, s .loop .inv .2),
-      fold-more _+_ (digitsIn key) (s .loop .a) (s .loop .requests) _ (s .loop .inv .3) (ap (λ (x : ℕ). s .loop .requests + x) more),
-      fold-more max (digitsIn key) (s .loop .a) (s .loop .rounds) (c .greatest-of .result) (s .loop .inv .4) most,
+      fold-more _+_ (digitsAt rank) (s .loop .a) (s .loop .requests) _ (s .loop .inv .3) (ap (λ (x : ℕ). s .loop .requests + x) more),
+      fold-more max (digitsAt rank) (s .loop .a) (s .loop .rounds) (c .greatest-of .result) (s .loop .inv .4) most,
     )
 
 returns : tie.Need-returns Inv-loop μ-loop
@@ -70,9 +68,8 @@ asked-spec =
     Inv-loop
     μ-loop
     loop-holds
-    mul-rank-in
-    element-copy-out-rank-in
-    rank-in-requires
+    mul-digits
+    element-copy-out-digits
     digits-requires
     add-requests
     greatest-of-requires

@@ -5,7 +5,6 @@ use native.Mathlib.Omega.{arith}
 use lib.Count.{leading-le}
 use Rattle.numbers.specs.LgLaws.{lg-by-zeros}
 use Rattle.ranked.specs.Ranked.{digits, digits-none}
-use borrow.Author.Needs.{needs}
 use Rattle.ranked.proofs.tests.digits.Statement.{statement}
 use Rattle.ranked.proofs.tests.digits.Tie as tie
 

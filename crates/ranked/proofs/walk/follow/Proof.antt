@@ -10,6 +10,9 @@ Inv-loop begin sum next key₀ a₀ here₀ left₀ key a here left = a < 512
 abbrev μ-loop : tie.MeasureT-loop
 μ-loop begin sum next key₀ a₀ here₀ left₀ key a here left = left
 
+returns : tie.Need-returns Inv-loop μ-loop
+returns c = search needs
+
 mul-first : tie.Need-mul-first Inv-loop μ-loop
 mul-first c = search needs
 
@@ -34,8 +37,8 @@ mul-after c = search needs
 element-copy-out-after : tie.Need-element-copy-out-after Inv-loop μ-loop
 element-copy-out-after c = search needs
 
-returns : tie.Need-returns Inv-loop μ-loop
-returns c = search needs
+returns-2 : tie.Need-returns-2 Inv-loop μ-loop
+returns-2 c = search needs
 
 cast-a : tie.Need-cast-a Inv-loop μ-loop
 cast-a c = search needs
@@ -58,8 +61,8 @@ loop-less c = search needs
 loop-again : tie.Need-loop-again Inv-loop μ-loop
 loop-again c = search needs
 
-returns-2 : tie.Need-returns-2 Inv-loop μ-loop
-returns-2 c = search needs
+returns-3 : tie.Need-returns-3 Inv-loop μ-loop
+returns-3 c = search needs
 
 pub follow-spec : {M : Type 1} → statement M
 follow-spec =
@@ -67,6 +70,7 @@ follow-spec =
     (tie.spec
     Inv-loop
     μ-loop
+    returns
     mul-first
     element-copy-out-first
     first-requires
@@ -75,7 +79,7 @@ follow-spec =
     element-write-key
     mul-after
     element-copy-out-after
-    returns
+    returns-2
     cast-a
     mul-following
     element-copy-out-following
@@ -83,4 +87,4 @@ follow-spec =
     sub-left
     loop-less
     loop-again
-    returns-2)
+    returns-3)

@@ -1,16 +1,14 @@
 -- Object by object.
-use mathlib.Core.Path.{_≡_}
 use Prim.Native.Nat.{_≤_, _-_}
-use lib.ListN.{length}
 use borrow.Author.Needs.{needs}
 use Rattle.ranked.proofs.walk.followers.Statement.{statement}
 use Rattle.ranked.proofs.walk.followers.Tie as tie
 
 abbrev Inv-loop : tie.InvT-loop
-Inv-loop arcs jump next₀ a₀ next a = (a ≤ arcs) × (length next ≡ 512)
+Inv-loop arcs jump next₀ firsts₀ count₀ a₀ next firsts count a = (a ≤ arcs) × (count ≤ a)
 
 abbrev μ-loop : tie.MeasureT-loop
-μ-loop arcs jump next₀ a₀ next a = arcs - a
+μ-loop arcs jump next₀ firsts₀ count₀ a₀ next firsts count a = arcs - a
 
 loop-holds : tie.Need-loop-holds Inv-loop μ-loop
 loop-holds c = search needs
@@ -30,8 +28,8 @@ cast-next-2 c = search needs
 mul-next : tie.Need-mul-next Inv-loop μ-loop
 mul-next c = search needs
 
-array-write-next : tie.Need-array-write-next Inv-loop μ-loop
-array-write-next c = search needs
+element-write-next : tie.Need-element-write-next Inv-loop μ-loop
+element-write-next c = search needs
 
 add-a : tie.Need-add-a Inv-loop μ-loop
 add-a c = search needs
@@ -41,6 +39,18 @@ loop-less c = search needs
 
 loop-again : tie.Need-loop-again Inv-loop μ-loop
 loop-again c = search needs
+
+cast-firsts : tie.Need-cast-firsts Inv-loop μ-loop
+cast-firsts c = search needs
+
+mul-firsts : tie.Need-mul-firsts Inv-loop μ-loop
+mul-firsts c = search needs
+
+element-write-firsts : tie.Need-element-write-firsts Inv-loop μ-loop
+element-write-firsts c = search needs
+
+add-count : tie.Need-add-count Inv-loop μ-loop
+add-count c = search needs
 
 add-a-2 : tie.Need-add-a-2 Inv-loop μ-loop
 add-a-2 c = search needs
@@ -66,10 +76,14 @@ followers-spec =
     cast-next
     cast-next-2
     mul-next
-    array-write-next
+    element-write-next
     add-a
     loop-less
     loop-again
+    cast-firsts
+    mul-firsts
+    element-write-firsts
+    add-count
     add-a-2
     loop-less-2
     loop-again-2
