@@ -35,8 +35,7 @@ fn ends(words: &[u16]) -> [u16; 2048]
     ensures { λ r. ⌜ r ≡ endsOf (take 2048 (now (words .entry))) ⌝ }
 {
     let mut ends = blank();
-    let count = held(2048, words.len());
-    copy_in(&words[..count], &mut ends);
+    first_words(words, &mut ends);
     ends
 }
 
@@ -63,16 +62,12 @@ fn blank() -> [u16; 2048]
     [65535; 2048]
 }
 
-// The words from the first place on; the rest stays.
-fn copy_in(words: &[u16], ends: &mut [u16])
-    requires { ⌜ length (now words) ≤ length (now ends) ⌝ }
-    ensures { λ _. ⌜ now (ends .exit) ≡ now (words .entry) ++ drop (length (now (words .entry))) (now (ends .entry)) ⌝ }
+// As many words as there is room for, from the first place on; the rest stays.
+fn first_words(words: &[u16], to: &mut [u16])
+    ensures { λ _. ⌜ now (to .exit) ≡ take (length (now (to .entry))) (now (words .entry)) ++ drop (length (take (length (now (to .entry))) (now (words .entry)))) (now (to .entry)) ⌝ }
 {
-    let mut i = 0;
-    while i < words.len() {
-        ends[i] = words[i];
-        i += 1;
-    }
+    let count = held(to.len(), words.len());
+    copies::lay(&words[..count], 0, to);
 }
 
 fn silent() -> [i16; 1024]
@@ -140,8 +135,7 @@ fn drawn(parents: &[u16]) -> [u16; 256]
     ensures { λ r. ⌜ r ≡ parentsOf (take 256 (now (parents .entry))) ⌝ }
 {
     let mut drawn = orphans();
-    let count = held(256, parents.len());
-    copy_in(&parents[..count], &mut drawn);
+    first_words(parents, &mut drawn);
     drawn
 }
 

@@ -79,6 +79,13 @@ pub laid-in : (at : ℕ) (xs ws : List ℕ) {new : List ℕ} → new ≡ laidIn 
 unfolding laidIn
 laid-in at xs ws e h = e ∙ rw (le-leb (at + length xs) (length ws) h) refl
 
+pub laid-front : (xs ws : List ℕ) {new : List ℕ} → new ≡ laidIn 0 xs ws → length xs ≤ length ws → new ≡ xs ++ drop (length xs) ws
+unfolding laid
+laid-front xs ws e h = laid-in 0 xs ws e (omega (arith, h)) ∙ whole
+  where
+    whole : laid 0 xs ws ≡ xs ++ drop (length xs) ws
+    whole = ap (λ (k : ℕ). xs ++ drop k ws) (zero-add (length xs))
+
 -- ---- a part out of words
 
 pub copied-whole : (at : ℕ) (ws old : List ℕ) → leb (at + length old) (length ws) ≡ true → laid 0 (part at (length old) ws) old ≡ copied at ws old

@@ -1,8 +1,9 @@
 // Tables copied out of words and laid over them, whole or not at all.
 ghost use mathlib.Core.Path.{_≡_};
-ghost use Prim.Native.Nat.{_+_, _≤_};
+ghost use Prim.Native.Nat.{ℕ, _+_, _≤_};
 ghost use lib.Dec.{leb};
-ghost use lib.ListN.{length, replicate};
+ghost use lib.ListN.{length, getD, replicate};
+ghost use Rattle.lists.specs.Tables.{over};
 ghost use Rattle.levels.specs.Level.{toWords, fromWords};
 ghost use Rattle.copies.specs.Parts.{part, laid, laidIn, copied, PartOr, copiedLevels, LevelsOr};
 
@@ -66,6 +67,18 @@ pub fn lay_levels(levels: &[i16], at: usize, words: &mut [u16])
         let level = levels[i];
         words[at + i] = levels::word_of(level);
         i += 1;
+    }
+}
+
+// The first so many words of a table at the front of `words`, 0 past its end.
+pub fn lay_first(count: u16, table: &[u16], words: &mut [u16])
+    ensures { λ _. ⌜ now (words .exit) ≡ over count (λ (i : ℕ). getD (now (table .entry)) i 0) (now (words .entry)) ⌝ }
+{
+    let mut v = 0;
+    while v < count {
+        let i = v as usize;
+        slices::put(words, i, slices::word(table, i));
+        v += 1;
     }
 }
 

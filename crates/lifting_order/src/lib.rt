@@ -52,18 +52,6 @@ fn given_refusal<'a>(units: u16, links: u16, ends: &'a [u16], pairs: &'a [u16], 
     0
 }
 
-// The first so many words of `order` at the front of `out`.
-fn lay<'a>(count: u16, order: &'a [u16], out: &mut [u16])
-    ensures { λ _. ⌜ now (out .exit) ≡ over count (λ (i : ℕ). getD (now (order .entry)) i 0) (now (out .entry)) ⌝ }
-{
-    let mut v = 0;
-    while v < count {
-        let i = v as usize;
-        slices::put(out, i, slices::word(order, i));
-        v += 1;
-    }
-}
-
 // The order at the front of `out`: 10 where the table is no site's, 14, 19, 20. On a refusal no word changes; words past the order stay.
 pub fn write<'a>(units: u16, links: u16, ends: &'a [u16], pairs: &'a [u16], out: &mut [u16]) -> u8
     ensures number { λ r. ⌜ r ≡ orderRefusal units links (now (ends .entry)) (now (pairs .entry)) (length (now (out .entry))) ⌝ }
@@ -78,6 +66,6 @@ pub fn write<'a>(units: u16, links: u16, ends: &'a [u16], pairs: &'a [u16], out:
     if left != 0 {
         return 20;
     }
-    lay(units, &order, out);
+    copies::lay_first(units, &order, out);
     0
 }

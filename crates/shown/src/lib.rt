@@ -72,18 +72,6 @@ fn blank() -> [u16; 256]
     [0; 256]
 }
 
-// The first so many words of `ring` at the front of `out`.
-fn lay<'a>(count: u16, ring: &'a [u16], out: &mut [u16])
-    ensures { λ _. ⌜ now (out .exit) ≡ over count (λ (i : ℕ). getD (now (ring .entry)) i 0) (now (out .entry)) ⌝ }
-{
-    let mut v = 0;
-    while v < count {
-        let i = v as usize;
-        slices::put(out, i, slices::word(ring, i));
-        v += 1;
-    }
-}
-
 // The units of a ring of a site that holds both links at the front of `out`, the two ends of the first link before the others, and how many they are;
 // 0 where there is none. Words past so many stay, whatever the table is.
 pub fn lay_ring<'a>(
@@ -100,7 +88,7 @@ pub fn lay_ring<'a>(
     let marks = unmarked();
     let mut found = blank();
     let count = showing::ring(&marks, units, links, ends, first, second, &mut found);
-    lay(count, &found, out);
+    copies::lay_first(count, &found, out);
     count
 }
 

@@ -1,45 +1,21 @@
--- The words that the table holds, copied.
-use mathlib.Core.Path.{_≡_, refl}
-use native.Mathlib.Omega.{arith}
-use lib.ListN.{length, take, length-take}
-use Rattle.machine.specs.LoadLaws.{held-words, length-absents}
+-- The first of the words, over absent ones.
+use mathlib.Core.Path.{refl}
+use Rattle.machine.specs.LoadLaws.{length-absents}
 use borrow.Author.Needs.{needs}
 use Rattle.begin.proofs.ends.Statement.{statement}
 use Rattle.begin.proofs.ends.Tie as tie
 
 blank-requires : tie.Need-blank-requires
-blank-requires c κs = search needs
+blank-requires c κs = tt
 
-held-requires : tie.Need-held-requires
-held-requires c κs = search needs
+slice-aggregate-first-words : tie.Need-slice-aggregate-first-words
+slice-aggregate-first-words c = search needs
 
-slice-aggregate-copy-in : tie.Need-slice-aggregate-copy-in
-slice-aggregate-copy-in c =
-    let w = c .before .before .before .before .args .words .now in
-    rw (length-take (c .before .held .result) w) (omega (arith, c .before .held .ensures))
-
-slice-aggregate-copy-in-2 : tie.Need-slice-aggregate-copy-in-2
-slice-aggregate-copy-in-2 c = search needs
-
-copy-in-requires : tie.Need-copy-in-requires
-copy-in-requires c κs =
-    let w = c .before .before .before .before .before .args .words .now in
-    rw (length-take (c .before .before .held .result) w, c .before .before .before .blank .ensures, length-absents 2048) (omega (arith, c .before .before .held .ensures))
+first-words-requires : tie.Need-first-words-requires
+first-words-requires c κs = tt
 
 returns : tie.Need-returns
-returns c =
-    let h = c .before .before .before .before in
-    let w = h .before .before .before .args .words .now in
-    let same : take (h .held .result) w ≡ take 2048 w = held-words 2048 (h .held .result) w (h .held .ensures) in
-    rw (c .before .copy-in .ensures, h .before .blank .ensures, same) refl
+returns c = rw (c .before .first-words .ensures, c .before .before .before .blank .ensures, length-absents 2048) refl
 
 pub ends-spec : {M : Type 1} → statement M
-ends-spec =
-    tie.close
-    (tie.spec
-    blank-requires
-    held-requires
-    slice-aggregate-copy-in
-    slice-aggregate-copy-in-2
-    copy-in-requires
-    returns)
+ends-spec = tie.close (tie.spec blank-requires slice-aggregate-first-words first-words-requires returns)

@@ -46,11 +46,11 @@ returns-2 c =
     let e = sym (c .before .before .before .before .before .before .before .given-refusal .ensures) ∙ c .before .before .before .before .before .before .if1 .left in
     told-none (a .units) (a .links) (a .ends .now) (a .pairs .now) (a .out .now) _ (c .before .before .grown .result) e (c .before .before .grown .ensures) (c .if2 .taken)
 
-slice-aggregate-lay : tie.Need-slice-aggregate-lay
-slice-aggregate-lay c = search needs
+slice-aggregate-lay-first : tie.Need-slice-aggregate-lay-first
+slice-aggregate-lay-first c = search needs
 
-lay-requires : tie.Need-lay-requires
-lay-requires c κs = search needs
+lay-first-requires : tie.Need-lay-first-requires
+lay-first-requires c κs = search needs
 
 same-length : tie.Need-same-length
 same-length c = search needs
@@ -59,7 +59,7 @@ returns-3 : tie.Need-returns-3
 returns-3 c =
     let a = c .before .before .before .before .before .before .before .before .before .before .before .before .before .before .before .before .args in
     let e = sym (c .before .before .before .before .before .before .before .before .before .before .before .before .given-refusal .ensures) ∙ c .before .before .before .before .before .before .before .before .before .before .before .if1 .left in
-    told-order (a .units) (a .links) (a .ends .now) (a .pairs .now) (a .out .now) _ _ (c .before .before .before .before .before .before .before .grown .result) e (c .before .before .before .before .before .before .before .grown .ensures) (c .before .before .before .before .before .if2 .left) (c .before .before .lay .ensures)
+    told-order (a .units) (a .links) (a .ends .now) (a .pairs .now) (a .out .now) _ _ (c .before .before .before .before .before .before .before .grown .result) e (c .before .before .before .before .before .before .before .grown .ensures) (c .before .before .before .before .before .if2 .left) (c .before .before .lay-first .ensures)
 
 pub write-spec : {M : Type 1} → statement M
 write-spec =
@@ -73,7 +73,7 @@ write-spec =
     slice-aggregate-grown-2
     grown-requires
     returns-2
-    slice-aggregate-lay
-    lay-requires
+    slice-aggregate-lay-first
+    lay-first-requires
     same-length
     returns-3)

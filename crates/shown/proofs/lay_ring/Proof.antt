@@ -19,11 +19,11 @@ slice-aggregate-ring-2 c = search needs
 ring-requires : tie.Need-ring-requires
 ring-requires c κs = search needs
 
-slice-aggregate-lay : tie.Need-slice-aggregate-lay
-slice-aggregate-lay c = search needs
+slice-aggregate-lay-first : tie.Need-slice-aggregate-lay-first
+slice-aggregate-lay-first c = search needs
 
-lay-requires : tie.Need-lay-requires
-lay-requires c κs = search needs
+lay-first-requires : tie.Need-lay-first-requires
+lay-first-requires c κs = search needs
 
 same-length : tie.Need-same-length
 same-length c = search needs
@@ -35,7 +35,7 @@ returns c =
     let b = k .before .before .before in
     let u = b .before in
     let a = u .before .before .before .args in
-    (ring-laid (a .units) (a .links) (a .ends .now) (a .first) (a .second) (a .out .now) (u .unmarked .result) (b .blank .result) (k .ring .last .1 .1 .1 .1 .1 .1 .0) (k .ring .result) (u .unmarked .ensures) (b .blank .ensures) (k .ring .ensures) _ (l .lay .ensures), over-past (k .ring .result) (k .ring .last .1 .1 .1 .1 .1 .1 .0) (a .out .now) _ (l .lay .ensures))
+    (ring-laid (a .units) (a .links) (a .ends .now) (a .first) (a .second) (a .out .now) (u .unmarked .result) (b .blank .result) (k .ring .last .1 .1 .1 .1 .1 .1 .0) (k .ring .result) (u .unmarked .ensures) (b .blank .ensures) (k .ring .ensures) _ (l .lay-first .ensures), over-past (k .ring .result) (k .ring .last .1 .1 .1 .1 .1 .1 .0) (a .out .now) _ (l .lay-first .ensures))
 
 pub lay-ring-spec : {M : Type 1} → statement M
 lay-ring-spec =
@@ -46,7 +46,7 @@ lay-ring-spec =
     slice-aggregate-ring
     slice-aggregate-ring-2
     ring-requires
-    slice-aggregate-lay
-    lay-requires
+    slice-aggregate-lay-first
+    lay-first-requires
     same-length
     returns)

@@ -5,14 +5,14 @@ use lib.ListN.{length, getD}
 use Rattle.lists.specs.Rounds.{over-more, over-all}
 use Rattle.lists.specs.Tables.{over}
 use borrow.Author.Needs.{needs}
-use Rattle.lifting_order.proofs.lay.Statement.{statement}
-use Rattle.lifting_order.proofs.lay.Tie as tie
+use Rattle.copies.proofs.lay_first.Statement.{statement}
+use Rattle.copies.proofs.lay_first.Tie as tie
 
 abbrev Inv-loop : tie.InvT-loop
-Inv-loop count order out₀ v₀ out v = (v ≤ count) × (length out ≡ length out₀) × (out ≡ over v (λ (i : ℕ). getD order i 0) out₀)
+Inv-loop count table words₀ v₀ words v = (v ≤ count) × (length words ≡ length words₀) × (words ≡ over v (λ (i : ℕ). getD table i 0) words₀)
 
 abbrev μ-loop : tie.MeasureT-loop
-μ-loop count order out₀ v₀ out v = count - v
+μ-loop count table words₀ v₀ words v = count - v
 
 loop-holds : tie.Need-loop-holds Inv-loop μ-loop
 loop-holds c = (search needs, refl, refl)
@@ -33,7 +33,7 @@ loop-less : tie.Need-loop-less Inv-loop μ-loop
 loop-less c = search needs
 
 loop-again : tie.Need-loop-again Inv-loop μ-loop
-loop-again c = (search needs, search needs, over-more _ (λ (i : ℕ). getD (c .before .before .before .before .before .before .before .before .before .args .order .now) i 0) _ _ _ _ (c .before .before .before .before .before .before .loop .inv .2) (c .before .before .before .word .ensures) (c .before .before .put .ensures))
+loop-again c = (search needs, search needs, over-more _ (λ (i : ℕ). getD (c .before .before .before .before .before .before .before .before .before .args .table .now) i 0) _ _ _ _ (c .before .before .before .before .before .before .loop .inv .2) (c .before .before .before .word .ensures) (c .before .before .put .ensures))
 
 same-length : tie.Need-same-length Inv-loop μ-loop
 same-length c = search needs
@@ -41,8 +41,8 @@ same-length c = search needs
 returns : tie.Need-returns Inv-loop μ-loop
 returns c = c .before .loop .inv .2 ∙ over-all _ _ _ _ (c .before .loop .inv .0) (c .loop-test .left)
 
-pub lay-spec : {M : Type 1} → statement M
-lay-spec =
+pub lay-first-spec : {M : Type 1} → statement M
+lay-first-spec =
     tie.close
     (tie.spec
     Inv-loop
