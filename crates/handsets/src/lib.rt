@@ -4,7 +4,7 @@ ghost use mathlib.Core.Bool.{true};
 ghost use lib.ListN.{length};
 ghost use Rattle.machine.specs.WellFormed.{wellFormed};
 ghost use Rattle.survey.specs.View.{of, answerOf};
-ghost use Rattle.status_lines.specs.Lines.{statusOf, foremanAnswer, foremanShown, serviceAnswer, serviceShown};
+ghost use Rattle.status_lines.specs.Lines.{statusOf, lineNeeded, lineIn, lineAnswer, lineShown, foremanAnswer, foremanShown, serviceAnswer, serviceShown};
 use status_lines::Status;
 use survey::Answer;
 use survey::Reply;
@@ -24,50 +24,42 @@ fn status_of(s: Survey) -> Status
     }
 }
 
-// The foreman's line at the front of `out`: 10, 14. Bytes past it stay.
+// Either line at the front of `out`: 10, 14. Bytes past it stay.
+fn shown(service: bool, survey: Survey, out: &mut [u8]) -> Answer
+    ensures reply { λ r. ⌜ answerOf r ≡ lineAnswer (lineNeeded service) (length (now (out .entry))) (of survey) ⌝ }
+    ensures lent { λ _. ⌜ now (out .exit) ≡ lineShown (lineNeeded service) (lineIn service (of survey)) (of survey) (now (out .entry)) ⌝ }
+{
+    if !survey.well_formed() {
+        return Answer {
+            survey,
+            reply: Reply::Refused(10),
+        };
+    }
+    let refused = status_lines::write(service, status_of(survey), out);
+    if refused != 0 {
+        return Answer {
+            survey,
+            reply: Reply::Refused(refused),
+        };
+    }
+    Answer {
+        survey,
+        reply: Reply::Written(status_lines::length(service)),
+    }
+}
+
+// The foreman's line at the front of `out`: 10, 14.
 pub fn foreman_line(survey: Survey, out: &mut [u8]) -> Answer
     ensures reply { λ r. ⌜ answerOf r ≡ foremanAnswer (length (now (out .entry))) (of survey) ⌝ }
     ensures lent { λ _. ⌜ now (out .exit) ≡ foremanShown (of survey) (now (out .entry)) ⌝ }
 {
-    if !survey.well_formed() {
-        return Answer {
-            survey,
-            reply: Reply::Refused(10),
-        };
-    }
-    let refused = status_lines::foreman::write(status_of(survey), out);
-    if refused != 0 {
-        return Answer {
-            survey,
-            reply: Reply::Refused(refused),
-        };
-    }
-    Answer {
-        survey,
-        reply: Reply::Written(11),
-    }
+    shown(false, survey, out)
 }
 
-// The service line, in the same way: 10, 14.
+// The service line, in the same way.
 pub fn service_line(survey: Survey, out: &mut [u8]) -> Answer
     ensures reply { λ r. ⌜ answerOf r ≡ serviceAnswer (length (now (out .entry))) (of survey) ⌝ }
     ensures lent { λ _. ⌜ now (out .exit) ≡ serviceShown (of survey) (now (out .entry)) ⌝ }
 {
-    if !survey.well_formed() {
-        return Answer {
-            survey,
-            reply: Reply::Refused(10),
-        };
-    }
-    let refused = status_lines::service::write(status_of(survey), out);
-    if refused != 0 {
-        return Answer {
-            survey,
-            reply: Reply::Refused(refused),
-        };
-    }
-    Answer {
-        survey,
-        reply: Reply::Written(19),
-    }
+    shown(true, survey, out)
 }

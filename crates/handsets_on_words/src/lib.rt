@@ -6,7 +6,7 @@ ghost use mathlib.Core.Path.{_≡_};
 ghost use lib.ListN.{length};
 ghost use Rattle.machine.specs.Calls.{numberOf};
 ghost use Rattle.words.specs.Layout.{stateOf};
-ghost use Rattle.status_lines.specs.Lines.{foremanAnswer, foremanShown, serviceAnswer, serviceShown};
+ghost use Rattle.status_lines.specs.Lines.{lineNeeded, lineIn, lineAnswer, lineShown, foremanAnswer, foremanShown, serviceAnswer, serviceShown};
 ghost use Rattle.handsets_on_words.specs.Reply.{recordOf};
 
 // The status record of a status call's reply.
@@ -21,28 +21,31 @@ fn record_of(told: [u16; 4]) -> Status
     }
 }
 
+// Either line at the front of `out`: 10, 14.
+fn shown(service: bool, state: &[u16; STATE_WORDS], out: &mut [u8]) -> u32
+    ensures number { λ r. ⌜ r ≡ numberOf (lineAnswer (lineNeeded service) (length (now (out .entry))) (stateOf (now (state .entry))) .reply) ⌝ }
+    ensures bytes { λ _. ⌜ now (out .exit) ≡ lineShown (lineNeeded service) (lineIn service (stateOf (now (state .entry)))) (stateOf (now (state .entry))) (now (out .entry)) ⌝ }
+{
+    let mut told = [0; 4];
+    let refused = lent::status(state, &mut told);
+    if refused != 0 {
+        return refused;
+    }
+    status_lines::write(service, record_of(told), out) as u32
+}
+
 // The foreman's line at the front of `out`: 10, 14.
 pub fn foreman_line(state: &[u16; STATE_WORDS], out: &mut [u8]) -> u32
     ensures number { λ r. ⌜ r ≡ numberOf (foremanAnswer (length (now (out .entry))) (stateOf (now (state .entry))) .reply) ⌝ }
     ensures bytes { λ _. ⌜ now (out .exit) ≡ foremanShown (stateOf (now (state .entry))) (now (out .entry)) ⌝ }
 {
-    let mut told = [0; 4];
-    let refused = lent::status(state, &mut told);
-    if refused != 0 {
-        return refused;
-    }
-    status_lines::foreman::write(record_of(told), out) as u32
+    shown(false, state, out)
 }
 
-// The service line at the front of `out`: 10, 14.
+// The service line, in the same way.
 pub fn service_line(state: &[u16; STATE_WORDS], out: &mut [u8]) -> u32
     ensures number { λ r. ⌜ r ≡ numberOf (serviceAnswer (length (now (out .entry))) (stateOf (now (state .entry))) .reply) ⌝ }
     ensures bytes { λ _. ⌜ now (out .exit) ≡ serviceShown (stateOf (now (state .entry))) (now (out .entry)) ⌝ }
 {
-    let mut told = [0; 4];
-    let refused = lent::status(state, &mut told);
-    if refused != 0 {
-        return refused;
-    }
-    status_lines::service::write(record_of(told), out) as u32
+    shown(true, state, out)
 }

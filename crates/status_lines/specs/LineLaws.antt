@@ -1,6 +1,6 @@
 -- The answer and the slice of a call that shows a line, by whether the state is kept and the line fits.
 use mathlib.Core.Path.{_≡_, refl, sym, _∙_}
-use mathlib.Core.Bool.{true, false}
+use mathlib.Core.Bool.{Bool, true, false}
 use mathlib.Core.List.{List}
 use Prim.Native.Nat.{ℕ, _≤_, _<_}
 use native.Mathlib.Omega.{arith}
@@ -14,7 +14,7 @@ use Rattle.state.specs.declared.reply.Reply.the-variants.{Refused, Written}
 use Rattle.machine.specs.State.{State}
 use Rattle.machine.specs.WellFormed.{wellFormed}
 use Rattle.machine.specs.Calls.{Answer}
-use Rattle.status_lines.specs.Lines.{lineRefusal, roomRefusal, lineAnswer, lineShown}
+use Rattle.status_lines.specs.Lines.{statusOf, foremanLine, serviceLine, lineBody, lineIn, lineRefusal, roomRefusal, lineAnswer, lineShown}
 
 -- ---- the line of a body over a slice
 
@@ -27,6 +27,12 @@ module _ (needed : ℕ) (f out : List ℕ) where
       → (0 ≡ roomRefusal needed (length out)) × (lineOver f out ≡ written (roomRefusal needed (length out)) (lineOf f) out)
   unfolding roomRefusal
   line-fits e h = rw (le-ltb (length out) needed h) (refl, lineOver-fits f out (omega (arith, e, h)) ∙ rw (length-line f) refl)
+
+-- the line in a state is that of its record
+pub line-in : (service : Bool) (s : State) → lineOf (lineBody service (statusOf s)) ≡ lineIn service s
+unfolding foremanLine serviceLine
+line-in true s = refl
+line-in false s = refl
 
 -- ---- the call
 

@@ -1,6 +1,6 @@
 -- The two handsets of T-06 read one status record: the foreman's line is a frame of kind 20, the service line one of kind 21. Here both lines, and what a call
 -- that shows one replies and leaves in the lent slice, for every state and at every stage.
-use mathlib.Core.Bool.{not}
+use mathlib.Core.Bool.{Bool, not, cond}
 use mathlib.Core.List.{List, [], _∷_, _++_}
 use Prim.Native.Nat.{ℕ, _%_}
 use lib.Dec.{ltb}
@@ -40,6 +40,17 @@ FOREMAN-LINE = 11
 
 abbrev pub SERVICE-LINE : ℕ
 SERVICE-LINE = 19
+
+-- ---- either line: the service line, or the foreman's
+
+abbrev pub lineNeeded : Bool → ℕ
+lineNeeded service = cond service SERVICE-LINE FOREMAN-LINE
+
+abbrev pub lineBody : Bool → Status → List ℕ
+lineBody service t = cond service (serviceBody t) (foremanBody t)
+
+abbrev pub lineIn : Bool → State → List ℕ
+lineIn service s = cond service (serviceLine s) (foremanLine s)
 
 -- ---- a call that shows a line of so many characters: 10, 14
 

@@ -2,11 +2,11 @@
 use mathlib.Core.Path.{sym, _∙_}
 use borrow.Author.Tests.{not-true, not-false}
 use Rattle.survey.specs.View.{of}
-use Rattle.status_lines.specs.Lines.{FOREMAN-LINE, foremanLine}
-use Rattle.status_lines.specs.LineLaws.{told-malformed, told-refused, told-written}
+use Rattle.status_lines.specs.Lines.{lineNeeded, lineIn}
+use Rattle.status_lines.specs.LineLaws.{line-in, told-malformed, told-refused, told-written}
 use borrow.Author.Needs.{needs}
-use Rattle.handsets.proofs.foreman_line.Statement.{statement}
-use Rattle.handsets.proofs.foreman_line.Tie as tie
+use Rattle.handsets.proofs.shown.Statement.{statement}
+use Rattle.handsets.proofs.shown.Tie as tie
 
 well-formed-requires : tie.Need-well-formed-requires
 well-formed-requires c κs = search needs
@@ -15,7 +15,7 @@ returns : tie.Need-returns
 returns c =
     let w = c .before in
     let a = w .before .before .args in
-    told-malformed FOREMAN-LINE (of (a .survey)) (foremanLine (of (a .survey))) (a .out .now) (sym (w .well-formed .ensures) ∙ not-true _ (c .if1 .taken))
+    told-malformed (lineNeeded (a .service)) (of (a .survey)) (lineIn (a .service) (of (a .survey))) (a .out .now) (sym (w .well-formed .ensures) ∙ not-true _ (c .if1 .taken))
 
 status-of-requires : tie.Need-status-of-requires
 status-of-requires c κs = sym (c .before .well-formed .ensures) ∙ not-false _ (c .if1 .left)
@@ -27,30 +27,31 @@ same-length : tie.Need-same-length
 same-length c = search needs
 
 returns-2 : tie.Need-returns-2
-unfolding foremanLine
 returns-2 c =
     let r = c .before .before .before in
     let t = r .before .before in
     let w = t .before .before in
     let a = w .before .before .args in
     let well = sym (w .well-formed .ensures) ∙ not-false _ (t .before .if1 .left) in
-    told-refused FOREMAN-LINE (of (a .survey)) (foremanLine (of (a .survey))) (a .out .now) (r .write .result) _ well (r .write .ensures .0) (rw (t .status-of .ensures) at (r .write .ensures .1)) (c .if2 .taken)
+    told-refused (lineNeeded (a .service)) (of (a .survey)) (lineIn (a .service) (of (a .survey))) (a .out .now) (r .write .result) _ well (r .write .ensures .0) (rw (t .status-of .ensures, line-in (a .service) (of (a .survey))) at (r .write .ensures .1)) (c .if2 .taken)
+
+length-requires : tie.Need-length-requires
+length-requires c κs = tt
 
 same-length-2 : tie.Need-same-length-2
 same-length-2 c = search needs
 
 returns-3 : tie.Need-returns-3
-unfolding foremanLine
 returns-3 c =
-    let r = c .before .before .before in
+    let r = c .before .before .before .before in
     let t = r .before .before in
     let w = t .before .before in
     let a = w .before .before .args in
     let well = sym (w .well-formed .ensures) ∙ not-false _ (t .before .if1 .left) in
-    told-written FOREMAN-LINE (of (a .survey)) (foremanLine (of (a .survey))) (a .out .now) (r .write .result) _ well (r .write .ensures .0) (rw (t .status-of .ensures) at (r .write .ensures .1)) (c .if2 .left)
+    rw (c .length .ensures) (told-written (lineNeeded (a .service)) (of (a .survey)) (lineIn (a .service) (of (a .survey))) (a .out .now) (r .write .result) _ well (r .write .ensures .0) (rw (t .status-of .ensures, line-in (a .service) (of (a .survey))) at (r .write .ensures .1)) (c .before .if2 .left))
 
-pub foreman-line-spec : {M : Type 1} → statement M
-foreman-line-spec =
+pub shown-spec : {M : Type 1} → statement M
+shown-spec =
     tie.close
     (tie.spec
     well-formed-requires
@@ -59,5 +60,6 @@ foreman-line-spec =
     write-requires
     same-length
     returns-2
+    length-requires
     same-length-2
     returns-3)
