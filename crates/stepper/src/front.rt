@@ -9,13 +9,12 @@ ghost use Prim.Native.Nat.{_≤_};
 ghost use Rattle.machine.specs.StageSteps.{Moved};
 ghost use Rattle.words.specs.Layout.{stateOf};
 
-// The rounds of one of the stages 2 to 6, which the clock shows.
+// The rounds of one of the stages 3 to 6, which the clock shows.
 pub(crate) fn rounds(stage: u16, words: &mut [u16; STATE_WORDS], budget: u16) -> u16
-    requires { ⌜ (stateOf (now words) .clock .stage ≡ stage) × ((2 ≤ stage) × (stage ≤ 6)) ⌝ }
+    requires { ⌜ (stateOf (now words) .clock .stage ≡ stage) × ((3 ≤ stage) × (stage ≤ 6)) ⌝ }
     ensures { λ r. ⌜ Moved budget (stateOf (now (words .entry))) r (stateOf (now (words .exit))) ⌝ }
 {
     match stage {
-        2 => tree_stage(words, budget),
         3 => tour_stage(words, budget),
         4 => ranking_stage(words, budget),
         5 => marks_stage(words, budget),
@@ -44,7 +43,7 @@ pub(crate) fn components_stage(words: &mut [u16; STATE_WORDS], budget: u16) -> u
 }
 
 // Stage 2.
-fn tree_stage(words: &mut [u16; STATE_WORDS], budget: u16) -> u16
+pub(crate) fn tree_stage(words: &mut [u16; STATE_WORDS], budget: u16) -> u16
     requires { ⌜ stateOf (now words) .clock .stage ≡ 2 ⌝ }
     ensures { λ r. ⌜ Moved budget (stateOf (now (words .entry))) r (stateOf (now (words .exit))) ⌝ }
 {

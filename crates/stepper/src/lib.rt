@@ -19,8 +19,8 @@ const NOT_KEPT: u32 = 10;
 
 const IS_FINISHED: u32 = 11;
 
-// One round: 10, 11. It calls the stages by itself: what has two callers keeps a frame of its own on the stack, so that the tables of a leap (stages 1 and
-// 9) do not stand beside those of the other stages.
+// One round: 10, 11. It calls the stages by itself: what has two callers keeps a frame of its own on the stack, so that the tables of a leap do not stand
+// beside those of stages that are not at work.
 pub fn round(words: &mut [u16; STATE_WORDS]) -> u32
     ensures number { λ r. ⌜ r ≡ numberOf (roundAnswer (stateOf (now (words .entry))) .reply) ⌝ }
     ensures words { λ _. ⌜ stateOf (now (words .exit)) ≡ roundAnswer (stateOf (now (words .entry))) .state ⌝ }
@@ -32,6 +32,10 @@ pub fn round(words: &mut [u16; STATE_WORDS]) -> u32
     let stage = words::clock_at(words).stage;
     if stage == 1 {
         front::components_stage(words, 1);
+        return 0;
+    }
+    if stage == 2 {
+        front::tree_stage(words, 1);
         return 0;
     }
     if stage == 9 {
@@ -88,6 +92,10 @@ fn go(words: &mut [u16; STATE_WORDS], budget: u16) -> u16
         }
         if stage == 1 {
             made += front::components_stage(words, budget - made);
+            continue;
+        }
+        if stage == 2 {
+            made += front::tree_stage(words, budget - made);
             continue;
         }
         if stage == 9 {

@@ -59,37 +59,46 @@ returns-2 c =
     let t = taken (c .before .before .before) in
     rw (t .0) (refl, one-round _ _ _ (t .1) (t .2) (c .components-stage .ensures))
 
-classes-stage-requires : tie.Need-classes-stage-requires
-classes-stage-requires c κs = shown (c .before .before .before) ∙ c .before .if3 .taken
+tree-stage-requires : tie.Need-tree-stage-requires
+tree-stage-requires c κs = shown (c .before .before .before) ∙ c .before .if3 .taken
 
 returns-3 : tie.Need-returns-3
 unfolding roundAnswer
 returns-3 c =
     let t = taken (c .before .before .before .before) in
-    rw (t .0) (refl, one-round _ _ _ (t .1) (t .2) (c .classes-stage .ensures))
+    rw (t .0) (refl, one-round _ _ _ (t .1) (t .2) (c .tree-stage .ensures))
 
-rounds-requires : tie.Need-rounds-requires
-rounds-requires c κs =
-    let k = c .before .before .before .before in
-    let from = rw (shown k) at (kept-exact _ .0 (taken k .1) .from) in
-    (shown k, (omega (arith, from, c .before .before .before .if2 .left), omega (arith, c .before .if4 .taken)))
+classes-stage-requires : tie.Need-classes-stage-requires
+classes-stage-requires c κs = shown (c .before .before .before .before) ∙ c .before .if4 .taken
 
 returns-4 : tie.Need-returns-4
 unfolding roundAnswer
 returns-4 c =
     let t = taken (c .before .before .before .before .before) in
-    rw (t .0) (refl, one-round _ _ _ (t .1) (t .2) (c .rounds .ensures))
+    rw (t .0) (refl, one-round _ _ _ (t .1) (t .2) (c .classes-stage .ensures))
 
-rounds-requires-2 : tie.Need-rounds-requires-2
-rounds-requires-2 c κs =
-    let k = c .before .before .before .before in
-    let to = rw (shown k) at (unfinished _ (taken k .1) (taken k .2)) in
-    (shown k, (omega (arith, c .before .if4 .left), to, c .before .before .if3 .left))
+rounds-requires : tie.Need-rounds-requires
+rounds-requires c κs =
+    let k = c .before .before .before .before .before in
+    let from = rw (shown k) at (kept-exact _ .0 (taken k .1) .from) in
+    (shown k, (omega (arith, from, c .before .before .before .if3 .left, c .before .before .before .before .if2 .left), omega (arith, c .before .if5 .taken)))
 
 returns-5 : tie.Need-returns-5
 unfolding roundAnswer
 returns-5 c =
-    let t = taken (c .before .before .before .before .before) in
+    let t = taken (c .before .before .before .before .before .before) in
+    rw (t .0) (refl, one-round _ _ _ (t .1) (t .2) (c .rounds .ensures))
+
+rounds-requires-2 : tie.Need-rounds-requires-2
+rounds-requires-2 c κs =
+    let k = c .before .before .before .before .before in
+    let to = rw (shown k) at (unfinished _ (taken k .1) (taken k .2)) in
+    (shown k, (omega (arith, c .before .if5 .left), to, c .before .before .if4 .left))
+
+returns-6 : tie.Need-returns-6
+unfolding roundAnswer
+returns-6 c =
+    let t = taken (c .before .before .before .before .before .before) in
     rw (t .0) (refl, one-round _ _ _ (t .1) (t .2) (c .rounds2 .ensures))
 
 pub round-spec : {M : Type 1} → statement M
@@ -101,9 +110,11 @@ round-spec =
     clock-at-requires
     components-stage-requires
     returns-2
-    classes-stage-requires
+    tree-stage-requires
     returns-3
-    rounds-requires
+    classes-stage-requires
     returns-4
+    rounds-requires
+    returns-5
     rounds-requires-2
-    returns-5)
+    returns-6)

@@ -6,9 +6,6 @@ use borrow.Author.Needs.{needs}
 use Rattle.stepper.proofs.front.rounds.Statement.{statement}
 use Rattle.stepper.proofs.front.rounds.Tie as tie
 
-tree-stage-requires : tie.Need-tree-stage-requires
-tree-stage-requires c κs = search needs
-
 tour-stage-requires : tie.Need-tour-stage-requires
 tour-stage-requires c κs = search needs
 
@@ -23,8 +20,7 @@ places-stage-requires c κs =
     let k = c .before .before .args .stage in
     let p = c .before .before .pre in
     let r = c .before .match .rest in
-    let a3 = above k 2 (p .1 .0) (r .0 .0 .0 .1) in
-    let a4 = above k 3 a3 (r .0 .0 .1) in
+    let a4 = above k 3 (p .1 .0) (r .0 .0 .1) in
     let a5 = above k 4 a4 (r .0 .1) in
     p .0 ∙ le-antisymm (p .1 .1) (above k 5 a5 (r .1))
 
@@ -40,14 +36,10 @@ returns-3 c = search needs
 returns-4 : tie.Need-returns-4
 returns-4 c = search needs
 
-returns-5 : tie.Need-returns-5
-returns-5 c = search needs
-
 pub rounds-spec : {M : Type 1} → statement M
 rounds-spec =
     tie.close
     (tie.spec
-    tree-stage-requires
     tour-stage-requires
     ranking-stage-requires
     marks-stage-requires
@@ -55,5 +47,4 @@ rounds-spec =
     returns
     returns-2
     returns-3
-    returns-4
-    returns-5)
+    returns-4)
