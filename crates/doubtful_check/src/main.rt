@@ -3,6 +3,7 @@
 use doubtful::Verdict;
 use libc::STDOUT_FILENO;
 use streams::Cursor;
+use streams::listed;
 use streams::text;
 use survey::Survey;
 
@@ -130,32 +131,40 @@ fn questions<'a>(
 // The first part of a case: the unit count, the list of words, the list of levels, the budget.
 fn survey_of(stream: &[u8], cursor: Cursor) -> Site {
     let units = streams::next_number(stream, cursor);
-    let count = streams::next_number(stream, units.cursor);
     let mut words = [0u16; 2048];
-    let after = streams::series::words(stream, count.cursor, count.value, &mut words);
-    let links = streams::next_number(stream, after);
+    let ends = listed::words(stream, units.cursor, &mut words);
     let mut levels = [0i16; 1024];
-    let last = streams::series::levels(stream, links.cursor, links.value, &mut levels);
-    let budget = streams::next_number(stream, last);
+    let heard = listed::levels(stream, ends.cursor, &mut levels);
+    let budget = streams::next_number(stream, heard.cursor);
     let first = loaded(
         (units.value % 65536) as u16,
         &words,
-        count.value as usize,
+        ends.count,
         &levels,
-        links.value as usize,
+        heard.count,
     );
     let survey = run(first, (budget.value % 65536) as u16);
     let cursor = budget.cursor;
     Site { survey, cursor }
 }
 
+// Each word's low eight bits.
+fn low_bytes(words: &[u16], bytes: &mut [u8]) {
+    let mut i = 0;
+    while i < words.len() {
+        slices::put_byte(bytes, i, (words[i] % 256) as u8);
+        i += 1;
+    }
+}
+
 // A case: the survey, the list of marks, the questions.
 fn case(stream: &[u8], cursor: Cursor) -> Cursor {
     let site = survey_of(stream, cursor);
-    let marked = streams::next_number(stream, site.cursor);
+    let mut words = [0u16; 2048];
+    let marked = listed::words(stream, site.cursor, &mut words);
     let mut marks = [0u8; 2048];
-    let after = streams::series::bytes(stream, marked.cursor, marked.value, &mut marks);
-    let total = streams::next_number(stream, after);
+    low_bytes(&words, &mut marks);
+    let total = streams::next_number(stream, marked.cursor);
     let mut line = io::buffer();
     questions(
         stream,
@@ -163,7 +172,7 @@ fn case(stream: &[u8], cursor: Cursor) -> Cursor {
         total.value,
         site.survey,
         &marks,
-        marked.value as usize,
+        marked.count,
         &mut line,
     )
 }

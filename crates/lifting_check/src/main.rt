@@ -3,6 +3,7 @@
 use libc::STDOUT_FILENO;
 use lifting::Lifting;
 use streams::Cursor;
+use streams::listed;
 use streams::text;
 use survey::Survey;
 
@@ -117,19 +118,17 @@ fn run(survey: Survey, budget: u16) -> Survey {
 // The first part of a case: the unit count, the list of words, the list of levels, the budget.
 fn survey_of(stream: &[u8], cursor: Cursor) -> Site {
     let units = streams::next_number(stream, cursor);
-    let count = streams::next_number(stream, units.cursor);
     let mut words = [0u16; 2048];
-    let after = streams::series::words(stream, count.cursor, count.value, &mut words);
-    let links = streams::next_number(stream, after);
+    let ends = listed::words(stream, units.cursor, &mut words);
     let mut levels = [0i16; 1024];
-    let last = streams::series::levels(stream, links.cursor, links.value, &mut levels);
-    let budget = streams::next_number(stream, last);
+    let heard = listed::levels(stream, ends.cursor, &mut levels);
+    let budget = streams::next_number(stream, heard.cursor);
     let first = loaded(
         (units.value % 65536) as u16,
         &words,
-        count.value as usize,
+        ends.count,
         &levels,
-        links.value as usize,
+        heard.count,
     );
     let survey = run(first, (budget.value % 65536) as u16);
     let cursor = budget.cursor;
@@ -140,16 +139,10 @@ fn survey_of(stream: &[u8], cursor: Cursor) -> Site {
 fn case(stream: &[u8], cursor: Cursor) -> Cursor {
     let site = survey_of(stream, cursor);
     let places = streams::next_number(stream, site.cursor);
-    let count = streams::next_number(stream, places.cursor);
     let mut pairs = [0u16; 1024];
-    let after = streams::series::words(stream, count.cursor, count.value, &mut pairs);
-    lend(
-        site.survey,
-        &pairs,
-        count.value as usize,
-        places.value as usize,
-    );
-    after
+    let before = listed::words(stream, places.cursor, &mut pairs);
+    lend(site.survey, &pairs, before.count, places.value as usize);
+    before.cursor
 }
 
 // Every case of a stream, which begins with how many there are.

@@ -3,6 +3,7 @@
 // not refused with 14, and "fault" stands for a stream that is none.
 use libc::STDOUT_FILENO;
 use streams::Cursor;
+use streams::listed;
 use survey::Survey;
 
 // What every lent byte holds before a call.
@@ -162,9 +163,8 @@ fn drawn<'a>(
     levels: &'a [i16],
     links: usize,
 ) -> Cursor {
-    let next = streams::next_number(stream, cursor);
     let mut parents = [0u16; 256];
-    let after = streams::series::words(stream, next.cursor, next.value, &mut parents);
+    let named = listed::words(stream, cursor, &mut parents);
     let first = begun(
         call,
         units,
@@ -173,31 +173,29 @@ fn drawn<'a>(
         levels,
         links,
         &parents,
-        next.value as usize,
+        named.count,
     );
     rounds(first);
-    after
+    named.cursor
 }
 
 // A case: the call, the unit count, the list of words, the list of levels, the list of parents.
 fn case(stream: &[u8], cursor: Cursor) -> Cursor {
     let call = streams::next_number(stream, cursor);
     let units = streams::next_number(stream, call.cursor);
-    let count = streams::next_number(stream, units.cursor);
     let mut words = [0u16; 2048];
-    let after = streams::series::words(stream, count.cursor, count.value, &mut words);
-    let links = streams::next_number(stream, after);
+    let ends = listed::words(stream, units.cursor, &mut words);
     let mut levels = [0i16; 1024];
-    let last = streams::series::levels(stream, links.cursor, links.value, &mut levels);
+    let heard = listed::levels(stream, ends.cursor, &mut levels);
     drawn(
         stream,
-        last,
+        heard.cursor,
         call.value,
         (units.value % 65536) as u16,
         &words,
-        count.value as usize,
+        ends.count,
         &levels,
-        links.value as usize,
+        heard.count,
     )
 }
 

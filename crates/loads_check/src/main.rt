@@ -4,6 +4,7 @@ use files::Writing;
 use libc::STDOUT_FILENO;
 use streams::Cursor;
 use streams::Level;
+use streams::listed;
 use streams::text;
 use survey::Answer;
 use survey::Reply;
@@ -205,21 +206,19 @@ fn table(call: u32, t: Sizes, words: &[u16], levels: &[i16], parents: &[u16], pl
 fn case(stream: &[u8], cursor: Cursor) -> Cursor {
     let call = streams::next_number(stream, cursor);
     let units = streams::next_number(stream, call.cursor);
-    let m = streams::next_number(stream, units.cursor);
     let mut words = [0u16; 4096];
-    let at_levels = streams::series::words(stream, m.cursor, m.value, &mut words);
-    let n = streams::next_number(stream, at_levels);
+    let ends = listed::words(stream, units.cursor, &mut words);
+    let n = streams::next_number(stream, ends.cursor);
     let mut levels = [0i16; 2048];
     let at_parents = level_list(stream, n.cursor, n.value, &mut levels);
-    let p = streams::next_number(stream, at_parents);
     let mut parents = [0u16; 2048];
-    let at_places = streams::series::words(stream, p.cursor, p.value, &mut parents);
-    let places = streams::next_number(stream, at_places);
+    let named = listed::words(stream, at_parents, &mut parents);
+    let places = streams::next_number(stream, named.cursor);
     let t = Sizes {
         units: (units.value % 65536) as u16,
-        words: m.value as usize,
+        words: ends.count,
         levels: n.value as usize,
-        parents: p.value as usize,
+        parents: named.count,
     };
     table(
         call.value,

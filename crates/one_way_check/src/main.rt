@@ -66,14 +66,13 @@ fn surveyed(units: u16, links: &[u16], numbers: &mut [u16]) {
 // A case: the unit count, the list of words, the places of the slice.
 fn case(stream: &[u8], cursor: Cursor) -> Cursor {
     let units = streams::next_number(stream, cursor);
-    let count = streams::next_number(stream, units.cursor);
     let mut words = [0u16; 4096];
-    let after = streams::series::words(stream, count.cursor, count.value, &mut words);
-    let places = streams::next_number(stream, after);
+    let ends = streams::listed::words(stream, units.cursor, &mut words);
+    let places = streams::next_number(stream, ends.cursor);
     lend(
         (units.value % 65536) as u16,
         &words,
-        count.value as usize,
+        ends.count,
         places.value as usize,
     );
     places.cursor

@@ -2,6 +2,7 @@
 // label with the units that its links touch, less one, the sum, and the units less the groups. "fault" stands for a stream that is none.
 use libc::STDOUT_FILENO;
 use streams::Cursor;
+use streams::listed;
 use streams::text;
 use survey::Reply;
 use survey::Survey;
@@ -213,21 +214,13 @@ fn surveyed<'a>(n: u16, words: &'a [u16], count: usize, levels: &'a [i16], links
 // A case: the unit count, the list of words, the list of levels.
 fn case(stream: &[u8], cursor: Cursor) -> Cursor {
     let units = streams::next_number(stream, cursor);
-    let count = streams::next_number(stream, units.cursor);
     let mut words = [0u16; 2048];
-    let after = streams::series::words(stream, count.cursor, count.value, &mut words);
-    let links = streams::next_number(stream, after);
+    let ends = listed::words(stream, units.cursor, &mut words);
     let mut levels = [0i16; 1024];
-    let last = streams::series::levels(stream, links.cursor, links.value, &mut levels);
+    let heard = listed::levels(stream, ends.cursor, &mut levels);
     let n = (units.value % 65536) as u16;
-    surveyed(
-        n,
-        &words,
-        count.value as usize,
-        &levels,
-        links.value as usize,
-    );
-    last
+    surveyed(n, &words, ends.count, &levels, heard.count);
+    heard.cursor
 }
 
 // Every case of a stream, which begins with how many there are.

@@ -171,11 +171,11 @@ fn questions<'a>(
 // The unit count and the list of words.
 fn table_of(stream: &[u8], cursor: Cursor, words: &mut [u16]) -> Head {
     let units = streams::next_number(stream, cursor);
-    let count = streams::next_number(stream, units.cursor);
-    let cursor = streams::series::words(stream, count.cursor, count.value, words);
+    let ends = streams::listed::words(stream, units.cursor, words);
+    let cursor = ends.cursor;
     Head {
         units: (units.value % 65536) as u16,
-        count: count.value as usize,
+        count: ends.count,
         cursor,
     }
 }
@@ -188,11 +188,10 @@ fn survey_of<'a>(
     words: &'a [u16],
     count: usize,
 ) -> Site {
-    let links = streams::next_number(stream, cursor);
     let mut levels = [0i16; 1024];
-    let last = streams::series::levels(stream, links.cursor, links.value, &mut levels);
-    let budget = streams::next_number(stream, last);
-    let first = loaded(units, words, count, &levels, links.value as usize);
+    let heard = streams::listed::levels(stream, cursor, &mut levels);
+    let budget = streams::next_number(stream, heard.cursor);
+    let first = loaded(units, words, count, &levels, heard.count);
     let survey = run(first, (budget.value % 65536) as u16);
     let cursor = budget.cursor;
     Site { survey, cursor }

@@ -2,6 +2,7 @@
 // or with 0, the seat and its status; at the end of a case a line for each seat. "fault" stands for a stream that is none.
 use libc::STDOUT_FILENO;
 use streams::Cursor;
+use streams::listed;
 use streams::text;
 use words::STATE_WORDS;
 
@@ -115,23 +116,21 @@ fn load<'a>(
 fn load_step(stream: &[u8], cursor: Cursor, seats: &mut [[u16; STATE_WORDS]; 8]) -> Cursor {
     let seat = streams::next_number(stream, cursor);
     let units = streams::next_number(stream, seat.cursor);
-    let count = streams::next_number(stream, units.cursor);
     let mut words = [0u16; 2100];
-    let after = streams::series::words(stream, count.cursor, count.value, &mut words);
-    let links = streams::next_number(stream, after);
+    let ends = listed::words(stream, units.cursor, &mut words);
     let mut levels = [0i16; 1100];
-    let last = streams::series::levels(stream, links.cursor, links.value, &mut levels);
+    let heard = listed::levels(stream, ends.cursor, &mut levels);
     let number = load(
         seats,
         (seat.value % 65536) as u16,
         (units.value % 65536) as u16,
         &words,
-        count.value as usize,
+        ends.count,
         &levels,
-        links.value as usize,
+        heard.count,
     );
     told(number);
-    last
+    heard.cursor
 }
 
 fn put_stage(seat: &mut [u16; STATE_WORDS], stage: u16) {

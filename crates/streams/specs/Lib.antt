@@ -3,3 +3,4 @@ pub mod StreamLaws
 pub mod Text
 pub mod TextLaws
 pub mod Series
+pub mod Listed

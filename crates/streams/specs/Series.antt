@@ -26,12 +26,9 @@ unfoldable pub afterLevels : ℕ → List ℕ → Cursor → Cursor
 afterLevels zero s c = c
 afterLevels (suc k) s c = levelAt s (afterLevels k s c) .cursor
 
--- entry i of the list, as a word, as a byte, as a level
+-- entry i of the list, as a word, as a level
 abbrev pub wordFrom : List ℕ → Cursor → ℕ → ℕ
 wordFrom s c i = numberAt s (afterNumbers i s c) .value % 65536
-
-abbrev pub byteFrom : List ℕ → Cursor → ℕ → ℕ
-byteFrom s c i = numberAt s (afterNumbers i s c) .value % 256
 
 abbrev pub levelFrom : List ℕ → Cursor → ℕ → ℤ
 levelFrom s c i = levelAt s (afterLevels i s c) .value

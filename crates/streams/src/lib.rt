@@ -4,6 +4,7 @@ ghost use mathlib.Core.Path.{_≡_};
 ghost use Rattle.streams.specs.Stream.{begun, endedAt, numberAt, partAt, levelAt};
 
 mod digits;
+pub mod listed;
 pub mod series;
 pub mod text;
 

@@ -3,7 +3,7 @@ use super::Cursor;
 ghost use mathlib.Core.Path.{_≡_};
 ghost use lib.ListN.{set};
 ghost use Rattle.lists.specs.Tables.{over};
-ghost use Rattle.streams.specs.Series.{afterNumbers, afterLevels, wordFrom, byteFrom, levelFrom};
+ghost use Rattle.streams.specs.Series.{afterNumbers, afterLevels, wordFrom, levelFrom};
 
 // As words: a number's low 16 bits.
 pub fn words(stream: &[u8], cursor: Cursor, count: u32, words: &mut [u16]) -> Cursor
@@ -15,23 +15,6 @@ pub fn words(stream: &[u8], cursor: Cursor, count: u32, words: &mut [u16]) -> Cu
     while i < count {
         let next = super::next_number(stream, c);
         slices::put(words, i as usize, (next.value % 65536) as u16);
-        let after = next.cursor;
-        c = after;
-        i += 1;
-    }
-    c
-}
-
-// As bytes: a number's low eight bits.
-pub fn bytes(stream: &[u8], cursor: Cursor, count: u32, bytes: &mut [u8]) -> Cursor
-    ensures cursor { λ r. ⌜ r ≡ afterNumbers count (now (stream .entry)) cursor ⌝ }
-    ensures bytes { λ _. ⌜ now (bytes .exit) ≡ over count (byteFrom (now (stream .entry)) cursor) (now (bytes .entry)) ⌝ }
-{
-    let mut c = cursor;
-    let mut i: u32 = 0;
-    while i < count {
-        let next = super::next_number(stream, c);
-        slices::put_byte(bytes, i as usize, (next.value % 256) as u8);
         let after = next.cursor;
         c = after;
         i += 1;

@@ -1,6 +1,8 @@
 // The survey of the table that a text gives: a survey file, which begins with 0, or a stream of numbers, which begins with the digits of a unit count.
 use files::Reading;
 use libc::STDOUT_FILENO;
+use streams::Cursor;
+use streams::listed;
 use survey::Survey;
 
 pub fn of(text: &[u8]) -> Survey {
@@ -45,37 +47,41 @@ fn stored(units: u16, links: usize, words: &[u16], levels: &[i16]) -> Survey {
 
 fn streamed(stream: &[u8]) -> Survey {
     let units = streams::next_number(stream, streams::begin());
-    let count = streams::next_number(stream, units.cursor);
     let mut words = [0u16; 2048];
-    let after = streams::series::words(stream, count.cursor, count.value, &mut words);
-    let links = streams::next_number(stream, after);
+    let ends = listed::words(stream, units.cursor, &mut words);
     let mut levels = [0i16; 1024];
-    let heard = streams::series::levels(stream, links.cursor, links.value, &mut levels);
+    let heard = listed::levels(stream, ends.cursor, &mut levels);
     let units = (units.value % 65536) as u16;
-    if streams::ended(stream, heard) {
-        return fresh(
-            units,
-            &words,
-            count.value as usize,
-            &levels,
-            links.value as usize,
-        );
+    if streams::ended(stream, heard.cursor) {
+        return fresh(units, &words, ends.count, &levels, heard.count);
     }
-    let drawn = streams::next_number(stream, heard);
-    let mut parents = [0u16; 256];
-    let last = streams::series::words(stream, drawn.cursor, drawn.value, &mut parents);
-    if !streams::ended(stream, last) {
-        io::write_all(STDOUT_FILENO, b"fault\n");
-    }
-    planned(
+    drawn(
+        stream,
+        heard.cursor,
         units,
         &words,
-        count.value as usize,
+        ends.count,
         &levels,
-        links.value as usize,
-        &parents,
-        drawn.value as usize,
+        heard.count,
     )
+}
+
+// The list of parents, at the end.
+fn drawn<'a>(
+    stream: &'a [u8],
+    cursor: Cursor,
+    units: u16,
+    words: &'a [u16],
+    count: usize,
+    levels: &'a [i16],
+    links: usize,
+) -> Survey {
+    let mut parents = [0u16; 256];
+    let named = listed::words(stream, cursor, &mut parents);
+    if !streams::ended(stream, named.cursor) {
+        io::write_all(STDOUT_FILENO, b"fault\n");
+    }
+    planned(units, words, count, levels, links, &parents, named.count)
 }
 
 fn fresh<'a>(
