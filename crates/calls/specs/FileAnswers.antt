@@ -1,5 +1,5 @@
 -- The answers of the file calls, by what reading and writing reply.
-use mathlib.Core.Path.{_≡_, refl}
+use mathlib.Core.Path.{_≡_, refl, ap}
 use mathlib.Core.Bool.{true, false}
 use mathlib.Core.Logic.{_⊎_, inl, inr}
 use mathlib.Core.List.{List}
@@ -17,14 +17,27 @@ use Rattle.machine.specs.State.{State}
 use Rattle.machine.specs.Load.{Input}
 use Rattle.machine.specs.Calls.{Answer, readAnswer, writeAnswer}
 
--- the answer of a file call, from the reply
+-- the reply of a file call
+abbrev pub readingReply : Reading → Reply
+readingReply (reading.Read n m) = Read n m
+readingReply (reading.Refused k) = Refused k
+
+abbrev pub writingReply : Writing → Reply
+writingReply (writing.Written k) = Written k
+writingReply (writing.Refused k) = Refused k
+
+-- beside the state
 abbrev pub readingAnswer : State → Reading → Answer
-readingAnswer s (reading.Read n m) = record { state = s; reply = Read n m }
-readingAnswer s (reading.Refused k) = record { state = s; reply = Refused k }
+readingAnswer s r = record { state = s; reply = readingReply r }
 
 abbrev pub writingAnswer : State → Writing → Answer
-writingAnswer s (writing.Written k) = record { state = s; reply = Written k }
-writingAnswer s (writing.Refused k) = record { state = s; reply = Refused k }
+writingAnswer s r = record { state = s; reply = writingReply r }
+
+pub reading-told : (s : State) (r : Reading) {reply : Reply} → reply ≡ readingReply r → record { state = s; reply = reply } ≡ readingAnswer s r
+reading-told s r e = ap (λ (x : Reply). record { state = s; reply = x }) e
+
+pub writing-told : (s : State) (r : Writing) {reply : Reply} → reply ≡ writingReply r → record { state = s; reply = reply } ≡ writingAnswer s r
+writing-told s r e = ap (λ (x : Reply). record { state = s; reply = x }) e
 
 pub read-answer : (input : List ℕ) (places spaces : ℕ) (s : State)
     → readingAnswer s (readReply input places spaces) ≡ readAnswer input places spaces s

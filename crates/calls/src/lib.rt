@@ -5,6 +5,7 @@ ghost use lib.ListN.{length};
 ghost use Rattle.files.specs.File.{readWords, readLevels, writtenFile};
 ghost use Rattle.machine.specs.Calls.{reportAnswer, reported, readAnswer, writeAnswer};
 ghost use Rattle.survey.specs.View.{of, answerOf};
+ghost use Rattle.calls.specs.FileAnswers.{readingReply, writingReply};
 use files::Reading;
 use files::Writing;
 pub use questions::link;
@@ -52,6 +53,24 @@ pub fn report(survey: Survey, out: &mut [u8]) -> Answer
     }
 }
 
+fn read_reply(found: Reading) -> Reply
+    ensures { λ r. ⌜ r ≡ readingReply found ⌝ }
+{
+    match found {
+        Reading::Refused(number) => Reply::Refused(number),
+        Reading::Read { units, links } => Reply::Read { units, links },
+    }
+}
+
+fn write_reply(done: Writing) -> Reply
+    ensures { λ r. ⌜ r ≡ writingReply done ⌝ }
+{
+    match done {
+        Writing::Refused(number) => Reply::Refused(number),
+        Writing::Written(characters) => Reply::Written(characters),
+    }
+}
+
 // A file's ends into words and its levels beside them: 1, 2, 3, 6, 16, 14. What stands past the last link stays.
 pub fn read(survey: Survey, file: &[u8], words: &mut [u16], levels: &mut [i16]) -> Answer
     ensures reply { λ r. ⌜ answerOf r ≡ readAnswer (now (file .entry)) (length (now (words .entry))) (length (now (levels .entry))) (of survey) ⌝ }
@@ -59,16 +78,8 @@ pub fn read(survey: Survey, file: &[u8], words: &mut [u16], levels: &mut [i16]) 
     ensures levels { λ _. ⌜ now (levels .exit) ≡ readLevels (now (file .entry)) (length (now (words .entry))) (now (levels .entry)) ⌝ }
 {
     let found = reading::read(file, words, levels);
-    match found {
-        Reading::Refused(number) => Answer {
-            survey,
-            reply: Reply::Refused(number),
-        },
-        Reading::Read { units, links } => Answer {
-            survey,
-            reply: Reply::Read { units, links },
-        },
-    }
+    let reply = read_reply(found);
+    Answer { survey, reply }
 }
 
 // The file of a unit count, a table and its levels: 4 to 6, 15, 16, 7 to 9, 14. Bytes past it stay.
@@ -77,14 +88,6 @@ pub fn write(survey: Survey, units: u16, words: &[u16], levels: &[i16], out: &mu
     ensures lent { λ _. ⌜ now (out .exit) ≡ writtenFile units (now (words .entry)) (now (levels .entry)) (now (out .entry)) ⌝ }
 {
     let done = writing::write(units, words, levels, out);
-    match done {
-        Writing::Refused(number) => Answer {
-            survey,
-            reply: Reply::Refused(number),
-        },
-        Writing::Written(characters) => Answer {
-            survey,
-            reply: Reply::Written(characters),
-        },
-    }
+    let reply = write_reply(done);
+    Answer { survey, reply }
 }

@@ -1,8 +1,8 @@
 -- The reply of `files`, beside the state.
-use mathlib.Core.Path.{sym, ap, _∙_}
+use mathlib.Core.Path.{ap, _∙_}
 use lib.ListN.{length}
 use borrow.Author.Needs.{needs}
-use Rattle.calls.specs.FileAnswers.{readingAnswer, read-answer}
+use Rattle.calls.specs.FileAnswers.{readingAnswer, reading-told, read-answer}
 use Rattle.survey.specs.View.{of}
 use Rattle.calls.proofs.read.Statement.{statement}
 use Rattle.calls.proofs.read.Tie as tie
@@ -10,11 +10,8 @@ use Rattle.calls.proofs.read.Tie as tie
 read-requires : tie.Need-read-requires
 read-requires c κs = search needs
 
-enum-known-found : tie.Need-enum-known-found
-enum-known-found c = search needs
-
-enum-known-found-2 : tie.Need-enum-known-found-2
-enum-known-found-2 c = search needs
+read-reply-requires : tie.Need-read-reply-requires
+read-reply-requires c κs = tt
 
 same-length : tie.Need-same-length
 same-length c = search needs
@@ -24,34 +21,12 @@ same-length-2 c = search needs
 
 returns : tie.Need-returns
 returns c =
-    let a = c .before .before .before .before .before .before .before .before .before .before .before .args in
-    let r = c .before .before .before .before .before .before .read in
-    let told = sym (c .before .found .given .1) ∙ r .ensures .0 in
-    (ap (readingAnswer (of (a .survey))) told ∙ read-answer (a .file .now) (length (a .words .now)) (length (a .levels .now)) (of (a .survey)), (r .ensures .1 .0, r .ensures .1 .1 .0))
-
-same-length-3 : tie.Need-same-length-3
-same-length-3 c = search needs
-
-same-length-4 : tie.Need-same-length-4
-same-length-4 c = search needs
-
-returns-2 : tie.Need-returns-2
-returns-2 c =
-    let a = c .before .before .before .before .before .before .before .before .before .before .before .args in
-    let r = c .before .before .before .before .before .before .read in
-    let told = sym (c .before .found2 .given .1) ∙ r .ensures .0 in
-    (ap (readingAnswer (of (a .survey))) told ∙ read-answer (a .file .now) (length (a .words .now)) (length (a .levels .now)) (of (a .survey)), (r .ensures .1 .0, r .ensures .1 .1 .0))
+    let r = c .before .before .before .before in
+    let a = r .before .before .before .before .before .args in
+    let s = of (a .survey) in
+    let e = r .read .ensures in
+    (reading-told s (r .read .result) (c .read-reply .ensures) ∙ ap (readingAnswer s) (e .0) ∙ read-answer (a .file .now) (length (a .words .now)) (length (a .levels .now)) s, (e .1 .0, e .1 .1 .0))
 
 pub read-spec : {M : Type 1} → statement M
 read-spec =
-    tie.close
-    (tie.spec
-    read-requires
-    enum-known-found
-    enum-known-found-2
-    same-length
-    same-length-2
-    returns
-    same-length-3
-    same-length-4
-    returns-2)
+    tie.close (tie.spec read-requires read-reply-requires same-length same-length-2 returns)
