@@ -1,5 +1,5 @@
 #!/bin/sh
-# Instructions of the proved library over those of the plain version, counted by valgrind, for the largest sites; then of the
+# Instructions of the proved library over those of the plain version, counted by valgrind, for the largest sites, and of two lesser ones; then of the
 # questions (a ring, a lifting order, doubtful links, one-way links) over those of a survey of the same table, both proved.
 # Each figure is the difference between a run of 1 + TIMES surveys and a run of 1, so that the start of the program is not in it.
 set -eu
@@ -27,6 +27,11 @@ for work in words bytes; do
         plain=$(survey plain $work $site)
         printf '%-8s %-6s %12d %12d %8s\n' $site $work "$proved" "$plain" "$(echo "$proved $plain" | awk '{ printf "%.2f", $1 / $2 }')"
     done
+done
+
+# the random site with half and a quarter of the units
+for site in full:128 full:64; do
+    printf '%-8s %-6s %12d\n' $site bytes "$(survey proved bytes $site)"
 done
 
 # each question on two of the largest sites, and on the one on which it took longest in `bench worst`

@@ -8,8 +8,8 @@
  * Link with libsurvey_c.a, made by `rt staticlib survey_c` (x86-64).
  *
  * - Re-entrance: the library has no variables of its own, so calls that share no lent memory may run at the same time.
- * - Stack: allow 96 KiB; the deepest call, link_survey_report, was measured at 83 KiB, link_survey_run at 47 KiB, all
- *   others below 36 KiB.
+ * - Stack: allow 80 KiB; the deepest call, link_survey_report, was measured at 62 KiB, link_survey_lifting_order at
+ *   36 KiB, link_survey_run at 32 KiB, all others below 30 KiB.
  * - Freestanding use: no heap, no files, no start-up code; of the C library only memcpy and memset are needed.
  * - Storing a state: its words may be saved and brought back, but keep a checksum of your own with them, for a changed
  *   bit may leave a state that is kept, and the survey then goes on from what it finds.

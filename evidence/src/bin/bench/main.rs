@@ -5,8 +5,8 @@
 //!     bench worst [COUNT]              questions (a ring, a lifting order, doubtful links, one-way links) on the sites on which they take
 //!                                      longest, of the shapes and of COUNT drawn ones, beside a survey
 //!     bench one SIDE WORK SITE TIMES   one side alone, for a count of instructions: proved, plain or plain-words; words or bytes;
-//!                                      path, ring, full, star or ladder of 256 units; or proved or plain; ring, lifting, doubtful,
-//!                                      one-way or survey; one of these sites, strip, or drawn:NUMBER
+//!                                      path, ring, full, star or ladder of 256 units, or full:64 and its like; or proved or plain;
+//!                                      ring, lifting, doubtful, one-way or survey; one of these sites, strip, or drawn:NUMBER
 
 mod asked;
 mod stack;
@@ -32,7 +32,8 @@ fn one(arguments: &[&str]) -> Option<()> {
         "bytes" => Work::Bytes,
         _ => return None,
     };
-    let mut bench = Bench::new(site(shape, 256)?);
+    let (shape, units) = shape.split_once(':').unwrap_or((shape, "256"));
+    let mut bench = Bench::new(site(shape, units.parse().ok().filter(|n| (3..=256).contains(n))?)?);
     for _ in 0..times.parse().ok()? {
         bench.once(side, work, 0);
     }
@@ -53,7 +54,7 @@ fn main() -> ExitCode {
         ["one", ref rest @ ..] if one(rest).is_some() => {}
         _ => {
             eprintln!(
-                "usage: bench | bench stack | bench worst [COUNT] | bench one proved|plain|plain-words words|bytes path|ring|full|star|ladder TIMES"
+                "usage: bench | bench stack | bench worst [COUNT] | bench one proved|plain|plain-words words|bytes path|ring|full|star|ladder[:UNITS] TIMES"
             );
             eprintln!(
                 "       bench one proved|plain ring|lifting|doubtful|one-way|survey path|ring|full|star|ladder|strip|drawn:NUMBER TIMES"

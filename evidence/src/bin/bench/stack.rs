@@ -158,9 +158,7 @@ fn depths(meter: &mut Meter, calls: &Calls, site: &Site) -> [usize; CALLS.len()]
     let mut seats = empty_seats();
     let seat_load = meter.done(|| (calls.seats.load)(&mut seats, 7, units, table, levels));
     seats.fill(*first);
-    let tick = meter.done(|| (calls.seats.tick)(&mut 7, &mut seats));
-
-    let mut round = 0;
+    let (mut tick, mut round) = (0, 0);
     state.copy_from_slice(&first[..]);
     let mut before = first;
     while number != 11 {
@@ -169,6 +167,12 @@ fn depths(meter: &mut Meter, calls: &Calls, site: &Site) -> [usize; CALLS.len()]
             state.copy_from_slice(&before[..]);
             number = (calls.round)(&mut state);
         }));
+        if number == 0 {
+            tick = tick.max(meter.done(|| {
+                seats[0].copy_from_slice(&before[..]);
+                (calls.seats.tick)(&mut 7, &mut seats)
+            }));
+        }
         assert!([0, 11].contains(&number));
     }
     [
@@ -199,7 +203,7 @@ fn depths(meter: &mut Meter, calls: &Calls, site: &Site) -> [usize; CALLS.len()]
 }
 
 pub fn print() {
-    println!("Deepest stack in bytes, to the next 16, over the largest sites and, for a round, over all their rounds.\n");
+    println!("Deepest stack in bytes, to the next 16, over the largest sites and, for a round and a tick, over all their rounds.\n");
     println!("{:14}{:>10}{:>20}", "call", "proved", "plain on words");
     let mut meter = Meter::new();
     let mut most = [[0; CALLS.len()]; 2];
