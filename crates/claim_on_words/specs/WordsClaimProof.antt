@@ -8,14 +8,14 @@ use native.Mathlib.Omega.{arith}
 use lib.Dec.{eqb}
 use borrow.Author.Tests.{eq-eqb}
 use Rattle.lists.specs.Tests.{either}
-use Rattle.state.specs.declared.reply.Reply.the-variants.{Status}
+use Rattle.state.specs.declared.reply.Reply.the-variants.{Done, Status}
 use Rattle.machine.specs.State.{State, FINISHED}
 use Rattle.machine.specs.Load.{Input, loadRefusal, storedLoadRefusal, loaded, plannedLoadRefusal, plannedLoaded}
 use Rattle.machine.specs.Step.{steps, countdown}
 use Rattle.machine.specs.RunLaws.{steps-add, steps-finished}
 use Rattle.machine.specs.Calls.{Answer, roundRefusal, runAnswer, loadAnswer, storedLoadAnswer, plannedLoadAnswer, statusAnswer}
+use Rattle.machine.specs.AnswerLaws.{answered-number}
 use Rattle.words.specs.Layout.{stateOf}
-use Rattle.lent.specs.FaceLaws.{load-number, stored-load-number, planned-load-number}
 use Rattle.claim.specs.Play.{Call, round, run, status, unit, link, report, answerTo, play, usedBy, used}
 use Rattle.claim.specs.Claim as by-value
 use Rattle.claim.specs.Claim.{Loaded, EndRight, Claim}
@@ -63,15 +63,15 @@ played (x ∷ xs) before after made =
 loaded-words : (input : Input) (words : List ℕ) → LoadedWords input words → Loaded input (stateOf words)
 unfolding loadAnswer storedLoadAnswer plannedLoadAnswer
 loaded-words input words (on-words.fresh given d) =
-    let accepted : loadRefusal input ≡ 0 = sym (load-number input (stateOf given)) ∙ sym (d .0) in
+    let accepted : loadRefusal input ≡ 0 = sym (answered-number (loadRefusal input) (stateOf given) (loaded input) Done refl) ∙ sym (d .0) in
     let state : stateOf words ≡ loaded input = rw accepted at (d .1) in
     by-value.fresh (stateOf given) (rw (accepted, state) refl)
 loaded-words input words (on-words.stored given d) =
-    let accepted : storedLoadRefusal input ≡ 0 = sym (stored-load-number input (stateOf given)) ∙ sym (d .0) in
+    let accepted : storedLoadRefusal input ≡ 0 = sym (answered-number (storedLoadRefusal input) (stateOf given) (loaded input) Done refl) ∙ sym (d .0) in
     let state : stateOf words ≡ loaded input = rw accepted at (d .1) in
     by-value.stored (stateOf given) (rw (accepted, state) refl)
 loaded-words input words (on-words.planned parents given d) =
-    let accepted : plannedLoadRefusal input parents ≡ 0 = sym (planned-load-number input parents (stateOf given)) ∙ sym (d .0) in
+    let accepted : plannedLoadRefusal input parents ≡ 0 = sym (answered-number (plannedLoadRefusal input parents) (stateOf given) (plannedLoaded input parents) Done refl) ∙ sym (d .0) in
     let state : stateOf words ≡ plannedLoaded input parents = rw accepted at (d .1) in
     by-value.planned parents (stateOf given) (rw (accepted, state) refl)
 

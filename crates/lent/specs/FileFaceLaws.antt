@@ -1,11 +1,10 @@
 -- Files on lent memory by what `files` replies; and that they are the answers of every state.
-use mathlib.Core.Path.{_≡_, refl, sym}
+use mathlib.Core.Path.{_≡_, refl}
 use mathlib.Core.Bool.{true, false}
 use mathlib.Core.Logic.{_⊎_, inl, inr}
 use mathlib.Core.List.{List, [], _∷_}
 use Prim.Native.Nat.{ℕ}
 use lib.Dec.{eqb}
-use borrow.Author.Tests.{eqb-true}
 use Rattle.lists.specs.Tests.{either}
 use Rattle.files.specs.File.{linesOf, unitsIn, linkFrames, readRefusal, readReply, writeRefusal}
 use Rattle.files.specs.declared.Reading.{Reading}
@@ -13,6 +12,7 @@ use Rattle.files.specs.declared.Reading.the-variants.{Read}
 use Rattle.machine.specs.State.{State}
 use Rattle.machine.specs.Load.{Input}
 use Rattle.machine.specs.Calls.{numberOf, readAnswer, writeAnswer}
+use Rattle.machine.specs.AnswerLaws.{answered-number}
 use Rattle.state.specs.declared.reply.Reply.the-variants.{Refused}
 use Rattle.lent.specs.Face.{said}
 use Rattle.lent.specs.FileFace.{wordSaid}
@@ -33,33 +33,27 @@ module _ (file : List ℕ) (places spaces : ℕ) where
   abbrev refusal : ℕ
   refusal = readRefusal (linesOf file) places spaces
 
-  pub units-said : (old : ℕ) → unitsSaid (readReply file places spaces) old ≡ wordSaid refusal (unitsIn (linesOf file)) old
+  -- whichever of the two is asked for
+  said-by : (told : Reading → ℕ) (value old : ℕ) → told (Read (unitsIn (linesOf file)) (linkFrames (linesOf file))) ≡ value → told (Reading.Refused refusal) ≡ old
+      → told (readReply file places spaces) ≡ wordSaid refusal value old
   unfolding readReply
-  units-said old = go (either (eqb refusal 0))
+  said-by told value old yes-is no-is = go (either (eqb refusal 0))
     where
-      go : (eqb refusal 0 ≡ true) ⊎ (eqb refusal 0 ≡ false)
-          → unitsSaid (readReply file places spaces) old ≡ wordSaid refusal (unitsIn (linesOf file)) old
-      go (inl e) = rw e refl
-      go (inr e) = rw e refl
+      go : (eqb refusal 0 ≡ true) ⊎ (eqb refusal 0 ≡ false) → told (readReply file places spaces) ≡ wordSaid refusal value old
+      go (inl e) = rw e yes-is
+      go (inr e) = rw e no-is
+
+  pub units-said : (old : ℕ) → unitsSaid (readReply file places spaces) old ≡ wordSaid refusal (unitsIn (linesOf file)) old
+  units-said old = said-by (λ (r : Reading). unitsSaid r old) _ _ refl refl
 
   pub links-said : (old : ℕ) → linksSaid (readReply file places spaces) old ≡ wordSaid refusal (linkFrames (linesOf file)) old
-  unfolding readReply
-  links-said old = go (either (eqb refusal 0))
-    where
-      go : (eqb refusal 0 ≡ true) ⊎ (eqb refusal 0 ≡ false)
-          → linksSaid (readReply file places spaces) old ≡ wordSaid refusal (linkFrames (linesOf file)) old
-      go (inl e) = rw e refl
-      go (inr e) = rw e refl
+  links-said old = said-by (λ (r : Reading). linksSaid r old) _ _ refl refl
 
   -- ---- reading is every state's answer
 
   pub read-number : (s : State) → numberOf (readAnswer file places spaces s .reply) ≡ refusal
   unfolding readAnswer
-  read-number s = go (either (eqb refusal 0))
-    where
-      go : (eqb refusal 0 ≡ true) ⊎ (eqb refusal 0 ≡ false) → numberOf (readAnswer file places spaces s .reply) ≡ refusal
-      go (inl e) = rw e (sym (eqb-true refusal 0 e))
-      go (inr e) = rw e refl
+  read-number s = answered-number refusal s s _ refl
 
   pub read-said : (s : State) (n m : ℕ)
       → said (readAnswer file places spaces s .reply) (n ∷ m ∷ [])
@@ -78,11 +72,4 @@ module _ (file : List ℕ) (places spaces : ℕ) where
 pub write-number : (input : Input) (places : ℕ) (s : State)
     → numberOf (writeAnswer input places s .reply) ≡ writeRefusal (input .units) (input .words) (input .levels) places
 unfolding writeAnswer
-write-number input places s = go (either (eqb refused 0))
-  where
-    refused : ℕ
-    refused = writeRefusal (input .units) (input .words) (input .levels) places
-
-    go : (eqb refused 0 ≡ true) ⊎ (eqb refused 0 ≡ false) → numberOf (writeAnswer input places s .reply) ≡ refused
-    go (inl e) = rw e (sym (eqb-true refused 0 e))
-    go (inr e) = rw e refl
+write-number input places s = answered-number _ s s _ refl

@@ -1,4 +1,3 @@
 pub mod Face
-pub mod FaceLaws
 pub mod FileFace
 pub mod FileFaceLaws

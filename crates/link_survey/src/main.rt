@@ -6,7 +6,7 @@ fn main() {
     // One byte more than the longest input, so that a longer one shows.
     let mut input = io::large_buffer();
     let got = io::read_full(STDIN_FILENO, &mut input);
-    let mut out = [0u8; reporter::MAX_OUTPUT];
+    let mut out = [0u8; printed::MAX_OUTPUT];
     let count = reporter::report(&input[..got], &mut out) as usize;
     if !io::write_all(STDOUT_FILENO, &out[..count]) {
         os::fail(b"standard output");

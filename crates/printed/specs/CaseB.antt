@@ -1,9 +1,10 @@
 -- Document 01's case B whole, as the paper prints it: the bytes of its file print the bytes of its report.
 use mathlib.Core.Path.{_≡_, refl, sym, ap, _∙_}
-use Prim.Native.Nat.{_≤_}
+use Prim.Native.Nat.{ℕ, _≤_}
 use native.Mathlib.Omega.{arith}
 use lib.ListN.{length}
 use borrow.Author.Tests.{eq-eqb}
+use Rattle.files.specs.File.{linesOf, readRefusal}
 use Rattle.files.specs.Example.{caseB, levelsB, fileB, read-B}
 use Rattle.machine.specs.Load.{storedLoadRefusal, loaded}
 use Rattle.machine.specs.Step.{countdown}
@@ -11,7 +12,7 @@ use Rattle.machine.specs.Run.{ran}
 use Rattle.machine.specs.RunLaws.{total, ran-made}
 use Rattle.machine.specs.Report.{report}
 use Rattle.machine.specs.Cases.{siteB, reportB, accepted-B, report-B}
-use Rattle.printed.specs.Printed.{MAX-INPUT, WORDS, surveyed, printedTable, printedRead, printedFile, printed}
+use Rattle.printed.specs.Printed.{MAX-INPUT, WORDS, LEVELS, surveyed, tableIn, printedTable, printedRead, printed}
 use Rattle.printed.specs.PrintedLaws.{surveyed-end}
 use Rattle.printed.specs.LaidLaws.{input-short}
 
@@ -25,8 +26,8 @@ unfolding printedTable
 table-B = rw (eq-eqb (storedLoadRefusal siteB) 0 accepted-B) (ap report survey-B ∙ report-B)
 
 -- the paper's file is read as that site
-file-B : printedFile fileB ≡ printedTable siteB
-unfolding printedFile printedRead levelsB caseB
+file-B : printedRead (readRefusal (linesOf fileB) WORDS LEVELS) (tableIn fileB) ≡ printedTable siteB
+unfolding printedRead levelsB caseB
 file-B = rw (read-B .0, read-B .1, read-B .2, read-B .3) refl
 
 short-B : length fileB ≤ MAX-INPUT
@@ -35,4 +36,5 @@ short-B = omega arith
 
 -- what the program prints for the paper's file is the paper's report
 pub prints-B : printed fileB ≡ reportB
-prints-B = input-short fileB short-B ∙ (file-B ∙ table-B)
+unfolding printed
+prints-B = ap (λ (k : ℕ). printedRead k (tableIn fileB)) (input-short fileB WORDS LEVELS short-B) ∙ (file-B ∙ table-B)

@@ -4,11 +4,12 @@ use mathlib.Core.Bool.{Bool, true, false, cond}
 use mathlib.Core.Logic.{_⊎_, inl, inr}
 use mathlib.Core.List.{List, _++_}
 use Prim.Native.Nat.{ℕ, _*_, _≤_, _<_}
-use native.Mathlib.Decide.{decLt}
+use native.Mathlib.Decide.{decLt, ℕ-discrete}
 use native.Mathlib.Omega.{arith}
 use lib.Dec.{eqb, ltb}
 use lib.ListN.{length, take, drop}
 use lib.IntN.{ℤ}
+use lib.Seq.{take-at}
 use borrow.Author.Tests.{eq-eqb, ne-eqb, lt-ltb, le-ltb, le-leb, lt-leb, eqb-true}
 use Rattle.lists.specs.All.{cond-keeps}
 use Rattle.lists.specs.Tests.{either}
@@ -17,8 +18,9 @@ use Rattle.table.specs.Table.{badUnitCount, oddWords, tooManyLinks, levelsDiffe
 use Rattle.frames.specs.Frame.{lineOver}
 use Rattle.frames.specs.Bodies.{refusalBody}
 use Rattle.frames.specs.FrameLaws.{length-line}
-use Rattle.files.specs.File.{linesOf, readRefusal, readReply, readWords, endsIn, levelsIn, readLevels}
-use Rattle.files.specs.ReadLaws.{unread-told, read-told, read-front, read-front-levels, read-long-levels}
+use Rattle.files.specs.File.{linesOf, readRefusal, readReply, readWords, unitsIn, linkFrames, endsIn, levelsIn, readLevels}
+use Rattle.files.specs.LineSteps.{length-ends, length-levels}
+use Rattle.files.specs.ReadLaws.{accepted-sound, unread-told, read-told}
 use Rattle.files.specs.declared.Reading.{Reading}
 use Rattle.files.specs.declared.Reading.the-variants.{Read}
 use Rattle.state.specs.declared.groups.Table.{Table}
@@ -30,7 +32,7 @@ use Rattle.machine.specs.StepLaws.{loaded-wellFormed}
 use Rattle.machine.specs.Report.{report, reportLength}
 use Rattle.machine.specs.ReportLaws.{length-report}
 use Rattle.machine.specs.Calls.{numberOf, answered, storedLoadAnswer, roundRefusal, runAnswer, reportRefusal, reportAnswer, reported}
-use Rattle.printed.specs.Printed.{MAX-INPUT, WORDS, LEVELS, countOf, refusalLine, surveyed, printedTable, printedRead, printedFile, printed, laidOver, laidCount}
+use Rattle.printed.specs.Printed.{MAX-INPUT, WORDS, LEVELS, countOf, refusalLine, surveyed, tableIn, printedTable, printedRead, unreadBy, printed, laidOver, laidCount}
 use Rattle.printed.specs.PrintedLaws.{surveyed-table, surveyed-finished, surveyed-wellFormed}
 
 -- ---- laying down
@@ -176,35 +178,61 @@ pub read-taken : (unread : ℕ) (input : Input) → unread ≡ 0 → printedRead
 unfolding printedRead
 read-taken unread input e = rw e refl
 
-module _ (input : List ℕ) where
-  pub input-long : MAX-INPUT < length input → (table : Input) → printed input ≡ printedRead 1 table
-  unfolding printed
-  input-long l table = rw (lt-ltb MAX-INPUT (length input) l) (sym (read-refused 1 table (omega arith)))
+module _ (input : List ℕ) (places spaces : ℕ) where
+  abbrev unread : ℕ
+  unread = unreadBy input places spaces
 
-  pub input-short : length input ≤ MAX-INPUT → printed input ≡ printedFile input
-  unfolding printed
+  pub input-long : MAX-INPUT < length input → unread ≡ 1
+  unfolding unreadBy
+  input-long l = rw (lt-ltb MAX-INPUT (length input) l) refl
+
+  pub input-short : length input ≤ MAX-INPUT → unread ≡ readRefusal (linesOf input) places spaces
+  unfolding unreadBy
   input-short short = rw (le-ltb MAX-INPUT (length input) short) refl
 
-  module _ (words : List ℕ) (levels : List ℤ) (room : (length words ≡ WORDS) × (length levels ≡ LEVELS)) (short : length input ≤ MAX-INPUT) where
-    pub file-refused : (k : ℕ) → readReply input (length words) (length levels) ≡ Reading.Refused k → (table : Input) → printed input ≡ printedRead k table
-    unfolding printedFile
-    file-refused k e table =
-        let r = readRefusal (linesOf input) WORDS LEVELS in
-        let (q, h) = unread-told input WORDS LEVELS k (rw (room .0, room .1) at e) in
-        input-short short ∙ rw (q) (read-refused r _ h ∙ sym (read-refused r table h))
+  taken-read : unread ≡ 0 → readRefusal (linesOf input) places spaces ≡ 0
+  taken-read z = go (decLt MAX-INPUT (length input))
+    where
+      go : Dec (MAX-INPUT < length input) → readRefusal (linesOf input) places spaces ≡ 0
+      go (yes l) = absurd (omega (arith, input-long l, z))
+      go (no l) = sym (input-short (omega arith)) ∙ z
 
-    -- what was read is the table
-    pub file-read : (u m : ℕ) → readReply input (length words) (length levels) ≡ Read u m
-        → (after : List ℕ) → after ≡ readWords input words (length levels) → (heard : List ℤ) → heard ≡ readLevels input (length words) levels
-        → (m ≤ LEVELS) × (printed input ≡ printedRead 0 (record { units = u; words = take (2 * m) after; levels = take m heard }))
-    unfolding printedFile
-    file-read u m e after is heard are =
-        let places = length words in
-        let spaces = length levels in
-        let r = read-told input places spaces u m e in
-        let front : take (2 * m) after ≡ endsIn (linesOf input) = ap (take (2 * m)) is ∙ read-front input places spaces u m e words refl in
-        let first : take m heard ≡ levelsIn (linesOf input) = ap (take m) are ∙ read-front-levels input places spaces u m e levels refl in
-        let none : readRefusal (linesOf input) WORDS LEVELS ≡ 0 = rw (room .0, room .1) at (r .0) in (
-          omega (arith, read-long-levels input places spaces u m e levels refl, room .1),
-          input-short short ∙ rw (none, front, first, r .1) refl,
-        )
+  pub taken-few : unread ≡ 0 → linkFrames (linesOf input) ≤ LEVELS
+  taken-few z = accepted-sound (linesOf input) places spaces (taken-read z) .few
+
+  -- what is taken stands in front
+  module _ (k n m : ℕ) (words after : List ℕ) (levels heard : List ℤ) (ek : k ≡ unread) (en : n ≡ cond (eqb unread 0) (tableIn input .units) 0)
+      (em : m ≡ cond (eqb unread 0) (linkFrames (linesOf input)) 0) (ew : after ≡ written unread (tableIn input .words) words)
+      (el : heard ≡ written unread (tableIn input .levels) levels) where
+    pub taken-table : printedRead k (record { units = n; words = take (2 * m) after; levels = take m heard }) ≡ printedRead unread (tableIn input)
+    taken-table = go (ℕ-discrete unread 0)
+      where
+        go : Dec (unread ≡ 0) → printedRead k (record { units = n; words = take (2 * m) after; levels = take m heard }) ≡ printedRead unread (tableIn input)
+        go (yes z) =
+            let e : m ≡ linkFrames (linesOf input) = rw z at em in
+            let front : take (2 * m) after ≡ endsIn (linesOf input) =
+            rw (ew, z) (take-at (endsIn (linesOf input)) (drop (length (endsIn (linesOf input))) words) (2 * m) (length-ends (linesOf input) ∙ ap (λ (x : ℕ). 2 * x) (sym e))) in
+            let first : take m heard ≡ levelsIn (linesOf input) =
+            rw (el, z) (take-at (levelsIn (linesOf input)) (drop (length (levelsIn (linesOf input))) levels) m (length-levels (linesOf input) ∙ sym e)) in
+            let count : n ≡ unitsIn (linesOf input) = rw z at en in
+            rw (ek, front, first, count) refl
+        go (no h) = rw ek (read-refused unread _ h ∙ sym (read-refused unread _ h))
+
+  -- what reading leaves
+  module _ (short : length input ≤ MAX-INPUT) where
+    pub taken-refused : (k : ℕ) → readReply input places spaces ≡ Reading.Refused k → (k ≡ unread) × (unread ≡ 0 → ⊥)
+    taken-refused k e =
+        let (q, h) = unread-told input places spaces k e in
+        (q ∙ sym (input-short short), λ z. h (taken-read z))
+
+    pub taken-told : (u m : ℕ) → readReply input places spaces ≡ Read u m → (unread ≡ 0) × (u ≡ unitsIn (linesOf input)) × (m ≡ linkFrames (linesOf input))
+    taken-told u m e = let r = read-told input places spaces u m e in (input-short short ∙ r .0, r .1, r .2)
+
+module _ (input words : List ℕ) (levels : List ℤ) (short : length input ≤ MAX-INPUT) where
+  pub taken-words : readWords input words (length levels) ≡ written (unreadBy input (length words) (length levels)) (tableIn input .words) words
+  unfolding readWords
+  taken-words = rw (input-short input (length words) (length levels) short) refl
+
+  pub taken-levels : readLevels input (length words) levels ≡ written (unreadBy input (length words) (length levels)) (tableIn input .levels) levels
+  unfolding readLevels
+  taken-levels = rw (input-short input (length words) (length levels) short) refl

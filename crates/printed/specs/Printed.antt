@@ -48,12 +48,12 @@ tableIn file = record { units = unitsIn (linesOf file); words = endsIn (linesOf 
 unfoldable pub printedRead : ℕ → Input → List ℕ
 printedRead unread input = let whole = printedTable input in cond (eqb unread 0) whole (refusalLine unread)
 
--- read, or refused by 1, 2, 3, 6 or 16
-unfoldable pub printedFile : List ℕ → List ℕ
-printedFile file = printedRead (readRefusal (linesOf file) WORDS LEVELS) (tableIn file)
+-- the number by which an input is refused before a load: 1 where it is too long, else that of reading it into so many words and levels; 0 where it is taken
+unfoldable pub unreadBy : List ℕ → ℕ → ℕ → ℕ
+unreadBy input places spaces = cond (ltb MAX-INPUT (length input)) 1 (readRefusal (linesOf input) places spaces)
 
 unfoldable pub printed : List ℕ → List ℕ
-printed input = let whole = printedFile input in cond (ltb MAX-INPUT (length input)) (refusalLine 1) whole
+printed input = printedRead (unreadBy input WORDS LEVELS) (tableIn input)
 
 -- a slice after a text was laid over its front, and the number of bytes: as it was, and 0, where it is too short
 unfoldable pub laidOver : List ℕ → List ℕ → List ℕ

@@ -35,7 +35,7 @@ use Rattle.machine.specs.Report.{unitSingle, linkLabel, linkLone, flag, report,
 use Rattle.machine.specs.ReportLaws.{length-head, units-long, links-long, length-report, head-at, unit-at, link-at}
 use Rattle.reach.specs.Started.{loaded-started}
 use Rattle.reach.specs.Reach.{rounds-steps}
-use Rattle.printed.specs.Printed.{MAX-INPUT, WORDS, LEVELS, refusalLine, surveyed, tableIn, printedTable, printedRead, printedFile, printed}
+use Rattle.printed.specs.Printed.{MAX-INPUT, WORDS, LEVELS, refusalLine, surveyed, tableIn, printedTable, printedRead, unreadBy, printed}
 use Rattle.printed.specs.PrintedLaws.{surveyed-end, surveyed-table, surveyed-right}
 use Rattle.printed.specs.Program.{programReasons, programNumbers, SurveyPrinted, ProgramRight}
 
@@ -172,7 +172,7 @@ module _ (input : List ℕ) where
       ⊎ ((refusal ≡ 0) × (unread ≡ 0) × (unloaded ≡ 0) × (printed input ≡ report (surveyed (tableIn input))))
 
   printed-by : Either
-  unfolding printed printedFile printedRead printedTable unread unloaded
+  unfolding printed unreadBy printedRead printedTable unread unloaded
   printed-by = by-length (decLt MAX-INPUT (length input))
     where
       by-load : length input ≤ MAX-INPUT → unread ≡ 0 → Dec (unloaded ≡ 0) → Either

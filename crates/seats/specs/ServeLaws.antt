@@ -60,6 +60,13 @@ office-given last words i new e = words-set i words i new ∙ ap (λ (s : State)
 
 -- ---- a tick
 
+-- what is known once the turn is found and the other seats are judged: r is served next, and b tells whether the others are sound
+pub record Judged (last : ℕ) (words : List (List ℕ)) (r : ℕ) (b : Bool) : Type 0 where
+  pub eight : length words ≡ 8
+  pub is : r ≡ served (officeOf last words)
+  pub turn : last ≤ 7
+  pub told : b ≡ not (some (length words) (λ (i : ℕ). not (eqb i r) && spoilt (stateOf (getD words i []))))
+
 module _ (last : ℕ) (words : List (List ℕ)) where
   abbrev o : Office
   o = officeOf last words
@@ -83,66 +90,65 @@ module _ (last : ℕ) (words : List (List ℕ)) where
         picked-same last (λ (i : ℕ). getD flags i false) (waits o) (λ i l. h i l ∙ ap waiting (sym (at i l))) in
         e ∙ (p ∙ ap (λ (n : ℕ). picked n (waits o)) (sym (office-last last words)))
 
-    module _ (r : ℕ) (is : r ≡ served o) (turn : last ≤ 7) (b : Bool)
-        (told : b ≡ not (some (length words) (λ (i : ℕ). not (eqb i r) && spoilt (stateOf (getD words i []))))) where
-      abbrev other : ℕ → Bool
-      other i = not (eqb i r) && spoilt (stateOf (getD words i []))
+  module _ (r : ℕ) (b : Bool) (known : Judged last words r b) where
+    abbrev other : ℕ → Bool
+    other i = not (eqb i r) && spoilt (stateOf (getD words i []))
 
-      judged : b ≡ not (some 8 other)
-      judged = told ∙ ap (λ (n : ℕ). not (some n other)) eight
+    judged : b ≡ not (some 8 other)
+    judged = known .told ∙ ap (λ (n : ℕ). not (some n other)) (known .eight)
 
-      pub told-others : not b ≡ true → Told 10 last words
-      told-others e =
-          let f : some 8 other ≡ true = not-false (some 8 other) (sym judged ∙ not-true b e) in
-          let (i, h, q) = some-exact 8 other .0 f in
-          let s : spoilt (seat i o) ≡ true = rw (at i h) (and-right (not (eqb i r)) (spoilt (stateOf (getD words i []))) q) in
-          tick-stays o 10 (tick-spoilt o i h s) (omega arith)
+    pub told-others : not b ≡ true → Told 10 last words
+    told-others e =
+        let f : some 8 other ≡ true = not-false (some 8 other) (sym judged ∙ not-true b e) in
+        let (i, h, q) = some-exact 8 other .0 f in
+        let s : spoilt (seat i o) ≡ true = rw (at (known .eight) i h) (and-right (not (eqb i r)) (spoilt (stateOf (getD words i []))) q) in
+        tick-stays o 10 (tick-spoilt o i h s) (omega arith)
 
-      module _ (clean : not b ≡ false) where
-        others : (j : ℕ) → j < 8 → (j ≡ served o → ⊥) → spoilt (seat j o) ≡ false
-        others j h n =
-            let f : some 8 other ≡ false = not-true (some 8 other) (sym judged ∙ not-false b clean) in
-            let e : eqb j r ≡ false = ne-eqb j r (λ q. n (q ∙ is)) in
-            let g : other j ≡ false = some-none 8 other f j h in
-            rw (at j h) (rw e at g)
+    module _ (clean : not b ≡ false) where
+      others : (j : ℕ) → j < 8 → (j ≡ served o → ⊥) → spoilt (seat j o) ≡ false
+      others j h n =
+          let f : some 8 other ≡ false = not-true (some 8 other) (sym judged ∙ not-false b clean) in
+          let e : eqb j r ≡ false = ne-eqb j r (λ q. n (q ∙ known .is)) in
+          let g : other j ≡ false = some-none 8 other f j h in
+          rw (at (known .eight) j h) (rw e at g)
 
-        low : o .last ≤ 7
-        low = rw (office-last last words) turn
+      low : o .last ≤ 7
+      low = rw (office-last last words) (known .turn)
 
-        pub told-over : 7 < r → Told 11 last words
-        told-over h = tick-stays o 11 (tick-over o low others (rw (sym is) h)) (omega arith)
+      pub told-over : 7 < r → Told 11 last words
+      told-over h = tick-stays o 11 (tick-over o low others (rw (sym (known .is)) h)) (omega arith)
 
-        module _ (below : r ≤ 7) (number : ℕ) (new : List ℕ)
-            (said : number ≡ numberOf (roundAnswer (stateOf (getD words r [])) .reply)) (left : stateOf new ≡ roundAnswer (stateOf (getD words r [])) .state) where
-          here : seat (served o) o ≡ stateOf (getD words r [])
-          here = rw (sym is) (at r (omega arith))
+      module _ (below : r ≤ 7) (number : ℕ) (new : List ℕ)
+          (said : number ≡ numberOf (roundAnswer (stateOf (getD words r [])) .reply)) (left : stateOf new ≡ roundAnswer (stateOf (getD words r [])) .state) where
+        here : seat (served o) o ≡ stateOf (getD words r [])
+        here = rw (sym (known .is)) (at (known .eight) r (omega arith))
 
-          due : served o ≤ 7
-          due = rw (sym is) below
+        due : served o ≤ 7
+        due = rw (sym (known .is)) below
 
-          going : finished (stateOf (getD words r [])) ≡ false
-          going = rw here at (waiting-parts (seat (served o) o) (served-waits o low others due) .1)
+        going : finished (stateOf (getD words r [])) ≡ false
+        going = rw here at (waiting-parts (seat (served o) o) (served-waits o low others due) .1)
 
-          pub told-refused : (number ≡ 0 → ⊥) → Told number last (set words r new)
-          told-refused h = go (either (wellFormed (stateOf (getD words r []))))
-            where
-              go : (wellFormed (stateOf (getD words r [])) ≡ true) ⊎ (wellFormed (stateOf (getD words r [])) ≡ false) → Told number last (set words r new)
-              go (inl w) = absurd (h (said ∙ round-made (stateOf (getD words r [])) w going .0))
-              go (inr w) =
-                  let u = round-unkept (stateOf (getD words r [])) w in
-                  let t = tick-stays o 10 (tick-unkept o low others due (rw here w)) (omega arith) in
-                  (said ∙ (u .0 ∙ t .0), same-office last words r new (left ∙ u .1) ∙ t .1)
+        pub told-refused : (number ≡ 0 → ⊥) → Told number last (set words r new)
+        told-refused h = go (either (wellFormed (stateOf (getD words r []))))
+          where
+            go : (wellFormed (stateOf (getD words r [])) ≡ true) ⊎ (wellFormed (stateOf (getD words r [])) ≡ false) → Told number last (set words r new)
+            go (inl w) = absurd (h (said ∙ round-made (stateOf (getD words r [])) w going .0))
+            go (inr w) =
+                let u = round-unkept (stateOf (getD words r [])) w in
+                let t = tick-stays o 10 (tick-unkept o low others due (rw here w)) (omega arith) in
+                (said ∙ (u .0 ∙ t .0), same-office last words r new (left ∙ u .1) ∙ t .1)
 
-          pub told-given : number ≡ 0 → Told 0 r (set words r new)
-          told-given z = go (either (wellFormed (stateOf (getD words r []))))
-            where
-              go : (wellFormed (stateOf (getD words r [])) ≡ true) ⊎ (wellFormed (stateOf (getD words r [])) ≡ false) → Told 0 r (set words r new)
-              go (inr w) = let q : _≡_ {A = ℕ} 10 0 = sym (round-unkept (stateOf (getD words r [])) w .0) ∙ (sym said ∙ z) in absurd (omega arith)
-              go (inl w) =
-                  let m = round-made (stateOf (getD words r [])) w going in
-                  let e : tickRefusal o ≡ 0 = tick-given o low others due (rw here w) in
-                  let step-here : stateOf new ≡ step (seat r o) = left ∙ (m .1 ∙ ap step (sym (at r (omega arith)))) in
-                  (sym e, office-given last words r new step-here ∙ (ap (λ (i : ℕ). given i o) is ∙ sym (tick-made o e)))
+        pub told-given : number ≡ 0 → Told 0 r (set words r new)
+        told-given z = go (either (wellFormed (stateOf (getD words r []))))
+          where
+            go : (wellFormed (stateOf (getD words r [])) ≡ true) ⊎ (wellFormed (stateOf (getD words r [])) ≡ false) → Told 0 r (set words r new)
+            go (inr w) = let q : _≡_ {A = ℕ} 10 0 = sym (round-unkept (stateOf (getD words r [])) w .0) ∙ (sym said ∙ z) in absurd (omega arith)
+            go (inl w) =
+                let m = round-made (stateOf (getD words r [])) w going in
+                let e : tickRefusal o ≡ 0 = tick-given o low others due (rw here w) in
+                let step-here : stateOf new ≡ step (seat r o) = left ∙ (m .1 ∙ ap step (sym (at (known .eight) r (omega arith)))) in
+                (sym e, office-given last words r new step-here ∙ (ap (λ (i : ℕ). given i o) (known .is) ∙ sym (tick-made o e)))
 
 -- ---- a load of a seat
 

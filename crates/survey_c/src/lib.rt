@@ -24,7 +24,7 @@ pub extern "C" fn link_survey_report(input: &[u8], out: &mut [u8]) -> u32
     ensures count { λ r. ⌜ r ≡ laidCount (printed (now (input .entry))) (length (now (out .entry))) ⌝ }
     ensures bytes { λ _. ⌜ now (out .exit) ≡ laidOver (printed (now (input .entry))) (now (out .entry)) ⌝ }
 {
-    reporter::report_on_words(input, out)
+    reporter_on_words::report(input, out)
 }
 
 // Load, of a fresh table: 4 to 6, 15, 16, 7 to 9, 22.

@@ -6,7 +6,7 @@ use libc::STDOUT_FILENO;
 
 // Whether the report of the input is, byte for byte, what is expected.
 fn as_expected(input: &[u8], expected: &[u8]) -> bool {
-    let mut out = [0u8; reporter::MAX_OUTPUT];
+    let mut out = [0u8; printed::MAX_OUTPUT];
     let count = reporter::report(input, &mut out) as usize;
     front_is(&out, count, expected)
 }

@@ -1,6 +1,9 @@
 -- The number, and the state by it.
-use mathlib.Core.Path.{sym, _∙_}
-use Rattle.lent.specs.FaceLaws.{load-number, load-state}
+use mathlib.Core.Path.{refl, sym, _∙_}
+use Rattle.state.specs.declared.reply.Reply.the-variants.{Done}
+use Rattle.machine.specs.Load.{Input, loadRefusal, loaded}
+use Rattle.machine.specs.Calls.{loadAnswer}
+use Rattle.machine.specs.AnswerLaws.{answered-number, answered-state}
 use Rattle.words.specs.Layout.{stateOf}
 use borrow.Author.Needs.{needs}
 use Rattle.lent.proofs.load.Statement.{statement}
@@ -13,9 +16,14 @@ cast-result : tie.Need-cast-result
 cast-result c = search needs
 
 returns : tie.Need-returns
+unfolding loadAnswer
 returns c =
     let a = c .before .before .before .args in
-    (c .load .ensures .0 ∙ sym (load-number _ (stateOf (a .state .now))), c .load .ensures .1 ∙ sym (load-state _ (stateOf (a .state .now))))
+    let input : Input = record { units = a .units; words = a .table .now; levels = a .levels .now } in
+    let s = stateOf (a .state .now) in (
+      c .load .ensures .0 ∙ sym (answered-number (loadRefusal input) s (loaded input) Done refl),
+      c .load .ensures .1 ∙ sym (answered-state (loadRefusal input) s (loaded input) Done),
+    )
 
 pub load-spec : {M : Type 1} → statement M
 load-spec = tie.close (tie.spec load-requires cast-result returns)

@@ -1,6 +1,9 @@
 -- The number, and the state by it.
-use mathlib.Core.Path.{sym, _∙_}
-use Rattle.lent.specs.FaceLaws.{planned-load-number, planned-load-state}
+use mathlib.Core.Path.{refl, sym, _∙_}
+use Rattle.state.specs.declared.reply.Reply.the-variants.{Done}
+use Rattle.machine.specs.Load.{Input, plannedLoadRefusal, plannedLoaded}
+use Rattle.machine.specs.Calls.{plannedLoadAnswer}
+use Rattle.machine.specs.AnswerLaws.{answered-number, answered-state}
 use Rattle.words.specs.Layout.{stateOf}
 use borrow.Author.Needs.{needs}
 use Rattle.lent.proofs.load_planned.Statement.{statement}
@@ -13,9 +16,14 @@ cast-result : tie.Need-cast-result
 cast-result c = search needs
 
 returns : tie.Need-returns
+unfolding plannedLoadAnswer
 returns c =
     let a = c .before .before .before .before .args in
-    (c .load-planned .ensures .0 ∙ sym (planned-load-number _ _ (stateOf (a .state .now))), c .load-planned .ensures .1 ∙ sym (planned-load-state _ _ (stateOf (a .state .now))))
+    let input : Input = record { units = a .units; words = a .table .now; levels = a .levels .now } in
+    let s = stateOf (a .state .now) in (
+      c .load-planned .ensures .0 ∙ sym (answered-number (plannedLoadRefusal input (a .parents .now)) s (plannedLoaded input (a .parents .now)) Done refl),
+      c .load-planned .ensures .1 ∙ sym (answered-state (plannedLoadRefusal input (a .parents .now)) s (plannedLoaded input (a .parents .now)) Done),
+    )
 
 pub load-planned-spec : {M : Type 1} → statement M
 load-planned-spec = tie.close (tie.spec load-planned-requires cast-result returns)

@@ -1,6 +1,9 @@
 -- The number, and the state by it.
-use mathlib.Core.Path.{sym, _∙_}
-use Rattle.lent.specs.FaceLaws.{stored-load-number, stored-load-state}
+use mathlib.Core.Path.{refl, sym, _∙_}
+use Rattle.state.specs.declared.reply.Reply.the-variants.{Done}
+use Rattle.machine.specs.Load.{Input, storedLoadRefusal, loaded}
+use Rattle.machine.specs.Calls.{storedLoadAnswer}
+use Rattle.machine.specs.AnswerLaws.{answered-number, answered-state}
 use Rattle.words.specs.Layout.{stateOf}
 use borrow.Author.Needs.{needs}
 use Rattle.lent.proofs.load_stored.Statement.{statement}
@@ -13,9 +16,14 @@ cast-result : tie.Need-cast-result
 cast-result c = search needs
 
 returns : tie.Need-returns
+unfolding storedLoadAnswer
 returns c =
     let a = c .before .before .before .args in
-    (c .load-stored .ensures .0 ∙ sym (stored-load-number _ (stateOf (a .state .now))), c .load-stored .ensures .1 ∙ sym (stored-load-state _ (stateOf (a .state .now))))
+    let input : Input = record { units = a .units; words = a .table .now; levels = a .levels .now } in
+    let s = stateOf (a .state .now) in (
+      c .load-stored .ensures .0 ∙ sym (answered-number (storedLoadRefusal input) s (loaded input) Done refl),
+      c .load-stored .ensures .1 ∙ sym (answered-state (storedLoadRefusal input) s (loaded input) Done),
+    )
 
 pub load-stored-spec : {M : Type 1} → statement M
 load-stored-spec = tie.close (tie.spec load-stored-requires cast-result returns)

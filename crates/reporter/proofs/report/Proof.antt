@@ -1,7 +1,8 @@
 -- What was read, then surveyed.
 use mathlib.Core.Path.{sym}
 use lib.Seq.{length-take-le}
-use Rattle.printed.specs.LaidLaws.{laid-fits}
+use Rattle.printed.specs.Printed.{WORDS, LEVELS, printed}
+use Rattle.printed.specs.LaidLaws.{laid-fits, taken-table}
 use borrow.Author.Needs.{needs}
 use Rattle.reporter.proofs.report.Statement.{statement}
 use Rattle.reporter.proofs.report.Tie as tie
@@ -37,9 +38,11 @@ same-length : tie.Need-same-length
 same-length c = search needs
 
 returns : tie.Need-returns
+unfolding printed
 returns c =
     let r = c .before .before .surveyed in
-    rw (c .before .before .before .before .before .before .before .before .taken .ensures .1) (r .ensures .0, (r .ensures .1, rw (r .ensures .0) (laid-fits _ _)))
+    let t = c .before .before .before .before .before .before .before .before .taken .ensures in
+    rw (sym (taken-table _ WORDS LEVELS _ _ _ _ _ _ _ (t .0) (t .1 .0) (t .1 .1 .0) (t .1 .1 .1 .1 .0) (t .1 .1 .1 .1 .1))) (r .ensures .0, (r .ensures .1, rw (r .ensures .0) (laid-fits _ _)))
 
 pub report-spec : {M : Type 1} → statement M
 report-spec =

@@ -1,5 +1,5 @@
 -- The turn, the other seats, whether some seat waits, and its round.
-use Rattle.seats.specs.ServeLaws.{told-high, seat-served, told-others, told-over, told-refused, told-given}
+use Rattle.seats.specs.ServeLaws.{Judged, told-high, seat-served, told-others, told-over, told-refused, told-given}
 use borrow.Author.Needs.{needs}
 use Rattle.seats.proofs.serve.Statement.{statement}
 use Rattle.seats.proofs.serve.Tie as tie
@@ -16,28 +16,25 @@ pick-requires c κs = search needs
 others-sound-requires : tie.Need-others-sound-requires
 others-sound-requires c κs = search needs
 
-returns-2 : tie.Need-returns-2
-returns-2 c =
-    let os = c .before in
+abbrev start : tie.After-others-sound → tie.Start
+start os = os .before .before .before .before .before .before .before
+
+judged : (os : tie.After-others-sound) → Judged (start os .args .last) (start os .args .seats .now) (os .before .before .before .pick .result) (os .others-sound .result)
+judged os =
     let p = os .before .before .before in
-    let f = p .before in
-    let e1 = f .before .before in
-    let a = e1 .before .args in
     let eight = os .before .others-sound-arg2 .given .0 in
-    told-others (a .last) (a .seats .now) eight (p .pick .result) (seat-served (a .last) (a .seats .now) eight (f .flags .result) (p .pick .result) (f .flags .ensures) (p .pick .ensures))
-    (e1 .if1 .left) (os .others-sound .result) (os .others-sound .ensures) (c .if2 .taken)
+    record {
+      eight = eight;
+      is = seat-served (start os .args .last) (start os .args .seats .now) eight (p .before .flags .result) (p .pick .result) (p .before .flags .ensures) (p .pick .ensures);
+      turn = p .before .before .before .if1 .left;
+      told = os .others-sound .ensures;
+    }
+
+returns-2 : tie.Need-returns-2
+returns-2 c = told-others _ _ _ _ (judged (c .before)) (c .if2 .taken)
 
 returns-3 : tie.Need-returns-3
-returns-3 c =
-    let e2 = c .before in
-    let os = e2 .before in
-    let p = os .before .before .before in
-    let f = p .before in
-    let e1 = f .before .before in
-    let a = e1 .before .args in
-    let eight = os .before .others-sound-arg2 .given .0 in
-    told-over (a .last) (a .seats .now) eight (p .pick .result) (seat-served (a .last) (a .seats .now) eight (f .flags .result) (p .pick .result) (f .flags .ensures) (p .pick .ensures))
-    (e1 .if1 .left) (os .others-sound .result) (os .others-sound .ensures) (e2 .if2 .left) (c .if3 .taken)
+returns-3 c = told-over _ _ _ _ (judged (c .before .before)) (c .before .if2 .left) (c .if3 .taken)
 
 cast-round : tie.Need-cast-round
 cast-round c = search needs
@@ -55,29 +52,13 @@ returns-4 : tie.Need-returns-4
 returns-4 c =
     let r = c .before in
     let e3 = r .before .before in
-    let e2 = e3 .before in
-    let os = e2 .before in
-    let p = os .before .before .before in
-    let f = p .before in
-    let e1 = f .before .before in
-    let a = e1 .before .args in
-    let eight = os .before .others-sound-arg2 .given .0 in
-    told-refused (a .last) (a .seats .now) eight (p .pick .result) (seat-served (a .last) (a .seats .now) eight (f .flags .result) (p .pick .result) (f .flags .ensures) (p .pick .ensures))
-    (e1 .if1 .left) (os .others-sound .result) (os .others-sound .ensures) (e2 .if2 .left) (e3 .if3 .left) (r .round .result) _ (r .round .ensures .0) (r .round .ensures .1) (c .if4 .taken)
+    told-refused _ _ _ _ (judged (e3 .before .before)) (e3 .before .if2 .left) (e3 .if3 .left) (r .round .result) _ (r .round .ensures .0) (r .round .ensures .1) (c .if4 .taken)
 
 returns-5 : tie.Need-returns-5
 returns-5 c =
     let r = c .before in
     let e3 = r .before .before in
-    let e2 = e3 .before in
-    let os = e2 .before in
-    let p = os .before .before .before in
-    let f = p .before in
-    let e1 = f .before .before in
-    let a = e1 .before .args in
-    let eight = os .before .others-sound-arg2 .given .0 in
-    told-given (a .last) (a .seats .now) eight (p .pick .result) (seat-served (a .last) (a .seats .now) eight (f .flags .result) (p .pick .result) (f .flags .ensures) (p .pick .ensures))
-    (e1 .if1 .left) (os .others-sound .result) (os .others-sound .ensures) (e2 .if2 .left) (e3 .if3 .left) (r .round .result) _ (r .round .ensures .0) (r .round .ensures .1) (c .if4 .left)
+    told-given _ _ _ _ (judged (e3 .before .before)) (e3 .before .if2 .left) (e3 .if3 .left) (r .round .result) _ (r .round .ensures .0) (r .round .ensures .1) (c .if4 .left)
 
 pub serve-spec : {M : Type 1} → statement M
 serve-spec =

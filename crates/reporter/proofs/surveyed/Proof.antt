@@ -1,15 +1,16 @@
 -- Load, run, report by value, by whether the reading and the table pass.
-use mathlib.Core.Path.{_≡_, sym, ap, _∙_}
+use mathlib.Core.Path.{_≡_, refl, sym, ap, _∙_}
 use lib.ListN.{length}
-use Rattle.machine.specs.Load.{Input, storedLoadRefusal}
-use Rattle.machine.specs.Calls.{Answer, numberOf}
+use Rattle.state.specs.declared.reply.Reply.the-variants.{Done}
+use Rattle.machine.specs.Load.{Input, storedLoadRefusal, loaded}
+use Rattle.machine.specs.Calls.{Answer, numberOf, storedLoadAnswer}
 use Rattle.survey.specs.View.{of}
-use Rattle.lent.specs.FaceLaws.{stored-load-number}
+use Rattle.machine.specs.AnswerLaws.{answered-number}
 use Rattle.printed.specs.Printed.{countOf, surveyed}
 use Rattle.printed.specs.LaidLaws.{table-refused, survey-left, report-laid, report-count, read-refused, read-taken}
 use borrow.Author.Needs.{needs}
-use Rattle.printed_by_value.proofs.surveyed.Statement.{statement}
-use Rattle.printed_by_value.proofs.surveyed.Tie as tie
+use Rattle.reporter.proofs.surveyed.Statement.{statement}
+use Rattle.reporter.proofs.surveyed.Tie as tie
 
 -- what is loaded
 abbrev taken : tie.After-number-of → Input
@@ -19,7 +20,8 @@ taken n =
 
 -- the number of the load
 told : (n : tie.After-number-of) → n .number-of .result ≡ storedLoadRefusal (taken n)
-told n = n .number-of .ensures ∙ (ap (λ (a : Answer). numberOf (a .reply)) (n .before .load-stored .ensures) ∙ stored-load-number (taken n) _)
+unfolding storedLoadAnswer
+told n = n .number-of .ensures ∙ (ap (λ (a : Answer). numberOf (a .reply)) (n .before .load-stored .ensures) ∙ answered-number (storedLoadRefusal (taken n)) _ (loaded (taken n)) Done refl)
 
 accepted : (e : tie.Else2) → storedLoadRefusal (taken (e .before)) ≡ 0
 accepted e = sym (told (e .before)) ∙ e .if2 .left

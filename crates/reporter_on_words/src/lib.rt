@@ -1,11 +1,30 @@
-// A table that was read, loaded, surveyed and reported on the words of a state.
+// From the bytes of a survey file to the bytes of its report, on the words of a state: for a caller with a small stack.
 use words::STATE_WORDS;
 ghost use mathlib.Core.Path.{_≡_};
 ghost use lib.ListN.{length};
-ghost use Rattle.printed.specs.Printed.{printedRead, laidOver, laidCount};
+ghost use Rattle.printed.specs.Printed.{printedRead, printed, laidOver, laidCount};
+
+// Prints over the front of `out` and gives the number of bytes: the report, or only a refusal's line; where `out` is too short, nothing and 0.
+pub fn report(input: &[u8], out: &mut [u8]) -> u32
+    ensures count { λ r. ⌜ r ≡ laidCount (printed (now (input .entry))) (length (now (out .entry))) ⌝ }
+    ensures bytes { λ _. ⌜ now (out .exit) ≡ laidOver (printed (now (input .entry))) (now (out .entry)) ⌝ }
+{
+    let mut words: [u16; 2048] = [0; 2048];
+    let mut levels: [i16; 1024] = [0; 1024];
+    let found = printed::taken(input, &mut words, &mut levels);
+    let links = found.links;
+    let end = 2 * links;
+    surveyed(
+        found.unread,
+        found.units,
+        &words[..end],
+        &levels[..links],
+        out,
+    )
+}
 
 // A table loaded as a stored one, surveyed to the end and reported, unless reading was refused.
-pub fn surveyed(unread: u8, units: u16, table: &[u16], levels: &[i16], out: &mut [u8]) -> u32
+fn surveyed(unread: u8, units: u16, table: &[u16], levels: &[i16], out: &mut [u8]) -> u32
     ensures count { λ r. ⌜ r ≡ laidCount (printedRead unread (record { units = units; words = now (table .entry); levels = now (levels .entry) })) (length (now (out .entry))) ⌝ }
     ensures bytes { λ _. ⌜ now (out .exit) ≡ laidOver (printedRead unread (record { units = units; words = now (table .entry); levels = now (levels .entry) })) (now (out .entry)) ⌝ }
 {

@@ -1,9 +1,11 @@
 -- What was read, then surveyed.
 use mathlib.Core.Path.{sym}
 use lib.Seq.{length-take-le}
+use Rattle.printed.specs.Printed.{WORDS, LEVELS, printed}
+use Rattle.printed.specs.LaidLaws.{taken-table}
 use borrow.Author.Needs.{needs}
-use Rattle.reporter.proofs.report_on_words.Statement.{statement}
-use Rattle.reporter.proofs.report_on_words.Tie as tie
+use Rattle.reporter_on_words.proofs.report.Statement.{statement}
+use Rattle.reporter_on_words.proofs.report.Tie as tie
 
 slice-aggregate-taken : tie.Need-slice-aggregate-taken
 slice-aggregate-taken c = search needs
@@ -36,12 +38,14 @@ same-length : tie.Need-same-length
 same-length c = search needs
 
 returns : tie.Need-returns
+unfolding printed
 returns c =
     let r = c .before .before .surveyed in
-    rw (c .before .before .before .before .before .before .before .before .taken .ensures .1) (r .ensures .0, r .ensures .1)
+    let t = c .before .before .before .before .before .before .before .before .taken .ensures in
+    rw (sym (taken-table _ WORDS LEVELS _ _ _ _ _ _ _ (t .0) (t .1 .0) (t .1 .1 .0) (t .1 .1 .1 .1 .0) (t .1 .1 .1 .1 .1))) (r .ensures .0, r .ensures .1)
 
-pub report-on-words-spec : {M : Type 1} → statement M
-report-on-words-spec =
+pub report-spec : {M : Type 1} → statement M
+report-spec =
     tie.close
     (tie.spec
     slice-aggregate-taken

@@ -1,17 +1,19 @@
 -- Load, run, report on the words of a state, by whether the reading and the table pass.
-use mathlib.Core.Path.{_≡_, sym, _∙_}
+use mathlib.Core.Path.{_≡_, refl, sym, _∙_}
 use Prim.Native.Nat.{_≤_}
 use native.Mathlib.Omega.{arith}
 use lib.ListN.{length}
-use Rattle.machine.specs.Load.{Input, storedLoadRefusal}
+use Rattle.state.specs.declared.reply.Reply.the-variants.{Done}
+use Rattle.machine.specs.Load.{Input, storedLoadRefusal, loaded}
 use Rattle.machine.specs.LoadLaws.{passed-fits}
+use Rattle.machine.specs.Calls.{storedLoadAnswer}
 use Rattle.words.specs.Layout.{stateOf}
-use Rattle.lent.specs.FaceLaws.{stored-load-number}
+use Rattle.machine.specs.AnswerLaws.{answered-number}
 use Rattle.printed.specs.Printed.{surveyed, printedTable, laidOver}
 use Rattle.printed.specs.LaidLaws.{number-byte, table-refused, survey-left, report-laid, report-none, report-all, read-refused, read-taken}
 use borrow.Author.Needs.{needs}
-use Rattle.printed_on_words.proofs.surveyed.Statement.{statement}
-use Rattle.printed_on_words.proofs.surveyed.Tie as tie
+use Rattle.reporter_on_words.proofs.surveyed.Statement.{statement}
+use Rattle.reporter_on_words.proofs.surveyed.Tie as tie
 
 -- what is loaded
 abbrev taken : tie.After-load-stored → Input
@@ -21,7 +23,8 @@ taken l =
 
 -- the number of the load
 told : (l : tie.After-load-stored) → l .load-stored .result ≡ storedLoadRefusal (taken l)
-told l = l .load-stored .ensures .0 ∙ stored-load-number (taken l) _
+unfolding storedLoadAnswer
+told l = l .load-stored .ensures .0 ∙ answered-number (storedLoadRefusal (taken l)) _ (loaded (taken l)) Done refl
 
 accepted : (e : tie.Else2) → storedLoadRefusal (taken (e .before)) ≡ 0
 accepted e = sym (told (e .before)) ∙ e .if2 .left
