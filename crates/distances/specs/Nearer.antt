@@ -44,28 +44,28 @@ offersNearer far z a b t =
 unfoldable pub nearestTable : ℕ → List ℕ → List ℤ → List ℕ → List ℕ → List ℕ
 nearestTable j ends levels far old = over maxUnits (nearestKey j ends levels far) old
 
--- one link, by which end is nearer: f is a's distance, g b's, d v's
-module _ (f g d a b v x y none : ℕ) (isA : a ≡ v → d ≡ f) (isB : b ≡ v → d ≡ g) where
+-- one link of ends a and b, by which is nearer: what it gives v, x where that is b and y where it is a
+module _ (far : List ℕ) (a b v x y none : ℕ) where
   abbrev given : ℕ
-  given = cond (eqb a v && eqb (g + 1) d) y (cond (eqb b v && eqb (f + 1) d) x none)
+  given = cond (eqb a v && eqb (at far b + 1) (at far v)) y (cond (eqb b v && eqb (at far a + 1) (at far v)) x none)
 
   -- b takes x, and a nothing
-  first-nearer : f + 1 ≡ g → Dec (a ≡ v) → Dec (b ≡ v) → cond (eqb b v) x none ≡ given
-  first-nearer e (yes p) (yes q) = absurd (omega (arith, e, isA p, isB q))
-  first-nearer e (yes p) (no q) = rw (ne-eqb b v q, eq-eqb a v p, ne-eqb (g + 1) d (λ h. omega (arith, e, h, isA p))) refl
-  first-nearer e (no p) (yes q) = rw (eq-eqb b v q, ne-eqb a v p, eq-eqb (f + 1) d (omega (arith, e, isB q))) refl
+  first-nearer : at far a + 1 ≡ at far b → Dec (a ≡ v) → Dec (b ≡ v) → cond (eqb b v) x none ≡ given
+  first-nearer e (yes p) (yes q) = absurd (omega (arith, e, ap (at far) p, ap (at far) q))
+  first-nearer e (yes p) (no q) = rw (ne-eqb b v q, eq-eqb a v p, ne-eqb (at far b + 1) (at far v) (λ h. omega (arith, e, h, ap (at far) p))) refl
+  first-nearer e (no p) (yes q) = rw (eq-eqb b v q, ne-eqb a v p, eq-eqb (at far a + 1) (at far v) (omega (arith, e, ap (at far) q))) refl
   first-nearer e (no p) (no q) = rw (ne-eqb b v q, ne-eqb a v p) refl
 
-  second-nearer : g + 1 ≡ f → Dec (a ≡ v) → Dec (b ≡ v) → cond (eqb a v) y none ≡ given
-  second-nearer e (yes p) (yes q) = absurd (omega (arith, e, isA p, isB q))
-  second-nearer e (yes p) (no q) = rw (eq-eqb a v p, eq-eqb (g + 1) d (omega (arith, e, isA p))) refl
-  second-nearer e (no p) (yes q) = rw (ne-eqb a v p, eq-eqb b v q, ne-eqb (f + 1) d (λ h. omega (arith, e, h, isB q))) refl
+  second-nearer : at far b + 1 ≡ at far a → Dec (a ≡ v) → Dec (b ≡ v) → cond (eqb a v) y none ≡ given
+  second-nearer e (yes p) (yes q) = absurd (omega (arith, e, ap (at far) p, ap (at far) q))
+  second-nearer e (yes p) (no q) = rw (eq-eqb a v p, eq-eqb (at far b + 1) (at far v) (omega (arith, e, ap (at far) p))) refl
+  second-nearer e (no p) (yes q) = rw (ne-eqb a v p, eq-eqb b v q, ne-eqb (at far a + 1) (at far v) (λ h. omega (arith, e, h, ap (at far) q))) refl
   second-nearer e (no p) (no q) = rw (ne-eqb a v p, ne-eqb b v q) refl
 
-  neither-nearer : f + 1 ≢ g → g + 1 ≢ f → Dec (a ≡ v) → Dec (b ≡ v) → none ≡ given
-  neither-nearer m n (yes p) (yes q) = rw (eq-eqb a v p, eq-eqb b v q, ne-eqb (g + 1) d (λ h. n (omega (arith, h, isA p))), ne-eqb (f + 1) d (λ h. m (omega (arith, h, isB q)))) refl
-  neither-nearer m n (yes p) (no q) = rw (eq-eqb a v p, ne-eqb b v q, ne-eqb (g + 1) d (λ h. n (omega (arith, h, isA p)))) refl
-  neither-nearer m n (no p) (yes q) = rw (ne-eqb a v p, eq-eqb b v q, ne-eqb (f + 1) d (λ h. m (omega (arith, h, isB q)))) refl
+  neither-nearer : at far a + 1 ≢ at far b → at far b + 1 ≢ at far a → Dec (a ≡ v) → Dec (b ≡ v) → none ≡ given
+  neither-nearer m n (yes p) (yes q) = rw (eq-eqb a v p, eq-eqb b v q, ne-eqb (at far b + 1) (at far v) (λ h. n (omega (arith, h, ap (at far) p))), ne-eqb (at far a + 1) (at far v) (λ h. m (omega (arith, h, ap (at far) q)))) refl
+  neither-nearer m n (yes p) (no q) = rw (eq-eqb a v p, ne-eqb b v q, ne-eqb (at far b + 1) (at far v) (λ h. n (omega (arith, h, ap (at far) p)))) refl
+  neither-nearer m n (no p) (yes q) = rw (ne-eqb a v p, eq-eqb b v q, ne-eqb (at far a + 1) (at far v) (λ h. m (omega (arith, h, ap (at far) q)))) refl
   neither-nearer m n (no p) (no q) = rw (ne-eqb a v p, ne-eqb b v q) refl
 
 module _ (ends : List ℕ) (levels : List ℤ) (far : List ℕ) where
@@ -74,63 +74,50 @@ module _ (ends : List ℕ) (levels : List ℤ) (far : List ℕ) where
   unfolding nearestKey nearestTable
   nearest-none cand blank = over-same 0 maxUnits (nearestKey 0 ends levels far) cand blank
 
-  -- one link more, by which end is nearer
-  more-first : (j : ℕ) (old t new : List ℕ) → t ≡ nearestTable j ends levels far old → at far (endA ends j) + 1 ≡ at far (endB ends j)
-      → new ≡ takesIn min maxUnits t (endB ends j) (keyOf (levelAt levels j) (endA ends j)) → new ≡ nearestTable (j + 1) ends levels far old
+  -- one link more that offers unit w a key: what it gives each unit is that key, at w alone
+  more-at : (j w key : ℕ) (old t new : List ℕ) → t ≡ nearestTable j ends levels far old → ((v : ℕ) → cond (eqb w v) key NO-KEY ≡ nearerBy ends levels far v j)
+      → new ≡ takesIn min maxUnits t w key → new ≡ nearestTable (j + 1) ends levels far old
   unfolding nearestKey nearestTable
-  more-first j old t new was e put =
-      let a = endA ends j in
-      let b = endB ends j in
-      let z = levelAt levels j in
+  more-at j w key old t new was offered put =
       rw (put, was, add-one j)
-      (single-over false maxUnits (nearestKey j ends levels far) (λ (v : ℕ). NO-KEY) old b (keyOf z a) (λ (v : ℕ). fold-again false j (nearerBy ends levels far v) NO-KEY)
-      ∙ over-cong maxUnits (λ (v : ℕ). min (nearestKey j ends levels far v) (cond (eqb b v) (keyOf z a) NO-KEY))
+      (single-over false maxUnits (nearestKey j ends levels far) (λ (v : ℕ). NO-KEY) old w key (λ (v : ℕ). fold-again false j (nearerBy ends levels far v) NO-KEY)
+      ∙ over-cong maxUnits (λ (v : ℕ). min (nearestKey j ends levels far v) (cond (eqb w v) key NO-KEY))
       (λ (v : ℕ). min (nearestKey j ends levels far v) (nearerBy ends levels far v j)) old
-      (λ (v : ℕ) (l : v < maxUnits).
-      ap (min (nearestKey j ends levels far v))
-      (first-nearer (at far a) (at far b) (at far v) a b v (keyOf z a) (keyOf z b) NO-KEY (λ p. ap (at far) (sym p)) (λ p. ap (at far) (sym p)) e (ℕ-discrete a v) (ℕ-discrete b v))))
+      (λ (v : ℕ) (l : v < maxUnits). ap (min (nearestKey j ends levels far v)) (offered v)))
 
-  more-second : (j : ℕ) (old t new : List ℕ) → t ≡ nearestTable j ends levels far old → at far (endB ends j) + 1 ≡ at far (endA ends j)
-      → new ≡ takesIn min maxUnits t (endA ends j) (keyOf (levelAt levels j) (endB ends j)) → new ≡ nearestTable (j + 1) ends levels far old
+  -- one that offers none
+  more-none : (j : ℕ) (old t new : List ℕ) → t ≡ nearestTable j ends levels far old → ((v : ℕ) → NO-KEY ≡ nearerBy ends levels far v j) → new ≡ t
+      → new ≡ nearestTable (j + 1) ends levels far old
   unfolding nearestKey nearestTable
-  more-second j old t new was e put =
-      let a = endA ends j in
-      let b = endB ends j in
-      let z = levelAt levels j in
-      rw (put, was, add-one j)
-      (single-over false maxUnits (nearestKey j ends levels far) (λ (v : ℕ). NO-KEY) old a (keyOf z b) (λ (v : ℕ). fold-again false j (nearerBy ends levels far v) NO-KEY)
-      ∙ over-cong maxUnits (λ (v : ℕ). min (nearestKey j ends levels far v) (cond (eqb a v) (keyOf z b) NO-KEY))
-      (λ (v : ℕ). min (nearestKey j ends levels far v) (nearerBy ends levels far v j)) old
-      (λ (v : ℕ) (l : v < maxUnits).
-      ap (min (nearestKey j ends levels far v))
-      (second-nearer (at far a) (at far b) (at far v) a b v (keyOf z a) (keyOf z b) NO-KEY (λ p. ap (at far) (sym p)) (λ p. ap (at far) (sym p)) e (ℕ-discrete a v) (ℕ-discrete b v))))
-
-  more-neither : (j : ℕ) (old t new : List ℕ) → t ≡ nearestTable j ends levels far old → at far (endA ends j) + 1 ≢ at far (endB ends j)
-      → at far (endB ends j) + 1 ≢ at far (endA ends j) → new ≡ t → new ≡ nearestTable (j + 1) ends levels far old
-  unfolding nearestKey nearestTable
-  more-neither j old t new was e f put =
-      let a = endA ends j in
-      let b = endB ends j in
-      let z = levelAt levels j in
+  more-none j old t new was none put =
       rw (put, was, add-one j)
       (over-cong maxUnits (nearestKey j ends levels far) (λ (v : ℕ). min (nearestKey j ends levels far v) (nearerBy ends levels far v j)) old
-      (λ (v : ℕ) (l : v < maxUnits).
-      let none : NO-KEY ≡ nearerBy ends levels far v j =
-      neither-nearer (at far a) (at far b) (at far v) a b v (keyOf z a) (keyOf z b) NO-KEY (λ p. ap (at far) (sym p)) (λ p. ap (at far) (sym p)) e f (ℕ-discrete a v) (ℕ-discrete b v) in
-      rw (← none) (omega (arith, least-start j (nearerBy ends levels far v) NO-KEY))))
+      (λ (v : ℕ) (l : v < maxUnits). rw (← none v) (omega (arith, least-start j (nearerBy ends levels far v) NO-KEY))))
 
+  -- one link more, by which end is nearer
   pub nearest-more : (j : ℕ) (old t new : List ℕ) (z : ℤ) → z ≡ levelAt levels j → t ≡ nearestTable j ends levels far old
       → new ≡ offersNearer far z (endA ends j) (endB ends j) t → new ≡ nearestTable (j + 1) ends levels far old
-  nearest-more j old t new z level was put =
-      go (ℕ-discrete (at far (endA ends j) + 1) (at far (endB ends j))) (ℕ-discrete (at far (endB ends j) + 1) (at far (endA ends j)))
+  nearest-more j old t new z level was put = go (ℕ-discrete (at far a + 1) (at far b)) (ℕ-discrete (at far b + 1) (at far a))
     where
-      go : Dec (at far (endA ends j) + 1 ≡ at far (endB ends j)) → Dec (at far (endB ends j) + 1 ≡ at far (endA ends j)) → new ≡ nearestTable (j + 1) ends levels far old
-      go (yes e) f = more-first j old t new was e (rw (eq-eqb (at far (endA ends j) + 1) (at far (endB ends j)) e, level) at put)
+      a : ℕ
+      a = endA ends j
+
+      b : ℕ
+      b = endB ends j
+
+      key : ℕ → ℕ
+      key = keyOf (levelAt levels j)
+
+      go : Dec (at far a + 1 ≡ at far b) → Dec (at far b + 1 ≡ at far a) → new ≡ nearestTable (j + 1) ends levels far old
+      go (yes e) f =
+          more-at j b (key a) old t new was (λ v. first-nearer far a b v (key a) (key b) NO-KEY e (ℕ-discrete a v) (ℕ-discrete b v))
+          (rw (eq-eqb (at far a + 1) (at far b) e, level) at put)
       go (no e) (yes f) =
-          more-second j old t new was f
-          (rw (ne-eqb (at far (endA ends j) + 1) (at far (endB ends j)) e, eq-eqb (at far (endB ends j) + 1) (at far (endA ends j)) f, level) at put)
+          more-at j a (key b) old t new was (λ v. second-nearer far a b v (key a) (key b) NO-KEY f (ℕ-discrete a v) (ℕ-discrete b v))
+          (rw (ne-eqb (at far a + 1) (at far b) e, eq-eqb (at far b + 1) (at far a) f, level) at put)
       go (no e) (no f) =
-          more-neither j old t new was e f (rw (ne-eqb (at far (endA ends j) + 1) (at far (endB ends j)) e, ne-eqb (at far (endB ends j) + 1) (at far (endA ends j)) f) at put)
+          more-none j old t new was (λ v. neither-nearer far a b v (key a) (key b) NO-KEY e f (ℕ-discrete a v) (ℕ-discrete b v))
+          (rw (ne-eqb (at far a + 1) (at far b) e, ne-eqb (at far b + 1) (at far a) f) at put)
 
   -- the whole table, by its entries
   pub nearest-all : (m j : ℕ) (old t : List ℕ) → length old ≡ maxUnits → t ≡ nearestTable j ends levels far old → j ≤ m → m ≤ j
