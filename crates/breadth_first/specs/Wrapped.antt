@@ -1,13 +1,13 @@
 -- Ends of links read below 256, the rest of a greater number: where the links fit they are the ends themselves.
 use mathlib.Core.Path.{_≡_, refl, ap, _∙_}
-use mathlib.Core.Bool.{Bool, not}
+use mathlib.Core.Bool.{not}
 use mathlib.Core.List.{List, map}
-use Prim.Native.Nat.{ℕ, zero, suc, _+_, _*_, _%_, _<_, min}
+use Prim.Native.Nat.{ℕ, _+_, _*_, _%_, _<_, min}
 use native.Mathlib.Omega.{arith}
 use lib.IntN.{ℤ}
 use lib.ListN.{List·getD-map}
 use Rattle.lists.specs.FoldLaws.{fold-cong}
-use Rattle.lists.specs.Folds.{some}
+use Rattle.lists.specs.Some.{some-cong}
 use Rattle.lists.specs.Tables.{over-cong}
 use Rattle.table.specs.Table.{endA, endB}
 use Rattle.rules.specs.Fits.{EndsWithin}
@@ -24,10 +24,6 @@ module _ (ends : List ℕ) (j : ℕ) where
   pub second-wrapped : endB (wrapped ends) j ≡ endB ends j % 256
   unfolding wrapped
   second-wrapped = List·getD-map (λ (x : ℕ). x % 256) ends (2 * j + 1) 0
-
-some-cong : (n : ℕ) (f g : ℕ → Bool) → ((v : ℕ) → f v ≡ g v) → some n f ≡ some n g
-some-cong zero f g h = refl
-some-cong (suc n) f g h = rw (some-cong n f g h, h n) refl
 
 module _ (m made : ℕ) (ends : List ℕ) (levels : List ℤ) (color dist : List ℕ) (within : EndsWithin 256 m ends) where
   best-wrapped : (v : ℕ) → bestKey m made (wrapped ends) levels dist v ≡ bestKey m made ends levels dist v
@@ -53,4 +49,4 @@ module _ (m made : ℕ) (ends : List ℕ) (levels : List ℤ) (color dist : List
 
   pub ends-wrapped : (n : ℕ) → treeEnds n m made (wrapped ends) levels color dist ≡ treeEnds n m made ends levels color dist
   unfolding treeEnds
-  ends-wrapped n = ap not (some-cong n (visits m made (wrapped ends) levels color dist) (visits m made ends levels color dist) visits-wrapped)
+  ends-wrapped n = ap not (some-cong n (visits m made (wrapped ends) levels color dist) (visits m made ends levels color dist) (λ v l. visits-wrapped v))

@@ -1,6 +1,6 @@
 -- What is kept of the units while they come to stand: whether each is within reach, how much it waits for, and the order so far. One unit more stands.
 use mathlib.Core.Path.{_≡_, refl, sym, ap, ap₂, _∙_}
-use mathlib.Core.Bool.{Bool, true, false, cond, not, _&&_, _||_}
+use mathlib.Core.Bool.{Bool, true, false, cond, not, _&&_, _||_, or-assoc}
 use mathlib.Core.Logic.{_⊎_, inl, inr, _≢_}
 use mathlib.Core.List.{List, [], _∷_, _++_}
 use Prim.Native.Nat.{ℕ, zero, suc, _+_, _-_, _*_, _≤_, _<_, min}
@@ -16,7 +16,7 @@ use Rattle.lists.specs.Folds.{some, count, least}
 use Rattle.lists.specs.FoldLaws.{fold-cong}
 use Rattle.lists.specs.LeastLaws.{least-is, least-start}
 use Rattle.lists.specs.Parts.{memb}
-use Rattle.lists.specs.Some.{some-exact, some-none}
+use Rattle.lists.specs.Some.{some-exact, some-none, some-or}
 use Rattle.lists.specs.Tables.{over}
 use Rattle.lists.specs.Tests.{either, refuted, and-left, and-right, or-swap}
 use Rattle.table.specs.Table.{linkCount, endA, endB}
@@ -25,10 +25,6 @@ use Rattle.lifting_order.specs.Chains.{Words}
 use Rattle.lifting_order.specs.Marking.{joins, precedes, walked, touched-at, released-at, walked-length, set-at}
 
 -- ---- how the tests change where v comes to stand
-
-some-or : (m : ℕ) (p q r : ℕ → Bool) → ((j : ℕ) → p j ≡ (q j || r j)) → some m p ≡ (some m q || some m r)
-some-or zero p q r h = refl
-some-or (suc m) p q r h = rw (some-or m p q r h, h m) (or-swap (some m q) (some m r) (q m) (r m))
 
 reaches-more : (t s : List ℕ) (v w j : ℕ) → reaches t (v ∷ s) w j ≡ (reaches t s w j || joins t v w j)
 reaches-more t s v w j =
@@ -49,12 +45,8 @@ reaches-more t s v w j =
 -- within reach is who was, and who is linked to v
 held-more : (t s : List ℕ) (v w : ℕ) → held t (v ∷ s) w ≡ (held t s w || some (linkCount t) (joins t v w))
 held-more t s v w =
-    rw (some-or (linkCount t) (reaches t (v ∷ s) w) (reaches t s w) (joins t v w) (reaches-more t s v w))
-    (assoc (eqb w 0) (some (linkCount t) (reaches t s w)) (some (linkCount t) (joins t v w)))
-  where
-    assoc : (a b c : Bool) → (a || (b || c)) ≡ ((a || b) || c)
-    assoc true b c = refl
-    assoc false b c = refl
+    rw (some-or (linkCount t) (reaches t (v ∷ s) w) (reaches t s w) (joins t v w) (λ j l. reaches-more t s v w j))
+    (sym (or-assoc (eqb w 0) (some (linkCount t) (reaches t s w)) (some (linkCount t) (joins t v w))))
 
 -- how many pairs are in the way of w
 abbrev pub waits : List ℕ → List ℕ → ℕ → ℕ

@@ -11,7 +11,7 @@ ghost use Rattle.lists.specs.Folds.{some};
 ghost use Rattle.rules.specs.Fits.{EndsWithin};
 ghost use Rattle.rules.specs.Planned.{planUnfit};
 ghost use Rattle.machine.specs.Load.{plannedLoadRefusal};
-ghost use Rattle.plan.specs.Unfit.{unmarked, belowTop, topsDiffer};
+ghost use Rattle.plan.specs.Unfit.{stray, topsDiffer};
 
 // The number of the first check that fails, 0 where table and parents pass: 4 to 6, 15, 16, 7 to 9, then 17 and 18, last 22.
 pub fn refusal(units: u16, table: &[u16], levels: &[i16], parents: &[u16]) -> u8
@@ -38,39 +38,26 @@ fn unfit(units: u16, links: u16, table: &[u16], parents: &[u16]) -> bool
 {
     let near = near::near(links, table, parents);
     let tops = chains::tops(units, parents);
-    let stray = stray_parents(units, parents, &near);
-    let astray = stray_tops(units, &tops);
+    let astray = strays(units, parents, &near, &tops);
     let apart = splits(links, table, &tops);
-    values::either(stray, values::either(astray, apart))
+    values::either(astray, apart)
 }
 
-// Whether a unit has a parent and no mark.
-fn stray_parents(units: u16, parents: &[u16], near: &[u16]) -> bool
-    ensures { λ r. ⌜ r ≡ some units (unmarked (now (parents .entry)) (now (near .entry))) ⌝ }
+// Whether a unit has a parent and no mark, or is below its top.
+fn strays(units: u16, parents: &[u16], near: &[u16], tops: &[u16]) -> bool
+    ensures { λ r. ⌜ r ≡ some units (stray (now (parents .entry)) (now (near .entry)) (now (tops .entry))) ⌝ }
 {
-    let mut stray = false;
+    let mut astray = false;
     let mut v = 0;
     while v < units {
         let has = tables::at(parents, v) != ABSENT;
         let bare = tables::at(near, v) == 0;
-        stray = values::either(stray, values::both(has, bare));
-        v += 1;
-    }
-    stray
-}
-
-// Whether a unit is below its top.
-fn stray_tops(units: u16, tops: &[u16]) -> bool
-    ensures { λ r. ⌜ r ≡ some units (belowTop (now (tops .entry))) ⌝ }
-{
-    let mut stray = false;
-    let mut v = 0;
-    while v < units {
         let top = tables::at(tops, v);
-        stray = values::either(stray, v < top);
+        let wrong = values::either(values::both(has, bare), v < top);
+        astray = values::either(astray, wrong);
         v += 1;
     }
-    stray
+    astray
 }
 
 // Whether the ends of a link have different tops.
