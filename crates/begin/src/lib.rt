@@ -13,7 +13,7 @@ use state::Tour;
 use state::Tree;
 ghost use mathlib.Core.Path.{_≡_};
 ghost use mathlib.Core.List.{_++_};
-ghost use Prim.Native.Nat.{_≤_, min};
+ghost use Prim.Native.Nat.{_≤_};
 ghost use lib.ListN.{length, drop, take};
 ghost use Rattle.machine.specs.Load.{absents, silences, firstClock, blankComponents, blankPlan, blankTree, blankTour, blankRanking, blankOrder, blankRange, blankGlobal, blankAux, blankLabels, endsOf, levelsOf, tableOf, parentsOf, planOf};
 
@@ -21,7 +21,7 @@ ghost use Rattle.machine.specs.Load.{absents, silences, firstClock, blankCompon
 pub fn table(units: u16, words: &[u16], levels: &[i16]) -> Table
     ensures { λ r. ⌜ r ≡ tableOf (record { units = units; words = take 2048 (now (words .entry)); levels = take 1024 (now (levels .entry)) }) ⌝ }
 {
-    let count = held(2048, words.len());
+    let count = copies::held(2048, words.len());
     Table {
         units,
         links: (count / 2) as u16,
@@ -44,16 +44,9 @@ fn heard(levels: &[i16]) -> [i16; 1024]
     ensures { λ r. ⌜ r ≡ levelsOf (take 1024 (now (levels .entry))) ⌝ }
 {
     let mut heard = silent();
-    let count = held(1024, levels.len());
+    let count = copies::held(1024, levels.len());
     levels_in(&levels[..count], &mut heard);
     heard
-}
-
-// How many of so many entries a table of this size holds.
-fn held(size: usize, count: usize) -> usize
-    ensures { λ r. ⌜ r ≡ min size count ⌝ }
-{
-    if size < count { size } else { count }
 }
 
 fn blank() -> [u16; 2048]
@@ -66,7 +59,7 @@ fn blank() -> [u16; 2048]
 fn first_words(words: &[u16], to: &mut [u16])
     ensures { λ _. ⌜ now (to .exit) ≡ take (length (now (to .entry))) (now (words .entry)) ++ drop (length (take (length (now (to .entry))) (now (words .entry)))) (now (to .entry)) ⌝ }
 {
-    let count = held(to.len(), words.len());
+    let count = copies::held(to.len(), words.len());
     copies::lay(&words[..count], 0, to);
 }
 

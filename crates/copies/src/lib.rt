@@ -1,11 +1,18 @@
 // Tables copied out of words and laid over them, whole or not at all.
 ghost use mathlib.Core.Path.{_≡_};
-ghost use Prim.Native.Nat.{ℕ, _+_, _≤_};
+ghost use Prim.Native.Nat.{ℕ, _+_, _≤_, min};
 ghost use lib.Dec.{leb};
 ghost use lib.ListN.{length, getD, replicate};
 ghost use Rattle.lists.specs.Tables.{over};
 ghost use Rattle.levels.specs.Level.{toWords, fromWords};
 ghost use Rattle.copies.specs.Parts.{part, laid, laidIn, copied, PartOr, copiedLevels, LevelsOr};
+
+// How many of so many entries a table of this size holds.
+pub fn held(size: usize, count: usize) -> usize
+    ensures { λ r. ⌜ r ≡ min size count ⌝ }
+{
+    if size < count { size } else { count }
+}
 
 // Whether so many words are there from `at` on.
 fn fits(at: usize, count: usize, words: usize) -> bool

@@ -4,7 +4,7 @@ use super::layout::STATE_WORDS;
 use state::Clock;
 use table::ABSENT;
 ghost use mathlib.Core.Path.{_≡_};
-ghost use Prim.Native.Nat.{_+_, _≤_, min};
+ghost use Prim.Native.Nat.{_+_, _≤_};
 ghost use lib.ListN.{length, take};
 ghost use Rattle.machine.specs.State;
 ghost use Rattle.machine.specs.Load.{tableOf};
@@ -21,18 +21,11 @@ fn lay_two<'a>(one: &'a [u16], at: usize, two: &'a [u16], next: usize, words: &m
     copies::lay(two, next, words);
 }
 
-// How many of so many entries a table of this size holds.
-fn held(size: usize, count: usize) -> usize
-    ensures { λ r. ⌜ r ≡ min size count ⌝ }
-{
-    if size < count { size } else { count }
-}
-
 // The counts and the ends that a load takes, made where they lie: its first 2,048 words, absent past the last.
 fn lay_ends(units: u16, table: &[u16], words: &mut [u16; STATE_WORDS])
     ensures { λ _. ⌜ stateOf (now (words .exit)) ≡ withEnds units (take 2048 (now (table .entry))) (stateOf (now (words .entry))) ⌝ }
 {
-    let count = held(2048, table.len());
+    let count = copies::held(2048, table.len());
     copies::lay(&[units, (count / 2) as u16], layout::UNITS, words);
     copies::fill(ABSENT, layout::ENDS, 2048, words);
     copies::lay(&table[..count], layout::ENDS, words);
@@ -42,7 +35,7 @@ fn lay_ends(units: u16, table: &[u16], words: &mut [u16; STATE_WORDS])
 fn lay_levels(levels: &[i16], words: &mut [u16; STATE_WORDS])
     ensures { λ _. ⌜ stateOf (now (words .exit)) ≡ withLevels (take 1024 (now (levels .entry))) (stateOf (now (words .entry))) ⌝ }
 {
-    let count = held(1024, levels.len());
+    let count = copies::held(1024, levels.len());
     copies::fill(0, layout::LEVELS, 1024, words);
     copies::lay_levels(&levels[..count], layout::LEVELS, words);
 }
