@@ -14,7 +14,7 @@ use Rattle.rules.specs.Basics.{ABSENT, MAX-NUMBER}
 use Rattle.levels.specs.Level.{inRange, wordLevel}
 use Rattle.levels.specs.LevelLaws.{signed-few, signed-many}
 use Rattle.rules.specs.Bounds.{nameOk, numberOk, distOk}
-use Rattle.values.specs.Tops.{raised, topOf}
+use Rattle.values.specs.Tops.{raised, Tells, topOf}
 
 -- ---- along the table
 
@@ -38,17 +38,16 @@ both-within a b limit = go (decLe a limit) (decLe b limit)
     go (yes h) (no l) = rw (le-leb a limit h, lt-leb b limit (omega arith)) (lt-leb (max a b) limit (omega arith))
     go (no h) l = rw (lt-leb a limit (omega arith)) (lt-leb (max a b) limit (omega arith))
 
--- for a test that an entry passes whose raised word is within the limit
-module _ (more limit : ℕ) (p : ℕ → Bool) (exact : (x : ℕ) → x < 65536 → leb (raised more x) limit ≡ p x) where
-  top-every : (t : List ℕ) → ((i : ℕ) → getD t i 0 < 65536) → leb (topOf more t) limit ≡ every p t
-  unfolding topOf
-  top-every [] words = le-leb 0 limit (omega arith)
-  top-every (x ∷ t) words =
-      rw (both-within (raised more x) (topOf more t) limit, exact x (words zero), top-every t (λ i. words (suc i)))
+-- as a test tells that an entry passes whose raised word is within the limit
+pub top-every : (more limit : ℕ) (p : ℕ → Bool) → Tells more limit p → (t : List ℕ) → ((i : ℕ) → getD t i 0 < 65536) → leb (topOf more t) limit ≡ every p t
+unfolding topOf
+top-every more limit p exact [] words = le-leb 0 limit (omega arith)
+top-every more limit p exact (x ∷ t) words =
+    rw (both-within (raised more x) (topOf more t) limit, exact x (words zero), top-every more limit p exact t (λ i. words (suc i)))
 
--- ---- the three tests
+-- ---- the tests
 
-name-within : (count x : ℕ) → x < 65536 → leb (raised 1 x) count ≡ nameOk count x
+pub name-within : (count : ℕ) → Tells 1 count (nameOk count)
 name-within count x w = go (decLt x ABSENT) (decLt x count)
   where
     go : Dec (x < ABSENT) → Dec (x < count) → leb (raised 1 x) count ≡ nameOk count x
@@ -57,10 +56,10 @@ name-within count x w = go (decLt x ABSENT) (decLt x count)
     go (no l) (yes h) = rw (lt-ltb x count h) (le-leb (raised 1 x) count (omega arith))
     go (no l) (no h) = rw (le-ltb x count (omega arith), eq-eqb x ABSENT (omega arith)) (le-leb (raised 1 x) count (omega arith))
 
-number-within : (x : ℕ) → x < 65536 → leb (raised 0 x) MAX-NUMBER ≡ numberOk x
+pub number-within : Tells 0 MAX-NUMBER numberOk
 number-within x w = let e : raised 0 x ≡ x = omega arith in rw e
 
-dist-within : (x : ℕ) → x < 65536 → leb (raised 1 x) 2049 ≡ distOk x
+pub dist-within : Tells 1 2049 distOk
 dist-within x w = go (decLe x MAX-NUMBER) (decLt x ABSENT)
   where
     go : Dec (x ≤ MAX-NUMBER) → Dec (x < ABSENT) → leb (raised 1 x) 2049 ≡ distOk x
@@ -70,7 +69,7 @@ dist-within x w = go (decLe x MAX-NUMBER) (decLt x ABSENT)
     go (no h) (no l) =
         rw (lt-leb x MAX-NUMBER (omega arith), eq-eqb x ABSENT (omega arith)) (le-leb (raised 1 x) 2049 (omega arith))
 
-level-within : (x : ℕ) → x < 65536 → leb (raised 127 x) 127 ≡ inRange (wordLevel x)
+pub level-within : Tells 127 127 (λ (w : ℕ). inRange (wordLevel w))
 unfolding inRange
 level-within x w = go (decLt x 32768) (decLe x 0) (decLt x 65409)
   where
@@ -82,28 +81,12 @@ level-within x w = go (decLt x 32768) (decLe x 0) (decLt x 65409)
     go (no l) z (no m) =
         rw (signed-many 65536 x (omega arith), le-leb (65535 - x) 126 (omega arith)) (le-leb (raised 127 x) 127 (omega arith))
 
-below-one : (count : ℕ) → (count ≡ 0 → ⊥) → (x : ℕ) → x < 65536 → leb (raised 0 x) (count - 1) ≡ ltb x count
-below-one count some x w = go (decLt x count)
+pub below-within : (count : ℕ) → (count ≡ 0 → ⊥) → Tells 0 (count - 1) (λ (x : ℕ). ltb x count)
+below-within count some x w = go (decLt x count)
   where
     go : Dec (x < count) → leb (raised 0 x) (count - 1) ≡ ltb x count
     go (yes h) = rw (lt-ltb x count h) (le-leb (raised 0 x) (count - 1) (omega arith))
     go (no h) = rw (le-ltb x count (omega arith)) (lt-leb (raised 0 x) (count - 1) (omega arith))
-
-module _ (t : List ℕ) (words : (i : ℕ) → getD t i 0 < 65536) where
-  pub levels-within : leb (topOf 127 t) 127 ≡ every (λ (w : ℕ). inRange (wordLevel w)) t
-  levels-within = top-every 127 127 (λ (w : ℕ). inRange (wordLevel w)) level-within t words
-
-  pub names-within : (count : ℕ) → leb (topOf 1 t) count ≡ every (nameOk count) t
-  names-within count = top-every 1 count (nameOk count) (name-within count) t words
-
-  pub numbers-within : leb (topOf 0 t) MAX-NUMBER ≡ every numberOk t
-  numbers-within = top-every 0 MAX-NUMBER numberOk number-within t words
-
-  pub dists-within : leb (topOf 1 t) 2049 ≡ every distOk t
-  dists-within = top-every 1 2049 distOk dist-within t words
-
-  pub below-within : (count : ℕ) → (count ≡ 0 → ⊥) → leb (topOf 0 t) (count - 1) ≡ every (λ (x : ℕ). ltb x count) t
-  below-within count some = top-every 0 (count - 1) (λ (x : ℕ). ltb x count) (below-one count some) t words
 
 -- of none there is no entry
 pub below-none : (t : List ℕ) → eqb (length t) 0 ≡ every (λ (x : ℕ). ltb x 0) t

@@ -1,8 +1,4 @@
 -- None, or the greatest within the limit.
-use mathlib.Core.Path.{_≡_, refl, sym, _∙_}
-use Prim.Native.Nat.{ℕ, _<_}
-use native.Mathlib.Omega.{arith}
-use lib.ListN.{getD}
 use Rattle.values.specs.TopLaws.{below-within, below-none}
 use borrow.Author.Needs.{needs}
 use Rattle.values.proofs.bounds.all_below.Statement.{statement}
@@ -21,9 +17,7 @@ sub-result c = search needs
 
 returns-2 : tie.Need-returns-2
 returns-2 c =
-    let a = c .before .before .before .args in
-    let words : (i : ℕ) → getD (a .t .now) i 0 < 65536 = λ i. omega (arith, c .before .before .shared-slice-known .given i) in
-    rw (c .top .ensures) (below-within (a .t .now) words (a .count) (c .before .if1 .left))
+    c .top .ensures _ _ (below-within (c .before .before .before .args .count) (c .before .if1 .left))
 
 pub all-below-spec : {M : Type 1} → statement M
 all-below-spec = tie.close (tie.spec returns top-requires sub-result returns-2)

@@ -1,20 +1,16 @@
--- At most 2,048, or absent.
-use Prim.Native.Nat.{ℕ, _<_}
-use native.Mathlib.Omega.{arith}
-use lib.ListN.{getD}
-use Rattle.values.specs.TopLaws.{dists-within}
+-- By its limit.
 use borrow.Author.Needs.{needs}
 use Rattle.values.proofs.bounds.dists_ok.Statement.{statement}
 use Rattle.values.proofs.bounds.dists_ok.Tie as tie
 
-top-requires : tie.Need-top-requires
-top-requires c κs = search needs
+dists-requires : tie.Need-dists-requires
+dists-requires c κs = tt
+
+within-requires : tie.Need-within-requires
+within-requires c κs = search needs
 
 returns : tie.Need-returns
-returns c =
-    let a = c .before .before .args in
-    let words : (i : ℕ) → getD (a .t .now) i 0 < 65536 = λ i. omega (arith, c .before .shared-slice-known .given i) in
-    rw (c .top .ensures) (dists-within (a .t .now) words)
+returns c = c .within .ensures _ (c .before .dists .ensures)
 
 pub dists-ok-spec : {M : Type 1} → statement M
-dists-ok-spec = tie.close (tie.spec top-requires returns)
+dists-ok-spec = tie.close (tie.spec dists-requires within-requires returns)

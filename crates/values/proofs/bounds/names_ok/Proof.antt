@@ -1,23 +1,16 @@
--- Below the count, or absent.
-use Prim.Native.Nat.{ℕ, _<_}
-use native.Mathlib.Omega.{arith}
-use lib.ListN.{getD}
-use Rattle.values.specs.TopLaws.{names-within}
+-- By its limit.
 use borrow.Author.Needs.{needs}
 use Rattle.values.proofs.bounds.names_ok.Statement.{statement}
 use Rattle.values.proofs.bounds.names_ok.Tie as tie
 
-top-requires : tie.Need-top-requires
-top-requires c κs = search needs
+names-requires : tie.Need-names-requires
+names-requires c κs = tt
 
-cast-result : tie.Need-cast-result
-cast-result c = search needs
+within-requires : tie.Need-within-requires
+within-requires c κs = search needs
 
 returns : tie.Need-returns
-returns c =
-    let a = c .before .before .args in
-    let words : (i : ℕ) → getD (a .t .now) i 0 < 65536 = λ i. omega (arith, c .before .shared-slice-known .given i) in
-    rw (c .top .ensures) (names-within (a .t .now) words (a .count))
+returns c = c .within .ensures _ (c .before .names .ensures)
 
 pub names-ok-spec : {M : Type 1} → statement M
-names-ok-spec = tie.close (tie.spec top-requires cast-result returns)
+names-ok-spec = tie.close (tie.spec names-requires within-requires returns)

@@ -1,20 +1,16 @@
--- At most 2,048.
-use Prim.Native.Nat.{ℕ, _<_}
-use native.Mathlib.Omega.{arith}
-use lib.ListN.{getD}
-use Rattle.values.specs.TopLaws.{numbers-within}
+-- By its limit.
 use borrow.Author.Needs.{needs}
 use Rattle.values.proofs.bounds.numbers_ok.Statement.{statement}
 use Rattle.values.proofs.bounds.numbers_ok.Tie as tie
 
-top-requires : tie.Need-top-requires
-top-requires c κs = search needs
+numbers-requires : tie.Need-numbers-requires
+numbers-requires c κs = tt
+
+within-requires : tie.Need-within-requires
+within-requires c κs = search needs
 
 returns : tie.Need-returns
-returns c =
-    let a = c .before .before .args in
-    let words : (i : ℕ) → getD (a .t .now) i 0 < 65536 = λ i. omega (arith, c .before .shared-slice-known .given i) in
-    rw (c .top .ensures) (numbers-within (a .t .now) words)
+returns c = c .within .ensures _ (c .before .numbers .ensures)
 
 pub numbers-ok-spec : {M : Type 1} → statement M
-numbers-ok-spec = tie.close (tie.spec top-requires returns)
+numbers-ok-spec = tie.close (tie.spec numbers-requires within-requires returns)

@@ -1,10 +1,10 @@
 -- The greatest of the entries passed and of those from `i` on is the greatest of all.
 use mathlib.Core.Path.{_≡_, sym, _∙_}
-use Prim.Native.Nat.{_≤_, _-_, max}
+use Prim.Native.Nat.{ℕ, _≤_, _<_, _-_, max}
 use native.Mathlib.Omega.{arith}
-use lib.ListN.{length, drop}
+use lib.ListN.{length, getD, drop}
 use Rattle.values.specs.Tops.{topOf}
-use Rattle.values.specs.TopLaws.{top-next, top-end}
+use Rattle.values.specs.TopLaws.{top-next, top-end, top-every}
 use borrow.Author.Needs.{needs}
 use Rattle.values.proofs.bounds.top.Statement.{statement}
 use Rattle.values.proofs.bounds.top.Tie as tie
@@ -46,7 +46,9 @@ returns : tie.Need-returns Inv-loop μ-loop
 returns c =
     let s = c .before in
     let a = s .before .before .args in
-    sym (s .loop .inv .1 ∙ top-end (a .more) (a .t .now) (s .loop .i) (s .loop .greatest) (c .loop-test .left))
+    let words : (i : ℕ) → getD (a .t .now) i 0 < 65536 = λ i. omega (arith, s .before .shared-slice-known .given i) in
+    let is = sym (s .loop .inv .1 ∙ top-end (a .more) (a .t .now) (s .loop .i) (s .loop .greatest) (c .loop-test .left)) in
+    λ most p tells. rw is (top-every (a .more) most p tells (a .t .now) words)
 
 pub top-spec : {M : Type 1} → statement M
 top-spec =
