@@ -1,6 +1,6 @@
 -- What a step is at the stage that the clock shows, and what holds of the tables of every round.
 use mathlib.Core.Path.{_≡_, refl, ap, _∙_}
-use mathlib.Core.Bool.{Bool, true, false, cond}
+use mathlib.Core.Bool.{Bool, cond}
 use Prim.Native.Nat.{ℕ, _-_}
 use native.Mathlib.Omega.{arith}
 use lib.Dec.{T, eqb, ltb, ltb→lt}
@@ -126,43 +126,9 @@ step-plan s = cond-keeps (λ (z : State). z .plan ≡ s .plan) (finished s) s _ 
 
 -- ---- stages whose first round differs
 
--- and stage 2 with a plan
-pub tree-planned : (s : State) → Step.planned s ≡ true → Step.tree s ≡ Step.treePlanned s
-unfolding Step.tree
-tree-planned s e = rw e refl
+-- the tables of its first round, and of a later one
+pub first-tables : (s first later : State) → s .clock .made ≡ 0 → cond (eqb (s .clock .made) 0) first later ≡ first
+first-tables s first later e = rw e refl
 
-pub tree-searched : (s : State) → Step.planned s ≡ false → Step.tree s ≡ Step.treeSearched s
-unfolding Step.tree
-tree-searched s e = rw e refl
-
-pub tour-first : (s : State) → s .clock .made ≡ 0 → Step.tour s ≡ Step.tourNext s
-unfolding Step.tour
-tour-first s e = rw e refl
-
-pub tour-second : (s : State) → s .clock .made ≡ 1 → Step.tour s ≡ Step.tourPred s
-unfolding Step.tour
-tour-second s e = rw e refl
-
-pub marks-first : (s : State) → s .clock .made ≡ 0 → Step.marks s ≡ Step.marksForward s
-unfolding Step.marks
-marks-first s e = rw e refl
-
-pub marks-second : (s : State) → s .clock .made ≡ 1 → Step.marks s ≡ Step.marksDescendants s
-unfolding Step.marks
-marks-second s e = rw e refl
-
-pub labels-first : (s : State) → s .clock .made ≡ 0 → Step.labels s ≡ Step.labelClasses s
-unfolding Step.labels
-labels-first s e = rw e refl
-
-pub labels-second : (s : State) → s .clock .made ≡ 1 → Step.labels s ≡ Step.labelPositions s
-unfolding Step.labels
-labels-second s e = rw e refl
-
-pub range-first : (s : State) → s .clock .made ≡ 0 → Step.range s ≡ Step.rangeBegun s
-unfolding Step.range
-range-first s e = rw e refl
-
-pub range-later : (s : State) → (s .clock .made ≡ 0 → ⊥) → Step.range s ≡ Step.rangeDoubled (s .clock .made - 1) s
-unfolding Step.range
-range-later s h = rw (ne-eqb (s .clock .made) 0 h) refl
+pub later-tables : (s first later : State) → (s .clock .made ≡ 0 → ⊥) → cond (eqb (s .clock .made) 0) first later ≡ later
+later-tables s first later h = rw (ne-eqb (s .clock .made) 0 h) refl

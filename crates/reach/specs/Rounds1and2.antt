@@ -7,7 +7,7 @@ use Prim.Native.Nat.{ℕ, suc, _+_, _≤_, _<_, max}
 use native.Mathlib.Numerals.{add-one}
 use native.Mathlib.Omega.{arith}
 use lib.ListN.{length}
-use Rattle.lists.specs.Tests.{either}
+use Rattle.lists.specs.Tests.{cond-true, cond-false}
 use Rattle.rules.specs.Basics.{ABSENT, at}
 use Rattle.rules.specs.Ceilings.{ceiling}
 use Rattle.rules.specs.Components.{colorRound, colorEnds}
@@ -15,7 +15,7 @@ use Rattle.rules.specs.Tree.{parentRound, distRound, treeEnds}
 use Rattle.machine.specs.State.{State}
 use Rattle.machine.specs.State.{MAX-REQUESTS, units, links}
 use Rattle.machine.specs.Step
-use Rattle.machine.specs.StageLaws.{ticked, step-at, ends-at, requests-at, tree-planned, tree-searched}
+use Rattle.machine.specs.StageLaws.{ticked, step-at, ends-at, requests-at}
 use Rattle.reach.specs.Site.{Site}
 use Rattle.reach.specs.Rooted.{Rooted}
 use Rattle.reach.specs.Sized.{Sized}
@@ -23,7 +23,7 @@ use Rattle.reach.specs.Colors
 use Rattle.reach.specs.BreadthFirst
 use Rattle.reach.specs.Planned.{Fits, depthIn, planned-rooted}
 use Rattle.reach.specs.Invariant.{Base, Fresh, PlanFits, Treed, In1, In2, In3, Reached, in1, in2, in3}
-use Rattle.reach.specs.Ticks.{Goes, goes-within, goes-over, stage-on, made-on, stage-over, made-over, requests-next}
+use Rattle.reach.specs.Ticks.{Goes, goes-within, goes-over, goes-either, stage-on, made-on, stage-over, made-over, requests-next}
 
 -- ---- stage 1
 
@@ -76,22 +76,15 @@ module _ (s : State) (b : Base s) (i : In1 s) where
       })
 
   pub goes-1 : Goes s
-  goes-1 = go (i .colors) (either (Step.ruleEnds s))
+  goes-1 = go (i .colors)
     where
-      Later : Type 0
-      Later = (1 ≤ s .clock .made) × Colors.ColorsAt (units s) (links s) (s .table .ends) (s .components .color) (s .clock .made)
-
-      first : s .clock .made ≡ 0 → Goes s
-      first z =
+      go : (s .clock .made ≡ 0) ⊎ ((1 ≤ s .clock .made) × Colors.ColorsAt (units s) (links s) (s .table .ends) (s .components .color) (s .clock .made)) → Goes s
+      go (inl z) =
           let rule : Step.ruleEnds s ≡ false = rule-1 ∙ rw z (Colors.first-goes-on (b .site) (s .components .color) _) in
           goes-within s (Step.components s) within-1 (step-at 1 tt s (i .stage)) rule (rw (i .stage) (omega arith)) (λ q. on-1 q (rw z (Colors.first (b .site) (s .components .color) color-room)))
-
-      go : (s .clock .made ≡ 0) ⊎ Later → (Step.ruleEnds s ≡ true) ⊎ (Step.ruleEnds s ≡ false) → Goes s
-      go (inl z) r = first z
-      go (inr (l, c)) (inr r) =
-          goes-within s (Step.components s) within-1 (step-at 1 tt s (i .stage)) r (rw (i .stage) (omega (arith, Colors.bound (b .site) c l (sym rule-1 ∙ r)))) (λ q. on-1 q (Colors.next (b .site) c l))
-      go (inr (l, c)) (inl r) =
-          goes-over s (Step.components s) within-1 (step-at 1 tt s (i .stage)) r (λ q. over-1 q (Colors.done (b .site) c l (sym rule-1 ∙ r)))
+      go (inr (l, c)) =
+          goes-either s (Step.components s) within-1 (step-at 1 tt s (i .stage)) rule-1 (λ r q. over-1 q (Colors.done (b .site) c l r))
+          (λ r. (rw (i .stage) (omega (arith, Colors.bound (b .site) c l r)), λ q. on-1 q (Colors.next (b .site) c l)))
 
 -- ---- stage 2
 
@@ -166,17 +159,18 @@ module _ (s : State) (b : Base s) (i : In2 s) where
       })
 
   goes-planned : Step.planned s ≡ true → Fits (units s) (links s) (s .table .ends) (s .plan .parent) → Goes s
+  unfolding Step.tree
   goes-planned e fits =
-      goes-over s (Step.treePlanned s) within-2 (step-at 2 tt s (i .stage) ∙ ap (ticked s) (tree-planned s e)) (ends-at 2 s (i .stage) ∙ ap (λ (p : Bool). p || treeEnds (units s) (links s) (s .clock .made) (s .table .ends) (s .table .levels) (s .components .color) (s .tree .dist)) e)
+      goes-over s (Step.treePlanned s) within-2 (step-at 2 tt s (i .stage) ∙ ap (ticked s) (cond-true (Step.planned s) (Step.treePlanned s) (Step.treeSearched s) e)) (ends-at 2 s (i .stage) ∙ ap (λ (p : Bool). p || treeEnds (units s) (links s) (s .clock .made) (s .table .ends) (s .table .levels) (s .components .color) (s .tree .dist)) e)
       (λ q. over-planned q fits)
 
   -- the survey's own tree
   goes-searched : Step.planned s ≡ false → Goes s
-  unfolding parents′ dists′
-  goes-searched p = go (i .tree) (either (Step.ruleEnds s))
+  unfolding Step.tree parents′ dists′
+  goes-searched p = go (i .tree)
     where
       is : Step.step s ≡ ticked s (Step.treeSearched s)
-      is = step-at 2 tt s (i .stage) ∙ ap (ticked s) (tree-searched s p)
+      is = step-at 2 tt s (i .stage) ∙ ap (ticked s) (cond-false (Step.planned s) (Step.treePlanned s) (Step.treeSearched s) p)
 
       rule : Step.ruleEnds s ≡ treeEnds (units s) (links s) (s .clock .made) (s .table .ends) (s .table .levels) (s .components .color) (s .tree .dist)
       rule = ends-at 2 s (i .stage) ∙ ap (λ (q : Bool). q || treeEnds (units s) (links s) (s .clock .made) (s .table .ends) (s .table .levels) (s .components .color) (s .tree .dist)) p
@@ -184,15 +178,15 @@ module _ (s : State) (b : Base s) (i : In2 s) where
       Later : Type 0
       Later = (1 ≤ s .clock .made) × BreadthFirst.TreeAt (units s) (links s) (s .table .ends) (s .components .color) (s .tree .parent) (s .tree .dist) (s .clock .made)
 
-      go : ((s .clock .made ≡ 0) × Fresh s) ⊎ Later → (Step.ruleEnds s ≡ true) ⊎ (Step.ruleEnds s ≡ false) → Goes s
-      go (inl (z, f)) r =
+      go : ((s .clock .made ≡ 0) × Fresh s) ⊎ Later → Goes s
+      go (inl (z, f)) =
           let e : Step.ruleEnds s ≡ false = rule ∙ rw z (BreadthFirst.first-goes-on (b .site) (s .table .levels) (i .colored) (s .tree .dist)) in
           let first = BreadthFirst.first (b .site) (s .table .levels) (i .colored) (s .tree .parent) (s .tree .dist) parent-room dist-room (f .parents) (f .distances) in
           goes-within s (Step.treeSearched s) within-2 is e (rw (i .stage) (omega (arith, b .site .someUnit))) (λ q. on-2 q (rw z first))
-      go (inr (l, t)) (inr r) =
-          goes-within s (Step.treeSearched s) within-2 is r (rw (i .stage) (omega (arith, BreadthFirst.bound (b .site) (s .table .levels) (i .colored) t l (sym rule ∙ r)))) (λ q. on-2 q (BreadthFirst.next (b .site) (s .table .levels) (i .colored) t l))
-      go (inr (l, t)) (inl r) =
-          goes-over s (Step.treeSearched s) within-2 is r (λ q. over-2 q (BreadthFirst.done (b .site) (s .table .levels) (i .colored) t l (sym rule ∙ r)))
+      go (inr (l, t)) =
+          goes-either s (Step.treeSearched s) within-2 is rule (λ r q. over-2 q (BreadthFirst.done (b .site) (s .table .levels) (i .colored) t l r))
+          (λ r.
+          (rw (i .stage) (omega (arith, BreadthFirst.bound (b .site) (s .table .levels) (i .colored) t l r)), λ q. on-2 q (BreadthFirst.next (b .site) (s .table .levels) (i .colored) t l)))
 
   pub goes-2 : Goes s
   goes-2 = go (i .plan)

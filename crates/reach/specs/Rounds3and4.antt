@@ -8,7 +8,6 @@ use native.Mathlib.Numerals.{add-one}
 use native.Mathlib.Omega.{arith}
 use lib.Dec.{eqb}
 use lib.ListN.{length}
-use Rattle.lists.specs.Tests.{either}
 use Rattle.lists.specs.Tables.{getD-over, length-over}
 use Rattle.rules.specs.Basics.{ABSENT, at}
 use Rattle.rules.specs.Tour.{isArc, follower, predecessor, nextRound, predRound, firstSums, firstJumps}
@@ -16,14 +15,14 @@ use Rattle.rules.specs.Ranking.{jumpRound, sumRound, requestsOf, rankingEnds}
 use Rattle.machine.specs.State.{State}
 use Rattle.machine.specs.State.{MAX-REQUESTS, units, links}
 use Rattle.machine.specs.Step
-use Rattle.machine.specs.StageLaws.{ticked, tour-first, tour-second, step-at, ends-at, requests-at}
+use Rattle.machine.specs.StageLaws.{ticked, first-tables, later-tables, step-at, ends-at, requests-at}
 use Rattle.reach.specs.Potentials.{Step as Next, rank-le-all}
 use Rattle.reach.specs.TourOf.{Preceded, none, start, after, preceded}
 use Rattle.reach.specs.Doubling
 use Rattle.reach.specs.Doubling.{Ranked, asked}
 use Rattle.reach.specs.Invariant.{Base, Treed, Toured, rank, ranks, In3, In4, In5, Reached, in3, in4, in5}
 use Rattle.reach.specs.RankingOf.{first-potential, requests-few, room-left}
-use Rattle.reach.specs.Ticks.{Goes, goes-within, goes-over, stage-on, made-on, stage-over, made-over, requests-next}
+use Rattle.reach.specs.Ticks.{Goes, goes-within, goes-over, goes-either, stage-on, made-on, stage-over, made-over, requests-next}
 
 -- ---- stage 3
 
@@ -103,15 +102,16 @@ module _ (s : State) (b : Base s) (i : In3 s) where
       })
 
   pub goes-3 : Goes s
+  unfolding Step.tour
   goes-3 = go (i .tour)
     where
       go : (s .clock .made ≡ 0) ⊎ ((s .clock .made ≡ 1) × ((a : ℕ) → a < 2 * units s → at (s .tour .next) a ≡ follower (units s) (s .tree .parent) a)) → Goes s
       go (inl z) =
           let r : Step.ruleEnds s ≡ false = ends-at 3 s (i .stage) ∙ rw z refl in
-          goes-within s (Step.tourNext s) within-3 (step-at 3 tt s (i .stage) ∙ ap (ticked s) (tour-first s z)) r (rw (i .stage) (omega arith)) (first-3 z)
+          goes-within s (Step.tourNext s) within-3 (step-at 3 tt s (i .stage) ∙ ap (ticked s) (first-tables s (Step.tourNext s) (Step.tourPred s) z)) r (rw (i .stage) (omega arith)) (first-3 z)
       go (inr (z, f)) =
           let r : Step.ruleEnds s ≡ true = ends-at 3 s (i .stage) ∙ rw z refl in
-          goes-over s (Step.tourPred s) within-3 (step-at 3 tt s (i .stage) ∙ ap (ticked s) (tour-second s z)) r (second-3 f)
+          goes-over s (Step.tourPred s) within-3 (step-at 3 tt s (i .stage) ∙ ap (ticked s) (later-tables s (Step.tourNext s) (Step.tourPred s) (omega (arith, z)))) r (second-3 f)
 
 -- ---- stage 4
 
@@ -164,14 +164,8 @@ module _ (s : State) (b : Base s) (i : In4 s) where
       })
 
   pub goes-4 : Goes s
-  goes-4 = go (either (Step.ruleEnds s))
-    where
-      rule : Step.ruleEnds s ≡ rankingEnds (2 * units s) (s .ranking .jump)
-      rule = ends-at 4 s (i .stage)
-
-      go : (Step.ruleEnds s ≡ true) ⊎ (Step.ruleEnds s ≡ false) → Goes s
-      go (inl r) =
-          goes-over s (Step.ranking s) within-4 (step-at 4 tt s (i .stage)) r (over-4 (sym rule ∙ r))
-      go (inr r) =
-          let k = Doubling.bound (first-potential s b (i .toured .treed)) (i .ranked) (sym rule ∙ r) _ (λ a l. rank-le-all (i .toured .treed .rooted) a) in
-          goes-within s (Step.ranking s) within-4 (step-at 4 tt s (i .stage)) r (rw (i .stage) (room-left s b (i .toured .treed) (s .clock .made) k)) on-4
+  goes-4 =
+      goes-either s (Step.ranking s) within-4 (step-at 4 tt s (i .stage)) (ends-at 4 s (i .stage)) over-4
+      (λ r.
+      let k = Doubling.bound (first-potential s b (i .toured .treed)) (i .ranked) r _ (λ a l. rank-le-all (i .toured .treed .rooted) a) in
+      (rw (i .stage) (room-left s b (i .toured .treed) (s .clock .made) k), on-4))

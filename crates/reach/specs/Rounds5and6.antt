@@ -8,7 +8,7 @@ use native.Mathlib.Numerals.{add-one}
 use native.Mathlib.Omega.{arith}
 use lib.Dec.{eqb, ltb}
 use lib.ListN.{length}
-use Rattle.lists.specs.Tests.{either, cond-true, cond-false}
+use Rattle.lists.specs.Tests.{cond-true, cond-false}
 use Rattle.lists.specs.Tables.{getD-over, length-over}
 use Rattle.rules.specs.Basics.{ABSENT, at}
 use Rattle.rules.specs.Tour.{isInto, isArc, predecessor}
@@ -18,7 +18,7 @@ use Rattle.graph.specs.Forest.{Anc}
 use Rattle.machine.specs.State.{State}
 use Rattle.machine.specs.State.{MAX-REQUESTS, units, links}
 use Rattle.machine.specs.Step
-use Rattle.machine.specs.StageLaws.{ticked, marks-first, marks-second, step-at, ends-at, requests-at}
+use Rattle.machine.specs.StageLaws.{ticked, first-tables, later-tables, step-at, ends-at, requests-at}
 use Rattle.reach.specs.SizeAndOrder.{nd, nd-positive}
 use Rattle.reach.specs.Potentials.{Step as Next, rank-le-all}
 use Rattle.reach.specs.TourOf.{Preceded, none, start, after, preceded, start-into}
@@ -28,7 +28,7 @@ use Rattle.reach.specs.Doubling.{Ranked, asked}
 use Rattle.reach.specs.Ordered.{Ordered}
 use Rattle.reach.specs.Invariant.{Base, Treed, Toured, Numbered, rank, sums, In5, In6, In7, Reached, in5, in6, in7}
 use Rattle.reach.specs.RankingOf.{second-potential, requests-few, room-left}
-use Rattle.reach.specs.Ticks.{Goes, goes-within, goes-over, stage-on, made-on, stage-over, made-over, requests-next}
+use Rattle.reach.specs.Ticks.{Goes, goes-within, goes-over, goes-either, stage-on, made-on, stage-over, made-over, requests-next}
 
 -- a table with an entry for each arc is long enough for n units
 arcs-fit : (s : State) → Base s → (k : ℕ) → k ≡ 512 → (a : ℕ) → a < 2 * units s → a < k
@@ -134,15 +134,16 @@ module _ (s : State) (b : Base s) (i : In5 s) where
       })
 
   pub goes-5 : Goes s
+  unfolding Step.marks
   goes-5 = go (i .marks)
     where
       go : (s .clock .made ≡ 0) ⊎ ((s .clock .made ≡ 1) × ((a : ℕ) → a < 2 * units s → isArc (s .tree .parent) a ≡ true → at (s .order .forward) a ≡ cond (isInto a) 1 0)) → Goes s
       go (inl z) =
           let r : Step.ruleEnds s ≡ false = ends-at 5 s (i .stage) ∙ rw z refl in
-          goes-within s (Step.marksForward s) within-5 (step-at 5 tt s (i .stage) ∙ ap (ticked s) (marks-first s z)) r (rw (i .stage) (omega arith)) (first-5 z)
+          goes-within s (Step.marksForward s) within-5 (step-at 5 tt s (i .stage) ∙ ap (ticked s) (first-tables s (Step.marksForward s) (Step.marksDescendants s) z)) r (rw (i .stage) (omega arith)) (first-5 z)
       go (inr (z, f)) =
           let r : Step.ruleEnds s ≡ true = ends-at 5 s (i .stage) ∙ rw z refl in
-          goes-over s (Step.marksDescendants s) within-5 (step-at 5 tt s (i .stage) ∙ ap (ticked s) (marks-second s z)) r (second-5 f)
+          goes-over s (Step.marksDescendants s) within-5 (step-at 5 tt s (i .stage) ∙ ap (ticked s) (later-tables s (Step.marksForward s) (Step.marksDescendants s) (omega (arith, z)))) r (second-5 f)
 
 -- ---- stage 6
 
@@ -224,14 +225,9 @@ module _ (s : State) (b : Base s) (i : In6 s) where
         })
 
   pub goes-6 : Goes s
-  goes-6 = go (either (Step.ruleEnds s))
-    where
-      rule : Step.ruleEnds s ≡ rankingEnds (2 * units s) (s .ranking .jump)
-      rule = ends-at 6 s (i .stage)
-
-      go : (Step.ruleEnds s ≡ true) ⊎ (Step.ruleEnds s ≡ false) → Goes s
-      go (inl r) =
-          goes-over s (cond (Step.lastRound s) (Step.places s) (Step.ranking s)) within-6 (step-at 6 tt s (i .stage)) r (λ q. rw (cond-true (Step.lastRound s) (Step.places s) (Step.ranking s) q) (over-6 (sym rule ∙ r) q))
-      go (inr r) =
-          let k = Doubling.bound (second-potential s b (i .treed)) (i .ranked) (sym rule ∙ r) _ (λ a l. rank-le-all (i .treed .rooted) a) in
-          goes-within s (cond (Step.lastRound s) (Step.places s) (Step.ranking s)) within-6 (step-at 6 tt s (i .stage)) r (rw (i .stage) (room-left s b (i .treed) (s .clock .made) k)) (λ q. rw (cond-false (Step.lastRound s) (Step.places s) (Step.ranking s) q) (on-6 q))
+  goes-6 =
+      goes-either s (cond (Step.lastRound s) (Step.places s) (Step.ranking s)) within-6 (step-at 6 tt s (i .stage)) (ends-at 6 s (i .stage))
+      (λ r q. rw (cond-true (Step.lastRound s) (Step.places s) (Step.ranking s) q) (over-6 r q))
+      (λ r.
+      let k = Doubling.bound (second-potential s b (i .treed)) (i .ranked) r _ (λ a l. rank-le-all (i .treed .rooted) a) in
+      (rw (i .stage) (room-left s b (i .treed) (s .clock .made) k), λ q. rw (cond-false (Step.lastRound s) (Step.places s) (Step.ranking s) q) (on-6 q)))

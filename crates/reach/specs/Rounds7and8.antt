@@ -8,7 +8,6 @@ use native.Mathlib.Omega.{arith}
 use lib.Dec.{eqb}
 use lib.ListN.{length}
 use borrow.Author.Tests.{eqb-true, eqb-false}
-use Rattle.lists.specs.Tests.{either}
 use Rattle.lists.specs.Tables.{getD-over}
 use Rattle.numbers.specs.Lg.{lg}
 use Rattle.table.specs.Table.{endA, endB}
@@ -21,14 +20,14 @@ use Rattle.state.specs.declared.groups.Range.{Range}
 use Rattle.state.specs.declared.groups.Global.{Global}
 use Rattle.machine.specs.State.{MAX-REQUESTS, units, links, withRange, withGlobal}
 use Rattle.machine.specs.Step
-use Rattle.machine.specs.StageLaws.{ticked, range-first, range-later, step-at, ends-at, requests-at}
+use Rattle.machine.specs.StageLaws.{ticked, first-tables, later-tables, step-at, ends-at, requests-at}
 use Rattle.reach.specs.Segments
 use Rattle.reach.specs.Segments.{SegmentsAt, Spans, lastPlace, place-spans, first-round, over-descendants}
 use Rattle.reach.specs.Ordered.{Ordered, Ranged}
 use Rattle.reach.specs.AuxEdges.{across-exact, joins-exact}
 use Rattle.reach.specs.AuxColors.{Marked}
 use Rattle.reach.specs.Invariant.{Base, Numbered, In7, In8, Reached, in7, in8, in9}
-use Rattle.reach.specs.Ticks.{Goes, goes-within, goes-over, stage-on, made-on, stage-over, made-over, requests-next}
+use Rattle.reach.specs.Ticks.{Goes, goes-over, goes-either, stage-on, made-on, stage-over, made-over, requests-next}
 
 -- low and high over all descendants, from the last segments
 module _ (s : State) (b : Base s) (numbered : Numbered s) where
@@ -132,18 +131,14 @@ module _ (s : State) (b : Base s) (i : In7 s) where
       → Low s b (i .numbered) (g .low) (r .low) (r .little) (r .big) (s .clock .made)
       → High s b (i .numbered) (g .high) (r .high) (r .little) (r .big) (s .clock .made) → Goes s
   unfolding rangeEnds
-  goes-by r g e l h = go (either (Step.ruleEnds s))
-    where
-      rule : Step.ruleEnds s ≡ eqb (s .clock .made) (lg (units s))
-      rule = ends-at 7 s (i .stage)
-
-      go : (Step.ruleEnds s ≡ true) ⊎ (Step.ruleEnds s ≡ false) → Goes s
-      go (inl q) =
-          let m : s .clock .made ≡ lg (units s) = eqb-true (s .clock .made) (lg (units s)) (sym rule ∙ q) in
-          goes-over s (withRange r (withGlobal g s)) within-7 e q (λ last. over-7 r g last (rw (← m) l) (rw (← m) h))
-      go (inr q) =
-          let m : s .clock .made ≡ lg (units s) → ⊥ = eqb-false (s .clock .made) (lg (units s)) (sym rule ∙ q) in
-          goes-within s (withRange r (withGlobal g s)) within-7 e q (rw (i .stage) (omega (arith, i .early, m))) (λ last. on-7 r g last (omega (arith, i .early, m)) l h)
+  goes-by r g e l h =
+      goes-either s (withRange r (withGlobal g s)) within-7 e (ends-at 7 s (i .stage))
+      (λ q last.
+      let m : s .clock .made ≡ lg (units s) = eqb-true (s .clock .made) (lg (units s)) q in
+      over-7 r g last (rw (← m) l) (rw (← m) h))
+      (λ q.
+      let m : s .clock .made ≡ lg (units s) → ⊥ = eqb-false (s .clock .made) (lg (units s)) q in
+      (rw (i .stage) (omega (arith, i .early, m)), λ last. on-7 r g last (omega (arith, i .early, m)) l h))
 
   spans : Spans (units s) (at (s .order .pre)) (lastPlace (s .order .nd) (s .order .pre))
   spans = place-spans (units s) (s .order .nd) (s .order .pre) (few-units s b (i .numbered)) (i .numbered .ordered .ndSome) (i .numbered .ordered .within)
@@ -152,7 +147,7 @@ module _ (s : State) (b : Base s) (i : In7 s) where
   fits k e = omega (arith, b .site .fewUnits)
 
   first-7 : s .clock .made ≡ 0 → Goes s
-  unfolding Step.rangeBegun Low High
+  unfolding Step.range Step.rangeBegun Low High
   first-7 z =
       goes-by
       (record {
@@ -165,7 +160,7 @@ module _ (s : State) (b : Base s) (i : In7 s) where
         low = globalFirst min (units s) (links s) (s .table .ends) (s .tree .parent) (s .order .pre) (s .global .low);
         high = globalFirst max (units s) (links s) (s .table .ends) (s .tree .parent) (s .order .pre) (s .global .high);
       })
-      (step-at 7 tt s (i .stage) ∙ ap (ticked s) (range-first s z))
+      (step-at 7 tt s (i .stage) ∙ ap (ticked s) (first-tables s (Step.rangeBegun s) (Step.rangeDoubled (s .clock .made - 1) s) z))
       (rw z
       (first-round (units s) (s .order .nd) (s .order .pre) (few-units s b (i .numbered)) (i .numbered .ordered .ndSome) (i .numbered .ordered .within) min-choice (links s)
       (s .table .ends) (s .tree .parent) (s .global .low) (s .range .low) (s .range .little) (s .range .big) (fits _ globalLow) (fits _ low) (fits _ little) (fits _ big)))
@@ -193,7 +188,7 @@ module _ (s : State) (b : Base s) (i : In7 s) where
 
   later-7 : 1 ≤ s .clock .made → Low s b (i .numbered) (s .global .low) (s .range .low) (s .range .little) (s .range .big) (s .clock .made - 1)
       → High s b (i .numbered) (s .global .high) (s .range .high) (s .range .little) (s .range .big) (s .clock .made - 1) → Goes s
-  unfolding Step.rangeDoubled Low High
+  unfolding Step.range Step.rangeDoubled Low High
   later-7 p l h =
       goes-by
       (record {
@@ -206,7 +201,7 @@ module _ (s : State) (b : Base s) (i : In7 s) where
         low = globalLater min (s .clock .made - 1) (units s) (s .global .low);
         high = globalLater max (s .clock .made - 1) (units s) (s .global .high);
       })
-      (step-at 7 tt s (i .stage) ∙ ap (ticked s) (range-later s (omega arith)))
+      (step-at 7 tt s (i .stage) ∙ ap (ticked s) (later-tables s (Step.rangeBegun s) (Step.rangeDoubled (s .clock .made - 1) s) (omega arith)))
       (counted (Segments.next min-choice spans l))
       (counted (Segments.next max-choice spans h))
     where

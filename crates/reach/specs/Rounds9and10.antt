@@ -8,7 +8,6 @@ use native.Mathlib.Numerals.{add-one}
 use native.Mathlib.Omega.{arith}
 use lib.Dec.{eqb}
 use lib.ListN.{length}
-use Rattle.lists.specs.Tests.{either}
 use Rattle.lists.specs.Tables.{getD-over}
 use Rattle.table.specs.Table.{endA, endB}
 use Rattle.rules.specs.Basics.{at}
@@ -18,12 +17,12 @@ use Rattle.graph.specs.Forest.{Classes}
 use Rattle.machine.specs.State.{State}
 use Rattle.machine.specs.State.{MAX-REQUESTS, units, links}
 use Rattle.machine.specs.Step
-use Rattle.machine.specs.StageLaws.{ticked, labels-first, labels-second, step-at, ends-at, requests-at}
+use Rattle.machine.specs.StageLaws.{ticked, first-tables, later-tables, step-at, ends-at, requests-at}
 use Rattle.reach.specs.Site.{Link}
 use Rattle.reach.specs.AuxColors.{Marked, auxAfter, aux-first, aux-next, aux-bound, aux-done}
 use Rattle.reach.specs.LabelsRight.{labels-right}
 use Rattle.reach.specs.Invariant.{Base, Numbered, In9, In10, In11, Reached, in9, in10, in11}
-use Rattle.reach.specs.Ticks.{Goes, goes-within, goes-over, stage-on, made-on, stage-over, made-over, requests-next}
+use Rattle.reach.specs.Ticks.{Goes, goes-within, goes-over, goes-either, stage-on, made-on, stage-over, made-over, requests-next}
 
 -- ---- stage 9
 
@@ -87,21 +86,18 @@ module _ (s : State) (b : Base s) (i : In9 s) where
 
   later-9 : (first : List ℕ) (k : ℕ) → units s ≤ length first → s .clock .made ≡ suc k → s .aux .color ≡ after first (suc k) → Goes s
   unfolding after
-  later-9 first k l z c = go (either (Step.ruleEnds s))
+  later-9 first k l z c =
+      goes-either s (Step.auxComponents s) within-9 (step-at 9 tt s (i .stage)) rule
+      (λ r q. over-9 q (rw next (aux-done (b .site) (i .numbered .treed .rooted) (i .marked) first l k r)))
+      (λ r.
+      let m : s .clock .made + 1 ≡ suc (suc k) = omega arith in
+      (rw (i .stage) (omega (arith, aux-bound (b .site) (i .numbered .treed .rooted) (i .marked) first l k r)), λ q. on-9 first l q (rw m next)))
     where
       next : Step.auxColors s ≡ after first (suc (suc k))
       next = rw (z, c) (aux-next (units s) (links s) (s .table .ends) (s .tree .parent) (s .aux .links) (s .aux .parents) first k)
 
       rule : Step.ruleEnds s ≡ auxEnds (units s) (suc k) (after first (suc k)) (after first (suc (suc k)))
       rule = ends-at 9 s (i .stage) ∙ ap (λ (m : ℕ). auxEnds (units s) m (s .aux .color) (Step.auxColors s)) z ∙ ap (λ (x : List ℕ). auxEnds (units s) (suc k) x (Step.auxColors s)) c ∙ ap (auxEnds (units s) (suc k) (after first (suc k))) next
-
-      go : (Step.ruleEnds s ≡ true) ⊎ (Step.ruleEnds s ≡ false) → Goes s
-      go (inl r) =
-          goes-over s (Step.auxComponents s) within-9 (step-at 9 tt s (i .stage)) r (λ q. over-9 q (rw next (aux-done (b .site) (i .numbered .treed .rooted) (i .marked) first l k (sym rule ∙ r))))
-      go (inr r) =
-          let m : s .clock .made + 1 ≡ suc (suc k) = omega arith in
-          goes-within s (Step.auxComponents s) within-9 (step-at 9 tt s (i .stage)) r
-          (rw (i .stage) (omega (arith, aux-bound (b .site) (i .numbered .treed .rooted) (i .marked) first l k (sym rule ∙ r)))) (λ q. on-9 first l q (rw m next))
 
   pub goes-9 : Goes s
   unfolding after
@@ -172,13 +168,13 @@ module _ (s : State) (b : Base s) (i : In10 s) where
       })
 
   pub goes-10 : Goes s
-  unfolding name
+  unfolding name Step.labels
   goes-10 = go (i .named)
     where
       go : (s .clock .made ≡ 0) ⊎ ((s .clock .made ≡ 1) × ((j : ℕ) → j < links s → at (s .labels .class) j ≡ name j)) → Goes s
       go (inl z) =
           let r : Step.ruleEnds s ≡ false = ends-at 10 s (i .stage) ∙ rw z refl in
-          goes-within s (Step.labelClasses s) within-10 (step-at 10 tt s (i .stage) ∙ ap (ticked s) (labels-first s z)) r (rw (i .stage) (omega arith)) (first-10 z)
+          goes-within s (Step.labelClasses s) within-10 (step-at 10 tt s (i .stage) ∙ ap (ticked s) (first-tables s (Step.labelClasses s) (Step.labelPositions s) z)) r (rw (i .stage) (omega arith)) (first-10 z)
       go (inr (z, f)) =
           let r : Step.ruleEnds s ≡ true = ends-at 10 s (i .stage) ∙ rw z refl in
-          goes-over s (Step.labelPositions s) within-10 (step-at 10 tt s (i .stage) ∙ ap (ticked s) (labels-second s z)) r (second-10 f)
+          goes-over s (Step.labelPositions s) within-10 (step-at 10 tt s (i .stage) ∙ ap (ticked s) (later-tables s (Step.labelClasses s) (Step.labelPositions s) (omega (arith, z)))) r (second-10 f)

@@ -42,6 +42,12 @@ module _ (s tables : State) (within : s .clock .requests + Step.roundRequests s 
       let u : Step.lastRound s ≡ Step.ruleEnds s = uncut s (λ q. absurd (not-both (Step.ruleEnds s) r q)) in
       record { uncut = u; unclamped = within; after = rw is (after (u ∙ r)) }
 
+  -- whichever its rule says
+  pub goes-either : {ends : Bool} → Step.ruleEnds s ≡ ends → (ends ≡ true → Step.lastRound s ≡ true → Reached (ticked s tables))
+      → (ends ≡ false → (s .clock .made + 1 < ceiling (units s) (s .clock .stage)) × (Step.lastRound s ≡ false → Reached (ticked s tables))) → Goes s
+  goes-either {ends = true} rule over on = goes-over rule (over refl)
+  goes-either {ends = false} rule over on = goes-within rule (on refl .0) (on refl .1)
+
 -- ---- the clock within a stage, and over its end
 
 pub stage-on : (last : Bool) (r : ℕ) (c : Clock) → last ≡ false → Step.nextClock last r c .stage ≡ c .stage
