@@ -10,9 +10,8 @@ use Rattle.machine.specs.State
 use Rattle.machine.specs.State.{State, units, links}
 use Rattle.machine.specs.Step
 use Rattle.machine.specs.Step.{nextClock}
-use Rattle.machine.specs.KeptLaws.{links-fit}
 use Rattle.machine.specs.InStage.{inStage, lastAt}
-use Rattle.machine.specs.StageSteps.{Stage, step-by}
+use Rattle.machine.specs.StageSteps.{Stage, step-by, on-links}
 use Rattle.components.specs.declared.Ran.{Ran}
 
 -- the stage makes a round: its links fit, and the clock stands in it
@@ -36,11 +35,4 @@ pub stage : (s : State)
     → Stage 1 (units s) (linksFit (units s) (links s) (s .table .ends)) (λ (x : Ran). x .clock) (one (units s) (links s) (s .table .ends)) (λ (x : Ran). x .made) (into s)
 unfolding one lastAt Step.components
 stage s =
-    record {
-      small = omega arith;
-      site = λ x. refl;
-      clocks = λ x. refl;
-      fit = λ x w. links-fit (into s x) w;
-      counts = λ x. refl;
-      steps = λ x w e. rw (step-by 1 tt (into s x) e);
-    }
+    on-links s (omega arith) (λ x. refl) (λ x. refl) (λ x. refl) (λ x w e. rw (step-by 1 tt (into s x) e))

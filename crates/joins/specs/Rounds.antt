@@ -10,9 +10,8 @@ use Rattle.machine.specs.State
 use Rattle.machine.specs.State.{State, units, links}
 use Rattle.machine.specs.Step
 use Rattle.machine.specs.Step.{nextClock}
-use Rattle.machine.specs.KeptLaws.{links-fit}
 use Rattle.machine.specs.InStage.{inStage, lastAt}
-use Rattle.machine.specs.StageSteps.{Stage, step-by}
+use Rattle.machine.specs.StageSteps.{Stage, step-by, on-links}
 use Rattle.joins.specs.declared.Ran.{Ran}
 
 -- the stage makes a round: its links fit, and the clock stands in it
@@ -38,11 +37,4 @@ pub stage : (s : State)
     (one (units s) (links s) (s .table .ends) (s .tree .parent) (s .order .nd) (s .order .pre) (s .range .low) (s .range .high)) (λ (x : Ran). x .made) (into s)
 unfolding one lastAt Step.auxEdges
 stage s =
-    record {
-      small = omega arith;
-      site = λ x. refl;
-      clocks = λ x. refl;
-      fit = λ x w. links-fit (into s x) w;
-      counts = λ x. refl;
-      steps = λ x w e. rw (step-by 8 tt (into s x) e);
-    }
+    on-links s (omega arith) (λ x. refl) (λ x. refl) (λ x. refl) (λ x w e. rw (step-by 8 tt (into s x) e))

@@ -6,6 +6,7 @@ use mathlib.Core.List.{List}
 use Prim.Native.Nat.{ℕ, _+_}
 use native.Mathlib.Omega.{arith}
 use lib.Dec.{eqb}
+use Rattle.lists.specs.All.{cond-keeps}
 use Rattle.lists.specs.Tests.{either}
 use Rattle.rules.specs.Labels.{classRound, labelRound}
 use Rattle.rules.specs.Fits.{linksFit}
@@ -13,9 +14,8 @@ use Rattle.machine.specs.State
 use Rattle.machine.specs.State.{State, units, links}
 use Rattle.machine.specs.Step
 use Rattle.machine.specs.Step.{nextClock}
-use Rattle.machine.specs.KeptLaws.{links-fit}
 use Rattle.machine.specs.InStage.{inStage, lastAt}
-use Rattle.machine.specs.StageSteps.{Stage, step-by}
+use Rattle.machine.specs.StageSteps.{Stage, step-by, on-links}
 use Rattle.labels.specs.declared.Ran.{Ran}
 
 -- the stage makes a round: its links fit, and the clock stands in it
@@ -39,21 +39,11 @@ pub stage : (s : State)
     (one (units s) (links s) (s .table .ends) (s .tree .parent) (s .order .pre) (s .aux .color)) (λ (x : Ran). x .made) (into s)
 unfolding one lastAt Step.labels Step.labelClasses Step.labelPositions
 stage s =
-    record {
-      small = omega arith;
-      site = λ x. refl;
-      clocks = λ x. refl;
-      fit = λ x w. links-fit (into s x) w;
-      counts = λ x. counts x (either (eqb (x .clock .made) 0));
-      steps = λ x w e. steps x e (either (eqb (x .clock .made) 0));
-    }
+    on-links s (omega arith) (λ x. refl) (λ x. refl) (λ x. cond-keeps (λ (y : Ran). y .made ≡ x .made + 1) (eqb (x .clock .made) 0) _ _ refl refl)
+    (λ x w e. steps x e (either (eqb (x .clock .made) 0)))
   where
     round : Ran → Ran
     round x = one (units s) (links s) (s .table .ends) (s .tree .parent) (s .order .pre) (s .aux .color) x
-
-    counts : (x : Ran) → (eqb (x .clock .made) 0 ≡ true) ⊎ (eqb (x .clock .made) 0 ≡ false) → round x .made ≡ x .made + 1
-    counts x (inl h) = rw h refl
-    counts x (inr h) = rw h refl
 
     steps : (x : Ran) → x .clock .stage ≡ 10 → (eqb (x .clock .made) 0 ≡ true) ⊎ (eqb (x .clock .made) 0 ≡ false) → into s (round x) ≡ Step.step (into s x)
     steps x e (inl h) = rw (step-by 10 tt (into s x) e, h)

@@ -8,10 +8,13 @@ use lib.Dec.{T, ltb}
 use native.Mathlib.Decide.{ℕ-discrete}
 use Rattle.lists.specs.Tests.{either, not-both, and-right, and-true}
 use Rattle.machine.specs.State.{State}
+use Rattle.rules.specs.Fits.{linksFit}
 use Rattle.state.specs.declared.groups.Clock.{Clock}
-use Rattle.machine.specs.State.{units, withClock, FINISHED}
+use Rattle.state.specs.declared.groups.Table.{Table}
+use Rattle.machine.specs.State.{units, links, withClock, FINISHED}
 use Rattle.machine.specs.WellFormed.{wellFormed}
 use Rattle.machine.specs.Kept.{kept-exact}
+use Rattle.machine.specs.KeptLaws.{links-fit}
 use Rattle.machine.specs.Step
 use Rattle.machine.specs.StageLaws.{step-going, step-at, ends-at, requests-at}
 use Rattle.machine.specs.Run.{ran}
@@ -38,6 +41,21 @@ pub step-by : (k : ℕ) → T (ltb k FINISHED) → (s : State) → s .clock .sta
     → Step.step s ≡ withClock (Step.nextClock (lastAt (units s) (Step.endsAt k s) (s .clock)) (Step.requestsAt k s) (s .clock)) (Step.tablesAt k s)
 unfolding lastAt Step.lastRound
 step-by k l s e = step-at k l s e ∙ rw (ends-at k s e, requests-at k s e) refl
+
+-- a stage that leaves the table of links as it is, where the links fit
+pub on-links : {X : Type 0} {k : ℕ} {clock : X → Clock} {one : X → X} {count : X → ℕ} {into : X → State} (s : State) → k ≤ 10
+    → ((x : X) → into x .table ≡ s .table) → ((x : X) → into x .clock ≡ clock x) → ((x : X) → count (one x) ≡ count x + 1)
+    → ((x : X) → wellFormed (into x) ≡ true → into x .clock .stage ≡ k → into (one x) ≡ Step.step (into x))
+    → Stage k (units s) (linksFit (units s) (links s) (s .table .ends)) clock one count into
+on-links {into = into} s small kept clocks counts steps =
+    record {
+      small = small;
+      site = λ x. ap (λ (t : Table). t .units) (kept x);
+      clocks = clocks;
+      fit = λ x w. sym (ap (λ (t : Table). linksFit (t .units) (t .links) (t .ends)) (kept x)) ∙ links-fit (into x) w;
+      counts = counts;
+      steps = steps;
+    }
 
 -- a run begins in some stage
 came-first : (budget : ℕ) (s : State) → wellFormed s ≡ true → CameTo 1 budget s 0 s

@@ -7,6 +7,7 @@ use Prim.Native.Nat.{ℕ, _+_, _-_, _<_, min, max}
 use native.Mathlib.Omega.{arith}
 use lib.Dec.{eqb}
 use borrow.Author.Tests.{eq-eqb, ne-eqb}
+use Rattle.lists.specs.All.{cond-keeps}
 use Rattle.lists.specs.Tests.{either}
 use Rattle.numbers.specs.Lg.{lg}
 use Rattle.numbers.specs.LgLaws.{lg-least}
@@ -18,12 +19,11 @@ use Rattle.machine.specs.State
 use Rattle.machine.specs.State.{State, units, links, FINISHED}
 use Rattle.machine.specs.WellFormed.{wellFormed}
 use Rattle.machine.specs.Kept.{Kept, kept-exact}
-use Rattle.machine.specs.KeptLaws.{links-fit}
 use Rattle.machine.specs.StepKept.{made-below}
 use Rattle.machine.specs.Step
 use Rattle.machine.specs.Step.{nextClock}
 use Rattle.machine.specs.InStage.{inStage, lastAt}
-use Rattle.machine.specs.StageSteps.{Stage, step-by}
+use Rattle.machine.specs.StageSteps.{Stage, step-by, on-links}
 use Rattle.range.specs.declared.Ran.{Ran}
 
 -- the stage makes a round: its links fit, and the clock stands in it
@@ -88,21 +88,11 @@ pub stage : (s : State)
     (one (units s) (links s) (s .table .ends) (s .tree .parent) (s .order .nd) (s .order .pre)) (λ (x : Ran). x .made) (into s)
 unfolding one lastAt Step.range Step.rangeBegun Step.rangeDoubled
 stage s =
-    record {
-      small = omega arith;
-      site = λ x. refl;
-      clocks = λ x. refl;
-      fit = λ x w. links-fit (into s x) w;
-      counts = λ x. counts x (either (eqb (x .clock .made) 0));
-      steps = λ x w e. steps x w e (either (eqb (x .clock .made) 0));
-    }
+    on-links s (omega arith) (λ x. refl) (λ x. refl) (λ x. cond-keeps (λ (y : Ran). y .made ≡ x .made + 1) (eqb (x .clock .made) 0) _ _ refl refl)
+    (λ x w e. steps x w e (either (eqb (x .clock .made) 0)))
   where
     made : Ran → Ran
     made x = one (units s) (links s) (s .table .ends) (s .tree .parent) (s .order .nd) (s .order .pre) x
-
-    counts : (x : Ran) → (eqb (x .clock .made) 0 ≡ true) ⊎ (eqb (x .clock .made) 0 ≡ false) → made x .made ≡ x .made + 1
-    counts x (inl h) = rw h refl
-    counts x (inr h) = rw h refl
 
     -- at most 256 units: at most 8 doublings
     doublings : (x : Ran) → wellFormed (into s x) ≡ true → x .clock .stage ≡ 7 → min (x .clock .made - 1) 16 ≡ x .clock .made - 1

@@ -15,9 +15,8 @@ use Rattle.machine.specs.State
 use Rattle.machine.specs.State.{State, units, links}
 use Rattle.machine.specs.Step
 use Rattle.machine.specs.Step.{nextClock}
-use Rattle.machine.specs.KeptLaws.{links-fit}
 use Rattle.machine.specs.InStage.{inStage, lastAt}
-use Rattle.machine.specs.StageSteps.{Stage, step-by}
+use Rattle.machine.specs.StageSteps.{Stage, step-by, on-links}
 use Rattle.tree.specs.declared.Ran.{Ran}
 
 -- the stage makes a round: its links fit, and the clock stands in it
@@ -93,11 +92,4 @@ pub stage : (s : State)
     → Stage 2 (units s) (linksFit (units s) (links s) (s .table .ends)) (λ (x : Ran). x .clock) (one (units s) (links s) (s .plan .given) (s .plan .parent) (s .table .ends) (s .table .levels) (s .components .color)) (λ (x : Ran). x .made) (into s)
 unfolding one lastAt endsAfter
 stage s =
-    record {
-      small = omega arith;
-      site = λ x. refl;
-      clocks = λ x. refl;
-      fit = λ x w. links-fit (into s x) w;
-      counts = λ x. refl;
-      steps = λ x w e. rw (step-by 2 tt (into s x) e) (ap (State.withClock _) (tree-either (into s x)));
-    }
+    on-links s (omega arith) (λ x. refl) (λ x. refl) (λ x. refl) (λ x w e. rw (step-by 2 tt (into s x) e) (ap (State.withClock _) (tree-either (into s x))))
