@@ -26,19 +26,12 @@ pub fn of<'a>(units: u16, parent: &'a [u16; 256], parents: &'a [u16; 256]) -> [u
     new
 }
 
-// What the units say, roots the absent mark.
+// What the units say, roots the absent mark: the least of a value and itself.
 pub fn without_roots(units: u16, parent: &[u16; 256], value: [u16; 256]) -> [u16; 256]
     ensures { λ r. ⌜ r ≡ over (min units 256) (saidBy (now (parent .entry)) value) value ⌝ }
 {
-    let count = values::least_of(units, 256);
-    let mut new = value;
-    let mut v = 0;
-    while v < count {
-        let at = v as usize;
-        new[at] = values::choose(parent[at] == ABSENT, ABSENT, value[at]);
-        v += 1;
-    }
-    new
+    let old = value;
+    least(units, parent, &value, &value, old)
 }
 
 // What a unit took in, and what its head told it; roots are absent.

@@ -1,83 +1,18 @@
--- Unit by unit.
-use mathlib.Core.Path.{_≡_, refl, _∙_}
-use Prim.Native.Nat.{_≤_, _-_}
-use lib.ListN.{length}
-use Rattle.lists.specs.Tables.{over}
-use Rattle.lists.specs.Rounds.{over-more, over-all}
-use Rattle.heads.specs.Heads.{saidBy}
+-- The least of a value and itself.
+use mathlib.Core.Path.{_∙_}
+use Prim.Native.Nat.{min}
+use Rattle.heads.specs.Heads.{least-said}
 use borrow.Author.Needs.{needs}
 use Rattle.heads.proofs.without_roots.Statement.{statement}
 use Rattle.heads.proofs.without_roots.Tie as tie
 
-abbrev Inv-loop : tie.InvT-loop
-Inv-loop units parent value count new₀ v₀ new v = (v ≤ count) × (length new ≡ 256) × (new ≡ over v (saidBy parent value) new₀)
+least-requires : tie.Need-least-requires
+least-requires c κs = search needs
 
-abbrev μ-loop : tie.MeasureT-loop
-μ-loop units parent value count new₀ v₀ new v = count - v
-
-least-of-requires : tie.Need-least-of-requires Inv-loop μ-loop
-least-of-requires c κs = search needs
-
-loop-holds : tie.Need-loop-holds Inv-loop μ-loop
-loop-holds c = search needs
-
-cast-at : tie.Need-cast-at Inv-loop μ-loop
-cast-at c = search needs
-
-mul-choose : tie.Need-mul-choose Inv-loop μ-loop
-mul-choose c = search needs
-
-element-copy-out-choose : tie.Need-element-copy-out-choose Inv-loop μ-loop
-element-copy-out-choose c = search needs
-
-mul-choose-2 : tie.Need-mul-choose-2 Inv-loop μ-loop
-mul-choose-2 c = search needs
-
-array-read-choose : tie.Need-array-read-choose Inv-loop μ-loop
-array-read-choose c = search needs
-
-choose-requires : tie.Need-choose-requires Inv-loop μ-loop
-choose-requires c κs = search needs
-
-mul-new : tie.Need-mul-new Inv-loop μ-loop
-mul-new c = search needs
-
-array-write-new : tie.Need-array-write-new Inv-loop μ-loop
-array-write-new c = search needs
-
-add-v : tie.Need-add-v Inv-loop μ-loop
-add-v c = search needs
-
-loop-less : tie.Need-loop-less Inv-loop μ-loop
-loop-less c = search needs
-
-loop-again : tie.Need-loop-again Inv-loop μ-loop
-loop-again c =
-    let s = c .before .before .before in
-    let a = s .before .before .args in
-    let is : c .choose .result ≡ saidBy (a .parent .now) (a .t3) (s .loop .v) = cc in
-    (search needs, search needs, over-more _ _ _ _ _ _ (s .loop .inv .2) is refl)
-
-returns : tie.Need-returns Inv-loop μ-loop
-returns c = rw (← c .before .before .least-of .ensures) (c .before .loop .inv .2 ∙ over-all _ _ _ _ (c .before .loop .inv .0) (c .loop-test .left))
+returns : tie.Need-returns
+returns c =
+    let a = c .before .before .before .args in
+    c .least .ensures ∙ least-said (min (a .units) 256) (a .parent .now) (a .t3)
 
 pub without-roots-spec : {M : Type 1} → statement M
-without-roots-spec =
-    tie.close
-    (tie.spec
-    Inv-loop
-    μ-loop
-    least-of-requires
-    loop-holds
-    cast-at
-    mul-choose
-    element-copy-out-choose
-    mul-choose-2
-    array-read-choose
-    choose-requires
-    mul-new
-    array-write-new
-    add-v
-    loop-less
-    loop-again
-    returns)
+without-roots-spec = tie.close (tie.spec least-requires returns)
