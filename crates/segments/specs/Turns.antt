@@ -1,13 +1,14 @@
 -- A unit's turn in a later round, from what the code reads: little and big, and whether each is odd, by a mask.
-use mathlib.Core.Path.{_≡_}
+use mathlib.Core.Path.{_≡_, refl}
 use mathlib.Core.Bool.{Bool, true, not, cond}
 use mathlib.Core.List.{List}
 use Prim.Native.Nat.{ℕ, suc, _+_, _*_, _-_, _^_, _≤_, _<_, min}
+use native.Mathlib.Decide.{decLt}
 use native.Mathlib.Omega.{arith}
 use lib.Bits.{bitAnd, and-mask}
-use lib.Dec.{eqb, ltb}
-use borrow.Author.Tests.{lt-ltb, le-ltb}
-use Rattle.rules.specs.Basics.{at}
+use lib.Dec.{eqb, ltb, leb}
+use borrow.Author.Tests.{lt-ltb, le-ltb, lt-leb, le-leb}
+use Rattle.rules.specs.Basics.{ABSENT, at}
 use Rattle.rules.specs.Range.{segment}
 use Rattle.rules.specs.MoveLaws.{oddBy, littleBy, bigBy, rangeBy, segmentBeforeBy}
 
@@ -22,6 +23,15 @@ odd-by i span mask length ones x =
 abbrev pub taken : (ℕ → ℕ → ℕ) → Bool → Bool → ℕ → ℕ → List ℕ → ℕ → ℕ → ℕ → ℕ
 taken op left right span n global from to x =
     cond right (op (cond left (op x (segment n global from)) x) (segmentBeforeBy span n global to)) (cond left (op x (segment n global from)) x)
+
+-- the segment before `to` by its place
+pub before-taken : (op : ℕ → ℕ → ℕ) (left right : Bool) (span n : ℕ) (global : List ℕ) (from to x y back z : ℕ) → n ≤ 256 → y ≡ cond left (op x (segment n global from)) x
+    → back ≡ cond (ltb to span) ABSENT (to - span) → z ≡ cond right (op y (segment n global back)) y → z ≡ taken op left right span n global from to x
+before-taken op left right span n global from to x y back z few is-y is-back is-z = rw (is-z, same (decLt to span), is-y) refl
+  where
+    same : Dec (to < span) → segment n global back ≡ segmentBeforeBy span n global to
+    same (yes l) = rw (is-back, lt-ltb to span l, lt-leb span to l, le-ltb ABSENT n (omega (arith, few))) refl
+    same (no l) = rw (is-back, le-ltb to span (omega (arith, l)), le-leb span to (omega (arith, l))) refl
 
 module _ (span period n : ℕ) (little big : List ℕ) (v : ℕ) where
   -- little is not before big: nothing changes

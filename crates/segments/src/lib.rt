@@ -4,10 +4,10 @@ ghost use mathlib.Core.Path.{_≡_};
 ghost use mathlib.Core.Bool.{not, cond};
 ghost use Prim.Native.Nat.{_+_, _-_, _^_, _≤_, min, max};
 ghost use lib.Bits.{bitAnd};
-ghost use lib.Dec.{eqb, leb};
+ghost use lib.Dec.{eqb, leb, ltb};
 ghost use Rattle.lists.specs.Scatter.{opOf};
+ghost use Rattle.rules.specs.Basics.{ABSENT};
 ghost use Rattle.rules.specs.Range.{segment, rangeLater, littleLater, bigLater, globalLater};
-ghost use Rattle.rules.specs.MoveLaws.{segmentBeforeBy};
 ghost use Rattle.segments.specs.Turns.{taken};
 
 // The length of a segment in round `i`.
@@ -41,45 +41,22 @@ fn segment_at(n: u16, global: &[u16; 256], q: u16) -> u16
     if q < n { global[at] } else { 0 }
 }
 
-// The segment that ends before place `q`.
-fn segment_before(span: u32, n: u16, global: &[u16; 256], q: u16) -> u16
-    requires { ⌜ n ≤ 256 ⌝ }
-    ensures { λ r. ⌜ r ≡ segmentBeforeBy span n (now (global .entry)) q ⌝ }
+// The place where a segment begins that ends before place `q`; absent, which is no place, where there is none.
+fn place_before(span: u32, q: u16) -> u16
+    ensures { λ r. ⌜ r ≡ cond (ltb q span) ABSENT (q - span) ⌝ }
 {
-    if (q as u32) < span {
-        return 0;
-    }
-    segment_at(n, global, (q as u32 - span) as u16)
+    values::choose((q as u32) < span, 65535, values::less_step(q, span))
 }
 
-// What `x` becomes with the segment at `from`, if that moves.
-fn with_little(greatest: bool, moves: bool, n: u16, global: &[u16; 256], from: u16, x: u16) -> u16
+// What `x` becomes with the segment at place `q`, if an end moves over it.
+fn with_segment(greatest: bool, moves: bool, n: u16, global: &[u16; 256], q: u16, x: u16) -> u16
     requires { ⌜ n ≤ 256 ⌝ }
-    ensures { λ r. ⌜ r ≡ cond moves (opOf greatest x (segment n (now (global .entry)) from)) x ⌝ }
+    ensures { λ r. ⌜ r ≡ cond moves (opOf greatest x (segment n (now (global .entry)) q)) x ⌝ }
 {
     if !moves {
         return x;
     }
-    values::op_of(greatest, x, segment_at(n, global, from))
-}
-
-// What `x` becomes with the segment before `to`, if that moves.
-fn with_big(
-    greatest: bool,
-    moves: bool,
-    span: u32,
-    n: u16,
-    global: &[u16; 256],
-    to: u16,
-    x: u16,
-) -> u16
-    requires { ⌜ n ≤ 256 ⌝ }
-    ensures { λ r. ⌜ r ≡ cond moves (opOf greatest x (segmentBeforeBy span n (now (global .entry)) to)) x ⌝ }
-{
-    if !moves {
-        return x;
-    }
-    values::op_of(greatest, x, segment_before(span, n, global, to))
+    values::op_of(greatest, x, segment_at(n, global, q))
 }
 
 // Both, little first.
@@ -97,8 +74,9 @@ fn take(
     requires { ⌜ n ≤ 256 ⌝ }
     ensures { λ r. ⌜ r ≡ taken (opOf greatest) left right span n (now (global .entry)) from to x ⌝ }
 {
-    let y = with_little(greatest, left, n, global, from, x);
-    with_big(greatest, right, span, n, global, to, y)
+    let y = with_segment(greatest, left, n, global, from, x);
+    let back = place_before(span, to);
+    with_segment(greatest, right, n, global, back, y)
 }
 
 // A round of the units' tables in place: a unit's entries are read before they are made anew. Where little is not before big nothing moves.

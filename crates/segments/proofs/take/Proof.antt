@@ -1,16 +1,26 @@
 -- One after the other.
+use Rattle.lists.specs.Scatter.{opOf}
+use Rattle.segments.specs.Turns.{before-taken}
 use borrow.Author.Needs.{needs}
 use Rattle.segments.proofs.take.Statement.{statement}
 use Rattle.segments.proofs.take.Tie as tie
 
-with-little-requires : tie.Need-with-little-requires
-with-little-requires c κs = search needs
+with-segment-requires : tie.Need-with-segment-requires
+with-segment-requires c κs = search needs
 
-with-big-requires : tie.Need-with-big-requires
-with-big-requires c κs = search needs
+place-before-requires : tie.Need-place-before-requires
+place-before-requires c κs = search needs
+
+with-segment-requires-2 : tie.Need-with-segment-requires-2
+with-segment-requires-2 c κs = search needs
 
 returns : tie.Need-returns
-returns c = rw (c .with-big .ensures, c .before .with-little .ensures)
+returns c =
+    let b = c .before in
+    let y = b .before in
+    let s = y .before in
+    let a = s .args in
+    before-taken (opOf (a .greatest)) (a .left) (a .right) (a .span) (a .n) (a .global .now) (a .from) (a .to) (a .x) (y .with-segment .result) (b .place-before .result) (c .with-segment2 .result) (s .pre) (y .with-segment .ensures) (b .place-before .ensures) (c .with-segment2 .ensures)
 
 pub take-spec : {M : Type 1} → statement M
-take-spec = tie.close (tie.spec with-little-requires with-big-requires returns)
+take-spec = tie.close (tie.spec with-segment-requires place-before-requires with-segment-requires-2 returns)

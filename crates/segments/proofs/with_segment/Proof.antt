@@ -1,8 +1,8 @@
 -- By the test.
 use borrow.Author.Needs.{needs}
 use borrow.Author.Tests.{not-true, not-false}
-use Rattle.segments.proofs.with_little.Statement.{statement}
-use Rattle.segments.proofs.with_little.Tie as tie
+use Rattle.segments.proofs.with_segment.Statement.{statement}
+use Rattle.segments.proofs.with_segment.Tie as tie
 
 returns : tie.Need-returns
 returns c = rw (not-true (c .before .args .moves) (c .if1 .taken))
@@ -16,5 +16,5 @@ op-of-requires c κs = search needs
 returns-2 : tie.Need-returns-2
 returns-2 c = rw (c .op-of .ensures, c .before .segment-at .ensures, not-false (c .before .before .before .args .moves) (c .before .before .if1 .left))
 
-pub with-little-spec : {M : Type 1} → statement M
-with-little-spec = tie.close (tie.spec returns segment-at-requires op-of-requires returns-2)
+pub with-segment-spec : {M : Type 1} → statement M
+with-segment-spec = tie.close (tie.spec returns segment-at-requires op-of-requires returns-2)
