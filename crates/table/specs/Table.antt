@@ -170,3 +170,7 @@ refusalAs fresh n t ls = cond fresh (freshRefusal n t ls) (storedRefusal n t ls)
 
 unfoldable pub pairRefusal : ℕ → List ℕ → ℕ
 pairRefusal n t = firstOf (pairTests n t)
+
+-- without levels, as the pairs are ordered or not
+abbrev pub unlevelledAs : Bool → ℕ → List ℕ → ℕ
+unlevelledAs ordered n t = cond ordered (pairRefusal n t) (bareRefusal n t)

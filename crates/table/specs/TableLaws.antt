@@ -15,7 +15,7 @@ use Rattle.lists.specs.Tests.{or-false-left, or-false-right}
 use Rattle.lists.specs.Folds.{every}
 use Rattle.levels.specs.Level.{inRange}
 use Rattle.table.specs.Table.{maxUnits, endA, endB, badUnitCount, oddWords, tooManyLinks, levelsDiffer, endMissing, equalEnds, repeatedLink, repeatedPair, repeatedAs}
-use Rattle.table.specs.Table.{countTests, levelTests, endTests, countRefusal, levelRefusal, endRefusal, bareRefusal, storedRefusal, endTestsBy, pairRefusal}
+use Rattle.table.specs.Table.{countTests, levelTests, endTests, countRefusal, levelRefusal, endRefusal, bareRefusal, storedRefusal, endTestsBy, pairRefusal, unlevelledAs}
 use Rattle.table.specs.RefusalLaws.{first-some, first-none}
 
 -- ---- a link more at the front
@@ -125,13 +125,15 @@ module _ (n : ℕ) (t : List ℕ) (repeated : Bool) where
 
 -- of a table without levels: the first part that refuses
 module _ (n : ℕ) (t : List ℕ) where
-  pub bare-counts : (countRefusal n t ≡ 0 → ⊥) → countRefusal n t ≡ bareRefusal n t
-  unfolding countRefusal bareRefusal
-  bare-counts h = sym (first-some (countTests n t) (endTests n t) h)
+  pub unlevelled-counts : (ordered : Bool) → (countRefusal n t ≡ 0 → ⊥) → countRefusal n t ≡ unlevelledAs ordered n t
+  unfolding countRefusal pairRefusal bareRefusal
+  unlevelled-counts true h = sym (first-some (countTests n t) (endTestsBy n t (repeatedPair t)) h)
+  unlevelled-counts false h = sym (first-some (countTests n t) (endTests n t) h)
 
-  pub bare-ends : countRefusal n t ≡ 0 → endRefusal n t (repeatedAs false t) ≡ bareRefusal n t
-  unfolding countRefusal endRefusal bareRefusal
-  bare-ends p = sym (first-none (countTests n t) (endTests n t) (omega arith) p)
+  pub unlevelled-ends : (ordered : Bool) → countRefusal n t ≡ 0 → endRefusal n t (repeatedAs ordered t) ≡ unlevelledAs ordered n t
+  unfolding countRefusal endRefusal pairRefusal bareRefusal
+  unlevelled-ends true p = sym (first-none (countTests n t) (endTestsBy n t (repeatedPair t)) (omega arith) p)
+  unlevelled-ends false p = sym (first-none (countTests n t) (endTests n t) (omega arith) p)
 
 -- with levels
 module _ (n : ℕ) (t : List ℕ) (ls : List ℤ) where
@@ -150,16 +152,6 @@ module _ (n : ℕ) (t : List ℕ) (ls : List ℤ) where
       sym
       (first-none (countTests n t) (levelTests t ls ++ endTests n t) (omega arith) p
       ∙ first-none (levelTests t ls) (endTests n t) (omega arith) q)
-
--- of a table of ordered pairs
-module _ (n : ℕ) (t : List ℕ) where
-  pub pair-counts : (countRefusal n t ≡ 0 → ⊥) → countRefusal n t ≡ pairRefusal n t
-  unfolding countRefusal pairRefusal
-  pair-counts h = sym (first-some (countTests n t) (endTestsBy n t (repeatedPair t)) h)
-
-  pub pair-ends : countRefusal n t ≡ 0 → endRefusal n t (repeatedAs true t) ≡ pairRefusal n t
-  unfolding countRefusal endRefusal pairRefusal
-  pair-ends p = sym (first-none (countTests n t) (endTestsBy n t (repeatedPair t)) (omega arith) p)
 
 -- ends below n are below any greater number
 pub endMissing-more : (n k : ℕ) (t : List ℕ) → n ≤ k → endMissing n t ≡ false → endMissing k t ≡ false

@@ -2,7 +2,7 @@
 ghost use mathlib.Core.Path.{_≡_};
 ghost use mathlib.Core.Bool.{false, _||_};
 ghost use Prim.Native.Nat.{_≤_};
-ghost use Rattle.table.specs.Table.{maxUnits, endMissing, equalEnds, repeatedLink, countRefusal, levelRefusal, endRefusal, bareRefusal, storedRefusal, refusalAs, repeatedAs, pairRefusal, unlinkedUnit};
+ghost use Rattle.table.specs.Table.{maxUnits, endMissing, equalEnds, repeatedLink, countRefusal, levelRefusal, endRefusal, bareRefusal, storedRefusal, refusalAs, repeatedAs, pairRefusal, unlevelledAs, unlinkedUnit};
 
 mod marks;
 mod seen;
@@ -48,22 +48,25 @@ fn stored_refusal(units: u16, table: &[u16], levels: &[i16]) -> u8
 pub fn pair_refusal(units: u16, table: &[u16]) -> u8
     ensures { λ r. ⌜ r ≡ pairRefusal units (now (table .entry)) ⌝ }
 {
-    let number = counts(units, table);
-    if number != 0 {
-        return number;
-    }
-    ends(true, units, table)
+    unlevelled(true, units, table)
 }
 
 // The same of a table without levels: 4 to 9.
 pub fn bare_refusal(units: u16, table: &[u16]) -> u8
     ensures { λ r. ⌜ r ≡ bareRefusal units (now (table .entry)) ⌝ }
 {
+    unlevelled(false, units, table)
+}
+
+// Either, as the pairs are ordered or not.
+fn unlevelled(ordered: bool, units: u16, table: &[u16]) -> u8
+    ensures { λ r. ⌜ r ≡ unlevelledAs ordered units (now (table .entry)) ⌝ }
+{
     let number = counts(units, table);
     if number != 0 {
         return number;
     }
-    ends(false, units, table)
+    ends(ordered, units, table)
 }
 
 // 4, 5, 6.

@@ -2,9 +2,9 @@
 use mathlib.Core.Path.{_≡_, sym, _∙_}
 use borrow.Author.Needs.{needs}
 use Rattle.table.specs.Table.{countRefusal}
-use Rattle.table.specs.TableLaws.{pair-counts, pair-ends, counted-units}
-use Rattle.table.proofs.pair_refusal.Statement.{statement}
-use Rattle.table.proofs.pair_refusal.Tie as tie
+use Rattle.table.specs.TableLaws.{unlevelled-counts, unlevelled-ends, counted-units}
+use Rattle.table.proofs.unlevelled.Statement.{statement}
+use Rattle.table.proofs.unlevelled.Tie as tie
 
 counted : (s : tie.Else1) → countRefusal (s .before .before .before .args .units) (s .before .before .before .args .table .now) ≡ 0
 counted s = sym (s .before .counts .ensures) ∙ s .if1 .left
@@ -16,15 +16,17 @@ returns : tie.Need-returns
 returns c =
     let a = c .before .before .before .args in
     let e = c .before .counts .ensures in
-    e ∙ pair-counts (a .units) (a .table .now) (λ z. c .if1 .taken (e ∙ z))
+    e ∙ unlevelled-counts (a .units) (a .table .now) (a .ordered) (λ z. c .if1 .taken (e ∙ z))
 
 ends-requires : tie.Need-ends-requires
-ends-requires c κs = let a = c .before .before .before .args in counted-units (a .units) (a .table .now) (counted c)
+ends-requires c κs =
+    let a = c .before .before .before .args in
+    counted-units (a .units) (a .table .now) (counted c)
 
 returns-2 : tie.Need-returns-2
 returns-2 c =
     let a = c .before .before .before .before .args in
-    c .ends .ensures ∙ pair-ends (a .units) (a .table .now) (counted (c .before))
+    c .ends .ensures ∙ unlevelled-ends (a .units) (a .table .now) (a .ordered) (counted (c .before))
 
-pub pair-refusal-spec : {M : Type 1} → statement M
-pair-refusal-spec = tie.close (tie.spec counts-requires returns ends-requires returns-2)
+pub unlevelled-spec : {M : Type 1} → statement M
+unlevelled-spec = tie.close (tie.spec counts-requires returns ends-requires returns-2)
