@@ -1,10 +1,13 @@
 // Whether a state is well formed (document 01: kept), told of its numbers and tables, lent one by one: no copy is made.
 use state::Clock;
 use values::bounds;
+use values::bounds::Limit;
 ghost use mathlib.Core.Path.{_≡_};
+ghost use mathlib.Core.Bool.{Bool};
 ghost use mathlib.Core.List.{[], _∷_};
+ghost use Prim.Native.Nat.{ℕ};
 ghost use Rattle.lists.specs.Folds.{every};
-ghost use Rattle.rules.specs.Bounds.{nameOk, numberOk};
+ghost use Rattle.values.specs.Tops.{Tells};
 ghost use Rattle.machine.specs.WellFormed.{wellFormed};
 
 pub fn kept<'a>(
@@ -43,15 +46,18 @@ pub fn kept<'a>(
     if !clock::front_ok(units, links, ends, clock) {
         return false;
     }
-    let count = units as u32;
-    let ended = bounds::names_ok(count, ends);
-    let named = five_ok(count, color, parent, classes, class, plan);
-    let arcs = three_ok(2 * count, next, pred, jump);
+    let unit = bounds::names(units as u32);
+    let ended = bounds::within(unit, ends);
+    let colored = bounds::within(unit, color);
+    let named = values::both(colored, four_ok(unit, parent, classes, class, plan));
+    let arc = bounds::names(2 * (units as u32));
+    let arcs = three_ok(arc, next, pred, jump);
     let labels = bounds::names_ok(links as u32, label);
     let dists = bounds::dists_ok(dist);
-    let sums = numbers_ok(sum, forward, nd, pre);
-    let ranges = numbers_ok(low, high, little, big);
-    let joins = numbers_ok(least, greatest, parents, linked);
+    let number = bounds::numbers();
+    let sums = four_ok(number, sum, forward, nd, pre);
+    let ranges = four_ok(number, low, high, little, big);
+    let joins = four_ok(number, least, greatest, parents, linked);
     let heard = levels::all_in_range(levels);
     let names = values::both(values::both(values::both(ended, named), arcs), labels);
     let entries = values::both(
@@ -61,44 +67,20 @@ pub fn kept<'a>(
     values::both(values::both(entries, heard), given <= 2048)
 }
 
-// Every entry of three tables names one of `count` things or is absent.
-fn three_ok<'a>(count: u32, a: &'a [u16], b: &'a [u16], c: &'a [u16]) -> bool
-    ensures { λ r. ⌜ r ≡ every (every (nameOk count)) (now (a .entry) ∷ now (b .entry) ∷ now (c .entry) ∷ []) ⌝ }
+// Every entry of three tables passes.
+fn three_ok<'a>(limit: Limit, a: &'a [u16], b: &'a [u16], c: &'a [u16]) -> bool
+    ensures { λ r. ⌜ ((p : ℕ → Bool) → Tells (limit .more) (limit .most) p → r ≡ every (every p) (now (a .entry) ∷ now (b .entry) ∷ now (c .entry) ∷ [])) ⌝ }
 {
     values::both(
-        bounds::names_ok(count, a),
-        values::both(bounds::names_ok(count, b), bounds::names_ok(count, c)),
+        bounds::within(limit, a),
+        values::both(bounds::within(limit, b), bounds::within(limit, c)),
     )
 }
 
 // The same of four.
-fn four_ok<'a>(count: u32, a: &'a [u16], b: &'a [u16], c: &'a [u16], d: &'a [u16]) -> bool
-    ensures { λ r. ⌜ r ≡ every (every (nameOk count)) (now (a .entry) ∷ now (b .entry) ∷ now (c .entry) ∷ now (d .entry) ∷ []) ⌝ }
+fn four_ok<'a>(limit: Limit, a: &'a [u16], b: &'a [u16], c: &'a [u16], d: &'a [u16]) -> bool
+    ensures { λ r. ⌜ ((p : ℕ → Bool) → Tells (limit .more) (limit .most) p
+        → r ≡ every (every p) (now (a .entry) ∷ now (b .entry) ∷ now (c .entry) ∷ now (d .entry) ∷ [])) ⌝ }
 {
-    values::both(bounds::names_ok(count, a), three_ok(count, b, c, d))
-}
-
-// The same of five.
-fn five_ok<'a>(
-    count: u32,
-    a: &'a [u16],
-    b: &'a [u16],
-    c: &'a [u16],
-    d: &'a [u16],
-    e: &'a [u16],
-) -> bool
-    ensures { λ r. ⌜ r ≡ every (every (nameOk count)) (now (a .entry) ∷ now (b .entry) ∷ now (c .entry) ∷ now (d .entry) ∷ now (e .entry) ∷ []) ⌝ }
-{
-    values::both(bounds::names_ok(count, a), four_ok(count, b, c, d, e))
-}
-
-// No entry of four tables exceeds 2,048.
-fn numbers_ok<'a>(a: &'a [u16], b: &'a [u16], c: &'a [u16], d: &'a [u16]) -> bool
-    ensures { λ r. ⌜ r ≡ every (every numberOk) (now (a .entry) ∷ now (b .entry) ∷ now (c .entry) ∷ now (d .entry) ∷ []) ⌝ }
-{
-    let last = values::both(bounds::numbers_ok(c), bounds::numbers_ok(d));
-    values::both(
-        bounds::numbers_ok(a),
-        values::both(bounds::numbers_ok(b), last),
-    )
+    values::both(bounds::within(limit, a), three_ok(limit, b, c, d))
 }

@@ -4,8 +4,8 @@ use borrow.Author.Needs.{needs}
 use Rattle.well_formed.proofs.four_ok.Statement.{statement}
 use Rattle.well_formed.proofs.four_ok.Tie as tie
 
-names-ok-requires : tie.Need-names-ok-requires
-names-ok-requires c κs = search needs
+within-requires : tie.Need-within-requires
+within-requires c κs = search needs
 
 three-ok-requires : tie.Need-three-ok-requires
 three-ok-requires c κs = search needs
@@ -14,7 +14,7 @@ both-requires : tie.Need-both-requires
 both-requires c κs = search needs
 
 returns : tie.Need-returns
-returns c = rw (c .both .ensures, c .before .before .names-ok .ensures, c .before .three-ok .ensures) refl
+returns c = λ p tells. rw (c .both .ensures, c .before .before .within .ensures p tells, c .before .three-ok .ensures p tells) refl
 
 pub four-ok-spec : {M : Type 1} → statement M
-four-ok-spec = tie.close (tie.spec names-ok-requires three-ok-requires both-requires returns)
+four-ok-spec = tie.close (tie.spec within-requires three-ok-requires both-requires returns)
