@@ -3,13 +3,14 @@ use ring_tables::counts;
 use ring_tables::end_a;
 use ring_tables::end_b;
 use ring_tables::has;
+use ring_tables::lay;
 use ring_tables::on;
 use values::tables;
 ghost use mathlib.Core.Path.{_≡_};
-ghost use Prim.Native.Nat.{_+_, _≤_, min};
+ghost use Prim.Native.Nat.{_+_, min};
 ghost use lib.ListN.{length};
 ghost use Rattle.ring.specs.Present.{sure};
-ghost use Rattle.ring.specs.Steps.{hanging, ties, downFrom, upFrom, moved, climb};
+ghost use Rattle.ring.specs.Steps.{hanging, ties, moved};
 ghost use Rattle.ring.specs.Weaving.{holding, WovenIn, EarOf, Visited, Passed, Followed, Settling, Settles};
 
 // The unit of the order that each unit of the tree hangs on, in the order in which they came to it.
@@ -75,32 +76,6 @@ fn move_on(units: u16, q: u16, c: u16, pos: &mut [u16])
     }
 }
 
-// Places `i`, `i` - 1, .. for so many units from `v` up.
-fn lay_down(parent: &[u16], count: u16, i: u16, v: u16, pos: &mut [u16])
-    ensures { λ _. ⌜ now (pos .exit) ≡ downFrom i (climb (now (parent .entry)) count v) (now (pos .entry)) ⌝ }
-{
-    let mut u = v;
-    let mut k = 0;
-    while k < count {
-        tables::store(pos, u, values::less(i, k));
-        u = tables::at(parent, u);
-        k += 1;
-    }
-}
-
-// Places `i`, `i` + 1, .. in the same way.
-fn lay_up(parent: &[u16], count: u16, i: u16, v: u16, pos: &mut [u16])
-    ensures { λ _. ⌜ (i + count ≤ 2048 → now (pos .exit) ≡ upFrom i (climb (now (parent .entry)) count v) (now (pos .entry))) ⌝ }
-{
-    let mut u = v;
-    let mut k = 0;
-    while k < count {
-        tables::store(pos, u, values::bounded_sum(i, k));
-        u = tables::at(parent, u);
-        k += 1;
-    }
-}
-
 // The way from u's anchor down to `u`, over the link to `v` and up to v's anchor, put in after u's anchor.
 fn weave<'a>(units: u16, parent: &'a [u16], held: &'a [u16], u: u16, v: u16, pos: &mut [u16])
     ensures { λ _. ⌜ WovenIn units (now (parent .entry)) (now (held .entry)) u v (now (pos .entry)) (now (pos .exit)) ⌝ }
@@ -110,8 +85,8 @@ fn weave<'a>(units: u16, parent: &'a [u16], held: &'a [u16], u: u16, v: u16, pos
     let t = hanging(units, parent, pos, v);
     let top = values::bounded_sum(q, s);
     move_on(units, q, values::bounded_sum(s, t), pos);
-    lay_down(parent, s, top, u, pos);
-    lay_up(parent, t, values::bounded_sum(top, 1), v, pos);
+    lay(parent, s, u, top, false, true, pos);
+    lay(parent, t, v, values::bounded_sum(top, 1), true, true, pos);
 }
 
 // The ear over link `j`, after the lower of the two anchors.

@@ -1,5 +1,6 @@
 -- The ring's units in a table: the way up read back, then the way down.
 use mathlib.Core.Path.{_≡_, refl, sym, ap, ap₂, _∙_}
+use mathlib.Core.Bool.{true, false}
 use mathlib.Core.List.{List, [], _∷_, _++_, reverse, reverse-cons, append-assoc}
 use Prim.Native.Nat.{ℕ, zero, suc, _+_, _-_, _≤_, _<_, min}
 use native.Mathlib.Omega.{arith}
@@ -8,50 +9,16 @@ use lib.ListN.{length, length-append, getD, set, take, length-set}
 use lib.Seq.{getD-set-same, getD-set-other}
 use Rattle.rules.specs.Basics.{at}
 use Rattle.ring.specs.Lists.{length-reverse}
-use Rattle.ring.specs.Steps.{climb}
+use Rattle.ring.specs.Steps.{laid, onward, climb}
 use Rattle.ring.specs.Upright.{chain, ringThrough}
-use Rattle.ring.specs.Weaving.{chain-climb, climb-turn, climb-end}
+use Rattle.ring.specs.Weaving.{chain-climb, laid-up}
 
--- the units of a list to places i, i − 1, .. and to places i, i + 1, ..
-abbrev pub rowDown : ℕ → List ℕ → List ℕ → List ℕ
-rowDown i [] out = out
-rowDown i (z ∷ l) out = rowDown (i - 1) l (set out i z)
+-- the units of a list in a row, at places i, i − 1, .. and at places i, i + 1, ..
+abbrev rowDown : ℕ → List ℕ → List ℕ → List ℕ
+rowDown i l out = laid false (onward false) i l out
 
-abbrev pub rowUp : ℕ → List ℕ → List ℕ → List ℕ
-rowUp i [] out = out
-rowUp i (z ∷ l) out = rowUp (suc i) l (set out i z)
-
--- ---- as loops make them
-
-module _ (up : List ℕ) (count i v : ℕ) (old : List ℕ) where
-  pub rowDown-begun : rowDown i (climb up count v) old ≡ rowDown (i - 0) (climb up (count - 0) v) old
-  rowDown-begun = let g : count - 0 ≡ count = omega arith in let f : i - 0 ≡ i = omega arith in rw (g, f) refl
-
-  pub rowDown-turn : (k u x w : ℕ) (t new : List ℕ) → k < count → rowDown i (climb up count v) old ≡ rowDown (i - k) (climb up (count - k) u) t
-      → x ≡ i - k → new ≡ set t x u → w ≡ at up u → rowDown i (climb up count v) old ≡ rowDown (i - (k + 1)) (climb up (count - (k + 1)) w) new
-  rowDown-turn k u x w t new h was ex en ew =
-      let e : i - k - 1 ≡ i - (k + 1) = omega arith in
-      let last : rowDown (i - k) (u ∷ climb up (count - (k + 1)) (at up u)) t ≡ rowDown (i - (k + 1)) (climb up (count - (k + 1)) w) new =
-      rw (en, ex, ew) (ap (λ (z : ℕ). rowDown z (climb up (count - (k + 1)) (at up u)) (set t (i - k) u)) e) in
-      was ∙ ap (λ (l : List ℕ). rowDown (i - k) l t) (climb-turn up count k u h) ∙ last
-
-  pub rowDown-end : (k u : ℕ) (t : List ℕ) → count ≤ k → rowDown i (climb up count v) old ≡ rowDown (i - k) (climb up (count - k) u) t → t ≡ rowDown i (climb up count v) old
-  rowDown-end k u t h was = sym (was ∙ ap (λ (l : List ℕ). rowDown (i - k) l t) (climb-end up count k u h))
-
-  pub rowUp-begun : rowUp i (climb up count v) old ≡ rowUp (i + 0) (climb up (count - 0) v) old
-  rowUp-begun = let g : count - 0 ≡ count = omega arith in let f : i + 0 ≡ i = omega arith in rw (g, f) refl
-
-  pub rowUp-turn : (k u x w : ℕ) (t new : List ℕ) → k < count → i + count ≤ 2048 → rowUp i (climb up count v) old ≡ rowUp (i + k) (climb up (count - k) u) t
-      → x ≡ min (i + k) 2048 → new ≡ set t x u → w ≡ at up u → rowUp i (climb up count v) old ≡ rowUp (i + (k + 1)) (climb up (count - (k + 1)) w) new
-  rowUp-turn k u x w t new h few was ex en ew =
-      let e : suc (i + k) ≡ i + (k + 1) = omega arith in
-      let f : x ≡ i + k = omega arith in
-      let last : rowUp (i + k) (u ∷ climb up (count - (k + 1)) (at up u)) t ≡ rowUp (i + (k + 1)) (climb up (count - (k + 1)) w) new =
-      rw (en, f, ew) (ap (λ (z : ℕ). rowUp z (climb up (count - (k + 1)) (at up u)) (set t (i + k) u)) e) in
-      was ∙ ap (λ (l : List ℕ). rowUp (i + k) l t) (climb-turn up count k u h) ∙ last
-
-  pub rowUp-end : (k u : ℕ) (t : List ℕ) → count ≤ k → rowUp i (climb up count v) old ≡ rowUp (i + k) (climb up (count - k) u) t → t ≡ rowUp i (climb up count v) old
-  rowUp-end k u t h was = sym (was ∙ ap (λ (l : List ℕ). rowUp (i + k) l t) (climb-end up count k u h))
+abbrev rowUp : ℕ → List ℕ → List ℕ → List ℕ
+rowUp i l out = laid false suc i l out
 
 -- ---- what stands in front
 
@@ -121,7 +88,7 @@ Closed n low high a b c d out out′ r =
 
 pub closed-row : (n : ℕ) (low high : List ℕ) (a b c d : ℕ) (out o₁ o₂ o₃ o₄ : List ℕ) (s t top i r : ℕ)
     → s ≡ length (chain (at high) (λ (z : ℕ). eqb z b) n d) → t ≡ length (chain (at low) (λ (z : ℕ). eqb z a) n c) → o₁ ≡ set out 0 a → o₂ ≡ set o₁ 1 b
-    → top ≡ min (s + 1) 2048 → o₃ ≡ rowDown top (climb high s d) o₂ → i ≡ min (s + 2) 2048 → (i + t ≤ 2048 → o₄ ≡ rowUp i (climb low t c) o₃) → r ≡ min (i + t) 2048
+    → top ≡ min (s + 1) 2048 → o₃ ≡ laid false (onward false) top (climb high s d) o₂ → i ≡ min (s + 2) 2048 → o₄ ≡ laid false (onward true) i (climb low t c) o₃ → r ≡ min (i + t) 2048
     → Closed n low high a b c d out o₄ r
 closed-row n low high a b c d out o₁ o₂ o₃ o₄ s t top i r es et e₁ e₂ etop e₃ ei e₄ er long few = (r-is, front)
   where
@@ -170,7 +137,7 @@ closed-row n low high a b c d out o₁ o₂ o₃ o₄ s t top i r es et e₁ e�
 
     front : take r o₄ ≡ ringThrough (at low) (at high) n a b c d
     front =
-        let e : o₄ ≡ rowUp (2 + s) w o₃ = e₄ (omega (arith, all, i-is)) ∙ rw (climb-w, i-is) refl in
+        let e : o₄ ≡ rowUp (2 + s) w o₃ = e₄ ∙ rw (climb-w, i-is) (laid-up false (2 + s) w o₃ (omega (arith, all, et))) in
         let f : r ≡ 2 + s + length w = omega (arith, r-is, all, et) in
         ap (λ (k : ℕ). take k o₄) f ∙ ap (λ (o : List ℕ). take (2 + s + length w) o) e ∙ rowUp-front (2 + s) w o₃ (omega (arith, long₃, all, few, et))
         ∙ ap (λ (l : List ℕ). l ++ w) (down ∙ ap (λ (l : List ℕ). l ++ reverse u) first-two)

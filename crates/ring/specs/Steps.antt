@@ -1,6 +1,6 @@
 -- What the ring is made from (T-04), step by step: a tree from the first end of the first link, an order of units that grows by ears, and the tests of
 -- both. `parent` holds a parent, absent where the tree has not come; `pos` holds a place from 1, 0 off the order.
-use mathlib.Core.Bool.{Bool, cond, not, _&&_}
+use mathlib.Core.Bool.{Bool, true, false, cond, not, _&&_}
 use mathlib.Core.List.{List, [], _∷_}
 use Prim.Native.Nat.{ℕ, zero, suc, _+_, _-_, min}
 use lib.Dec.{eqb, ltb}
@@ -39,14 +39,21 @@ ties ok ends parent pos held j =
     && not (eqb (at held (endA ends j)) (at held (endB ends j)))
     && not (onOrder pos (endA ends j) && onOrder pos (endB ends j))
 
--- places i, i + 1, .. and i, i − 1, .. for the units of a list
+-- places i, then the next, .. for the units of a list: where `placing`, each unit's place in a table by unit, else each place's unit in a row
+abbrev pub laid : Bool → (ℕ → ℕ) → ℕ → List ℕ → List ℕ → List ℕ
+laid placing next i [] t = t
+laid placing next i (z ∷ l) t = laid placing next (next i) l (set t (cond placing z i) (cond placing i z))
+
+-- the next place as the code counts: up to 2,048, or down
+abbrev pub onward : Bool → ℕ → ℕ
+onward up i = cond up (min (i + 1) 2048) (i - 1)
+
+-- by unit, places i, i + 1, .. and i, i − 1, ..
 abbrev pub upFrom : ℕ → List ℕ → List ℕ → List ℕ
-upFrom i [] pos = pos
-upFrom i (z ∷ l) pos = upFrom (suc i) l (set pos z i)
+upFrom i l pos = laid true suc i l pos
 
 abbrev pub downFrom : ℕ → List ℕ → List ℕ → List ℕ
-downFrom i [] pos = pos
-downFrom i (z ∷ l) pos = downFrom (i - 1) l (set pos z i)
+downFrom i l pos = laid true (onward false) i l pos
 
 -- what stands past place q moves on by c
 unfoldable pub moved : ℕ → ℕ → ℕ → List ℕ → List ℕ

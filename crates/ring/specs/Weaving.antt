@@ -17,7 +17,7 @@ use Rattle.table.specs.Table.{endA, endB}
 use Rattle.rules.specs.Basics.{at}
 use Rattle.reach.specs.Site.{Site}
 use Rattle.ring.specs.Present.{Present}
-use Rattle.ring.specs.Steps.{onOrder, anchor, hanging, ties, downFrom, upFrom, moved, woven, climb}
+use Rattle.ring.specs.Steps.{onOrder, anchor, hanging, ties, laid, onward, moved, woven, climb}
 use Rattle.ring.specs.Tree.{Known, Tree, Whole}
 use Rattle.ring.specs.Order.{Ordering, chain-short, hangs}
 use Rattle.ring.specs.Tree.{spanning}
@@ -116,41 +116,22 @@ pub moved-all : (n q c : ℕ) (old t : List ℕ) (v : ℕ) → v ≤ n → n ≤
 unfolding moved
 moved-all n q c old t v h g e = e ∙ over-all v n _ old h g
 
-pub climb-turn : (up : List ℕ) (count k u : ℕ) → k < count → climb up (count - k) u ≡ u ∷ climb up (count - (k + 1)) (at up u)
-climb-turn up count k u h = let g : count - k ≡ suc (count - (k + 1)) = omega arith in rw g refl
+module _ (placing : Bool) (next : ℕ → ℕ) (up : List ℕ) where
+  pub laid-turn : (k u i p q w j : ℕ) (t new : List ℕ) → 0 < k → p ≡ cond placing u i → q ≡ cond placing i u → new ≡ set t p q → w ≡ at up u → j ≡ next i
+      → laid placing next i (climb up k u) t ≡ laid placing next j (climb up (k - 1) w) new
+  laid-turn zero u i p q w j t new h ep eq en ew ej = absurd (omega arith)
+  laid-turn (suc k) u i p q w j t new h ep eq en ew ej = let e : suc k - 1 ≡ k = omega arith in rw (en, ep, eq, ew, ej, e) refl
 
-pub climb-end : (up : List ℕ) (count k u : ℕ) → count ≤ k → climb up (count - k) u ≡ []
-climb-end up count k u h = let g : count - k ≡ 0 = omega arith in rw g refl
+  pub laid-end : (k u i : ℕ) (t : List ℕ) → k ≤ 0 → laid placing next i (climb up k u) t ≡ t
+  laid-end zero u i t h = refl
+  laid-end (suc k) u i t h = absurd (omega arith)
 
-module _ (up : List ℕ) (count i v : ℕ) (old : List ℕ) where
-  pub down-begun : downFrom i (climb up count v) old ≡ downFrom (i - 0) (climb up (count - 0) v) old
-  down-begun = let g : count - 0 ≡ count = omega arith in let f : i - 0 ≡ i = omega arith in rw (g, f) refl
-
-  pub down-turn : (k u x w : ℕ) (t new : List ℕ) → k < count → downFrom i (climb up count v) old ≡ downFrom (i - k) (climb up (count - k) u) t
-      → x ≡ i - k → new ≡ set t u x → w ≡ at up u → downFrom i (climb up count v) old ≡ downFrom (i - (k + 1)) (climb up (count - (k + 1)) w) new
-  down-turn k u x w t new h was ex en ew =
-      let e : i - k - 1 ≡ i - (k + 1) = omega arith in
-      let last : downFrom (i - k) (u ∷ climb up (count - (k + 1)) (at up u)) t ≡ downFrom (i - (k + 1)) (climb up (count - (k + 1)) w) new =
-      rw (en, ex, ew) (ap (λ (z : ℕ). downFrom z (climb up (count - (k + 1)) (at up u)) (set t u (i - k))) e) in
-      was ∙ ap (λ (l : List ℕ). downFrom (i - k) l t) (climb-turn up count k u h) ∙ last
-
-  pub down-end : (k u : ℕ) (t : List ℕ) → count ≤ k → downFrom i (climb up count v) old ≡ downFrom (i - k) (climb up (count - k) u) t → t ≡ downFrom i (climb up count v) old
-  down-end k u t h was = sym (was ∙ ap (λ (l : List ℕ). downFrom (i - k) l t) (climb-end up count k u h))
-
-  pub up-begun : upFrom i (climb up count v) old ≡ upFrom (i + 0) (climb up (count - 0) v) old
-  up-begun = let g : count - 0 ≡ count = omega arith in let f : i + 0 ≡ i = omega arith in rw (g, f) refl
-
-  pub up-turn : (k u x w : ℕ) (t new : List ℕ) → k < count → i + count ≤ 2048 → upFrom i (climb up count v) old ≡ upFrom (i + k) (climb up (count - k) u) t
-      → x ≡ min (i + k) 2048 → new ≡ set t u x → w ≡ at up u → upFrom i (climb up count v) old ≡ upFrom (i + (k + 1)) (climb up (count - (k + 1)) w) new
-  up-turn k u x w t new h few was ex en ew =
-      let e : suc (i + k) ≡ i + (k + 1) = omega arith in
-      let f : x ≡ i + k = omega arith in
-      let last : upFrom (i + k) (u ∷ climb up (count - (k + 1)) (at up u)) t ≡ upFrom (i + (k + 1)) (climb up (count - (k + 1)) w) new =
-      rw (en, f, ew) (ap (λ (z : ℕ). upFrom z (climb up (count - (k + 1)) (at up u)) (set t u (i + k))) e) in
-      was ∙ ap (λ (l : List ℕ). upFrom (i + k) l t) (climb-turn up count k u h) ∙ last
-
-  pub up-end : (k u : ℕ) (t : List ℕ) → count ≤ k → upFrom i (climb up count v) old ≡ upFrom (i + k) (climb up (count - k) u) t → t ≡ upFrom i (climb up count v) old
-  up-end k u t h was = sym (was ∙ ap (λ (l : List ℕ). upFrom (i + k) l t) (climb-end up count k u h))
+-- as far as the code counts, up is one more each
+pub laid-up : (placing : Bool) (i : ℕ) (l t : List ℕ) → i + length l ≤ 2048 → laid placing (onward true) i l t ≡ laid placing suc i l t
+laid-up placing i [] t h = refl
+laid-up placing i (z ∷ l) t h =
+    let e : min (i + 1) 2048 ≡ suc i = omega arith in
+    rw e (laid-up placing (suc i) l (set t (cond placing z i) (cond placing i z)) (omega arith))
 
 -- ---- an ear
 
@@ -160,11 +141,12 @@ WovenIn n parent held u v pos pos′ =
 
 pub woven-in : (n : ℕ) (parent held : List ℕ) (u v : ℕ) (pos p₁ p₂ p₃ : List ℕ) (x q s t top c i : ℕ) → x ≡ at held u → q ≡ at pos x
     → s ≡ length (hanging (min (n + 1) 2048) parent pos u) → t ≡ length (hanging (min (n + 1) 2048) parent pos v) → top ≡ min (q + s) 2048 → c ≡ min (s + t) 2048
-    → p₁ ≡ moved n q c pos → p₂ ≡ downFrom top (climb parent s u) p₁ → i ≡ min (top + 1) 2048 → (i + t ≤ 2048 → p₃ ≡ upFrom i (climb parent t v) p₂)
+    → p₁ ≡ moved n q c pos → p₂ ≡ laid true (onward false) top (climb parent s u) p₁ → i ≡ min (top + 1) 2048 → p₃ ≡ laid true (onward true) i (climb parent t v) p₂
     → WovenIn n parent held u v pos p₃
 unfolding woven
 woven-in n parent held u v pos p₁ p₂ p₃ x q s t top c i ex eq es et etop ec e₁ e₂ ei e₃ few anchored low =
-    e₃ (omega (arith, short-t, short-s, low-q, top-is, i-is)) ∙ rw (e₂, e₁, c-is, i-is, top-is, sym climb-s, sym climb-t, q-is, s-is, t-is) refl
+    e₃ ∙ ap (λ (l : List ℕ). laid true (onward true) i l p₂) (sym climb-t) ∙ laid-up true i (hanging (suc n) parent pos v) p₂ (omega (arith, t-is, short-t, short-s, low-q, top-is, i-is))
+    ∙ rw (e₂, e₁, c-is, i-is, top-is, sym climb-s, q-is, s-is, t-is) refl
   where
     fuel : min (n + 1) 2048 ≡ suc n
     fuel = omega arith

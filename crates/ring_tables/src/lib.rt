@@ -4,7 +4,7 @@ ghost use Prim.Native.Nat.{ℕ, _<_};
 ghost use lib.ListN.{getD};
 ghost use Rattle.table.specs.Table.{endA, endB};
 ghost use Rattle.ring.specs.Present.{sure};
-ghost use Rattle.ring.specs.Steps.{seen, onOrder};
+ghost use Rattle.ring.specs.Steps.{seen, onOrder, laid, onward, climb};
 use table::ABSENT;
 use values::tables;
 
@@ -40,6 +40,23 @@ pub fn on(pos: &[u16], v: u16) -> bool
     ensures { λ r. ⌜ r ≡ onOrder (now (pos .entry)) v ⌝ }
 {
     tables::at(pos, v) != 0
+}
+
+// For so many units from `v` on, places from `i` up or down: where `placing`, each unit's place in a table by unit, else each place's unit in a row.
+pub fn lay(next: &[u16], count: u16, v: u16, i: u16, up: bool, placing: bool, out: &mut [u16])
+    ensures { λ _. ⌜ now (out .exit) ≡ laid placing (onward up) i (climb (now (next .entry)) count v) (now (out .entry)) ⌝ }
+{
+    let mut u = v;
+    let mut x = i;
+    let mut left = count;
+    while 0 < left {
+        let p = values::choose(placing, u, x);
+        let q = values::choose(placing, x, u);
+        tables::store(out, p, q);
+        u = tables::at(next, u);
+        x = values::choose(up, values::bounded_sum(x, 1), values::less(x, 1));
+        left -= 1;
+    }
 }
 
 // A table of zeros by unit.

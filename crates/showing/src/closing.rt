@@ -2,19 +2,19 @@
 use ring_tables::counts;
 use ring_tables::end_a;
 use ring_tables::end_b;
+use ring_tables::lay;
 use ring_tables::on;
 use values::tables;
 ghost use mathlib.Core.Path.{_≡_};
-ghost use Prim.Native.Nat.{ℕ, _+_, _≤_};
+ghost use Prim.Native.Nat.{ℕ};
 ghost use lib.Dec.{eqb};
 ghost use lib.ListN.{length};
 ghost use Rattle.rules.specs.Basics.{at};
 ghost use Rattle.ring.specs.Present.{sure};
 ghost use Rattle.ring.specs.Sides.{within};
 ghost use Rattle.ring.specs.Closing.{serves};
-ghost use Rattle.ring.specs.Steps.{climb};
 ghost use Rattle.ring.specs.Upright.{chain};
-ghost use Rattle.ring.specs.Rows.{rowDown, rowUp, Closed};
+ghost use Rattle.ring.specs.Rows.{Closed};
 ghost use Rattle.ring.specs.Found.{LeansOne, Leans, Second};
 
 // Link `j` counts, and both of its ends are on the order.
@@ -114,32 +114,6 @@ fn steps(limit: u16, next: &[u16], stop: u16, v: u16) -> u16
     k
 }
 
-// So many units from `v` on, to places `i`, `i` - 1, ..
-fn row_down(next: &[u16], count: u16, i: u16, v: u16, out: &mut [u16])
-    ensures { λ _. ⌜ now (out .exit) ≡ rowDown i (climb (now (next .entry)) count v) (now (out .entry)) ⌝ }
-{
-    let mut u = v;
-    let mut k = 0;
-    while k < count {
-        tables::store(out, values::less(i, k), u);
-        u = tables::at(next, u);
-        k += 1;
-    }
-}
-
-// The same, to places `i`, `i` + 1, ..
-fn row_up(next: &[u16], count: u16, i: u16, v: u16, out: &mut [u16])
-    ensures { λ _. ⌜ (i + count ≤ 2048 → now (out .exit) ≡ rowUp i (climb (now (next .entry)) count v) (now (out .entry))) ⌝ }
-{
-    let mut u = v;
-    let mut k = 0;
-    while k < count {
-        tables::store(out, values::bounded_sum(i, k), u);
-        u = tables::at(next, u);
-        k += 1;
-    }
-}
-
 // a, b, back along the way up from `d` to `b`, then down from `c` to `a`; how many units.
 pub(crate) fn close<'a>(
     units: u16,
@@ -157,8 +131,8 @@ pub(crate) fn close<'a>(
     let t = steps(units, low, a, c);
     tables::store(out, 0, a);
     tables::store(out, 1, b);
-    row_down(high, s, values::bounded_sum(s, 1), d, out);
+    lay(high, s, d, values::bounded_sum(s, 1), false, false, out);
     let at = values::bounded_sum(s, 2);
-    row_up(low, t, at, c, out);
+    lay(low, t, c, at, true, false, out);
     values::bounded_sum(at, t)
 }

@@ -26,14 +26,14 @@ bounded-sum-requires-2 c κs = search needs
 move-on-requires : tie.Need-move-on-requires
 move-on-requires c κs = search needs
 
-lay-down-requires : tie.Need-lay-down-requires
-lay-down-requires c κs = search needs
+lay-requires : tie.Need-lay-requires
+lay-requires c κs = search needs
 
 bounded-sum-requires-3 : tie.Need-bounded-sum-requires-3
 bounded-sum-requires-3 c κs = search needs
 
-lay-up-requires : tie.Need-lay-up-requires
-lay-up-requires c κs = search needs
+lay-requires-2 : tie.Need-lay-requires-2
+lay-requires-2 c κs = search needs
 
 same-length : tie.Need-same-length
 same-length c = search needs
@@ -41,9 +41,9 @@ same-length c = search needs
 returns : tie.Need-returns
 returns c =
     let a = c .before .before .before .before .before .before .before .before .before .before .before .before .before .before .before .before .before .before .before .before .before .before .before .before .before .args in
-    woven-in (a .units) (a .parent .now) (a .held .now) (a .u) (a .v) (a .pos .now) (c .before .before .before .before .before .before .before .before .before .before .before .move-on .last .1 .1 .1 .0) (c .before .before .before .before .before .before .before .lay-down .last .1 .1 .1 .1 .0) (c .before .before .lay-up .last .1 .1 .1 .1 .0)
+    woven-in (a .units) (a .parent .now) (a .held .now) (a .u) (a .v) (a .pos .now) (c .before .before .before .before .before .before .before .before .before .before .before .move-on .last .1 .1 .1 .0) (c .before .before .before .before .before .before .before .lay .last .1 .1 .1 .1 .1 .1 .0) (c .before .before .lay2 .last .1 .1 .1 .1 .1 .1 .0)
     (c .before .before .before .before .before .before .before .before .before .before .before .before .before .before .before .before .before .before .before .before .at .result) (c .before .before .before .before .before .before .before .before .before .before .before .before .before .before .before .before .before .before .before .at2 .result) (c .before .before .before .before .before .before .before .before .before .before .before .before .before .before .before .before .before .hanging .result) (c .before .before .before .before .before .before .before .before .before .before .before .before .before .before .before .hanging2 .result) (c .before .before .before .before .before .before .before .before .before .before .before .before .before .before .bounded-sum .result) (c .before .before .before .before .before .before .before .before .before .before .before .before .before .bounded-sum2 .result) (c .before .before .before .before .bounded-sum3 .result) (c .before .before .before .before .before .before .before .before .before .before .before .before .before .before .before .before .before .before .before .before .at .ensures) (c .before .before .before .before .before .before .before .before .before .before .before .before .before .before .before .before .before .before .before .at2 .ensures)
-    (c .before .before .before .before .before .before .before .before .before .before .before .before .before .before .before .before .before .hanging .ensures) (c .before .before .before .before .before .before .before .before .before .before .before .before .before .before .before .hanging2 .ensures) (c .before .before .before .before .before .before .before .before .before .before .before .before .before .before .bounded-sum .ensures) (c .before .before .before .before .before .before .before .before .before .before .before .before .before .bounded-sum2 .ensures) (c .before .before .before .before .before .before .before .before .before .before .before .move-on .ensures) (c .before .before .before .before .before .before .before .lay-down .ensures) (c .before .before .before .before .bounded-sum3 .ensures) (c .before .before .lay-up .ensures)
+    (c .before .before .before .before .before .before .before .before .before .before .before .before .before .before .before .before .before .hanging .ensures) (c .before .before .before .before .before .before .before .before .before .before .before .before .before .before .before .hanging2 .ensures) (c .before .before .before .before .before .before .before .before .before .before .before .before .before .before .bounded-sum .ensures) (c .before .before .before .before .before .before .before .before .before .before .before .before .before .bounded-sum2 .ensures) (c .before .before .before .before .before .before .before .before .before .before .before .move-on .ensures) (c .before .before .before .before .before .before .before .lay .ensures) (c .before .before .before .before .bounded-sum3 .ensures) (c .before .before .lay2 .ensures)
 
 pub weave-spec : {M : Type 1} → statement M
 weave-spec =
@@ -56,8 +56,8 @@ weave-spec =
     bounded-sum-requires
     bounded-sum-requires-2
     move-on-requires
-    lay-down-requires
+    lay-requires
     bounded-sum-requires-3
-    lay-up-requires
+    lay-requires-2
     same-length
     returns)

@@ -19,14 +19,14 @@ store-requires-2 c κs = search needs
 bounded-sum-requires : tie.Need-bounded-sum-requires
 bounded-sum-requires c κs = search needs
 
-row-down-requires : tie.Need-row-down-requires
-row-down-requires c κs = search needs
+lay-requires : tie.Need-lay-requires
+lay-requires c κs = search needs
 
 bounded-sum-requires-2 : tie.Need-bounded-sum-requires-2
 bounded-sum-requires-2 c κs = search needs
 
-row-up-requires : tie.Need-row-up-requires
-row-up-requires c κs = search needs
+lay-requires-2 : tie.Need-lay-requires-2
+lay-requires-2 c κs = search needs
 
 bounded-sum-requires-3 : tie.Need-bounded-sum-requires-3
 bounded-sum-requires-3 c κs = search needs
@@ -37,9 +37,9 @@ same-length c = search needs
 returns : tie.Need-returns
 returns c =
     let a = c .before .before .before .before .before .before .before .before .before .before .before .before .before .before .before .before .before .before .before .before .before .before .before .before .args in
-    closed-row (a .units) (a .low .now) (a .high .now) (a .a) (a .b) (a .c) (a .d) (a .out .now) (c .before .before .before .before .before .before .before .before .before .before .before .before .before .before .before .before .before .store .last .0) (c .before .before .before .before .before .before .before .before .before .before .before .before .before .store2 .last .0) (c .before .before .before .before .before .before .before .before .row-down .last .1 .1 .1 .1 .0) (c .before .before .before .row-up .last .1 .1 .1 .1 .0)
+    closed-row (a .units) (a .low .now) (a .high .now) (a .a) (a .b) (a .c) (a .d) (a .out .now) (c .before .before .before .before .before .before .before .before .before .before .before .before .before .before .before .before .before .store .last .0) (c .before .before .before .before .before .before .before .before .before .before .before .before .before .store2 .last .0) (c .before .before .before .before .before .before .before .before .lay .last .1 .1 .1 .1 .1 .1 .0) (c .before .before .before .lay2 .last .1 .1 .1 .1 .1 .1 .0)
     (c .before .before .before .before .before .before .before .before .before .before .before .before .before .before .before .before .before .before .before .before .steps .result) (c .before .before .before .before .before .before .before .before .before .before .before .before .before .before .before .before .before .before .before .steps2 .result) (c .before .before .before .before .before .before .before .before .before .before .bounded-sum .result) (c .before .before .before .before .before .bounded-sum2 .result) (c .bounded-sum3 .result) (c .before .before .before .before .before .before .before .before .before .before .before .before .before .before .before .before .before .before .before .before .steps .ensures) (c .before .before .before .before .before .before .before .before .before .before .before .before .before .before .before .before .before .before .before .steps2 .ensures) (c .before .before .before .before .before .before .before .before .before .before .before .before .before .before .before .before .before .store .ensures) (c .before .before .before .before .before .before .before .before .before .before .before .before .before .store2 .ensures)
-    (c .before .before .before .before .before .before .before .before .before .before .bounded-sum .ensures) (c .before .before .before .before .before .before .before .before .row-down .ensures) (c .before .before .before .before .before .bounded-sum2 .ensures) (c .before .before .before .row-up .ensures) (c .bounded-sum3 .ensures)
+    (c .before .before .before .before .before .before .before .before .before .before .bounded-sum .ensures) (c .before .before .before .before .before .before .before .before .lay .ensures) (c .before .before .before .before .before .bounded-sum2 .ensures) (c .before .before .before .lay2 .ensures) (c .bounded-sum3 .ensures)
 
 pub close-spec : {M : Type 1} → statement M
 close-spec =
@@ -50,9 +50,9 @@ close-spec =
     store-requires
     store-requires-2
     bounded-sum-requires
-    row-down-requires
+    lay-requires
     bounded-sum-requires-2
-    row-up-requires
+    lay-requires-2
     bounded-sum-requires-3
     same-length
     returns)
