@@ -1,6 +1,5 @@
 pub mod NumbersSaid
 pub mod LiftingSaid
-pub mod TwoLinks
 pub mod RingSaid
 pub mod RingSaidLaws
 pub mod DoubtSaid

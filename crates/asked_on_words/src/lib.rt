@@ -5,6 +5,9 @@ use one_way::Numbering;
 use words::STATE_WORDS;
 ghost use mathlib.Core.Path.{_≡_};
 ghost use lib.ListN.{length, getD};
+ghost use Rattle.machine.specs.State.{finished};
+ghost use Rattle.machine.specs.WellFormed.{wellFormed};
+ghost use Rattle.asking.specs.TwoLinks.{twoRefusal};
 ghost use Rattle.words.specs.Layout.{stateOf};
 ghost use Rattle.lent.specs.FileFace.{wordSaid};
 ghost use Rattle.min_label.specs.MinLabel.{minLabel};
@@ -44,6 +47,22 @@ pub fn lift<'a>(state: &'a [u16; STATE_WORDS], pairs: &'a [u16], out: &mut [u16]
     lifting_order::write(table.units, table.links, &table.ends, pairs, out) as u32
 }
 
+// Why a call that names two of so many links is refused: 10, 12, 13, then `number` where the call's own test holds.
+fn two_links(
+    state: &[u16; STATE_WORDS],
+    links: u16,
+    first: u16,
+    second: u16,
+    number: u8,
+    own: bool,
+) -> u32
+    ensures { λ r. ⌜ r ≡ twoRefusal (wellFormed (stateOf (now (state .entry)))) (finished (stateOf (now (state .entry)))) links first second number own ⌝ }
+{
+    let clock = words::clock_at(state);
+    let well = words::kept(state);
+    asking::two_links(well, clock.stage, links, first, second, number, own) as u32
+}
+
 // The units of a ring of a finished survey that holds both links at the front of `out`, and their number, 0 where there is none (T-04): 10, 12, 13, 14.
 pub fn ring(
     state: &[u16; STATE_WORDS],
@@ -55,13 +74,10 @@ pub fn ring(
     ensures { λ r. ⌜ RingSaid first second (stateOf (now (state .entry))) (now (out .entry)) (now (count .entry)) (now (out .exit)) (now (count .exit)) r ⌝ }
 {
     let table = words::table_at(state);
-    let exist = values::both(first < table.links, second < table.links);
-    let refused = lent::refusal(state, exist);
+    let short = out.len() < table.units as usize;
+    let refused = two_links(state, table.links, first, second, 14, short);
     if refused != 0 {
         return refused;
-    }
-    if out.len() < table.units as usize {
-        return 14;
     }
     *count = shown::lay_ring(table.units, table.links, &table.ends, first, second, out);
     0
@@ -90,13 +106,10 @@ pub fn doubt<'a>(
     ensures { λ r. ⌜ DoubtSaid first second (now (marks .entry)) (stateOf (now (state .entry))) (now (verdict .entry)) (now (verdict .exit)) r ⌝ }
 {
     let table = words::table_at(state);
-    let exist = values::both(first < table.links, second < table.links);
-    let refused = lent::refusal(state, exist);
+    let differ = marks.len() != table.links as usize;
+    let refused = two_links(state, table.links, first, second, 15, differ);
     if refused != 0 {
         return refused;
-    }
-    if marks.len() != table.links as usize {
-        return 15;
     }
     let told = doubtful::judged(marks, table.units, table.links, &table.ends, first, second);
     *verdict = word_of(told);

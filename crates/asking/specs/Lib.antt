@@ -1,3 +1,4 @@
 pub mod AskLaws
+pub mod TwoLinks
 pub mod ReportWritten
 pub mod ReportCalled

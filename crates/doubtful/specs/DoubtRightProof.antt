@@ -1,17 +1,18 @@
 -- The proof of what T-08 asks, by what `showing` tells of the sure links and of all: more links, more rings.
 use mathlib.Core.Path.{_≡_, refl, sym, ap, _∙_}
-use mathlib.Core.Bool.{true, false, not}
+use mathlib.Core.Bool.{Bool, true, false, not, false≢true}
 use mathlib.Core.Logic.{_⊎_, inl, inr, _↔_}
 use mathlib.Core.List.{List}
-use Prim.Native.Nat.{ℕ, _≤_, _<_}
+use Prim.Native.Nat.{ℕ, _<_}
 use native.Mathlib.Omega.{arith}
-use lib.Dec.{ltb}
 use lib.ListN.{length, getD, take}
-use borrow.Author.Tests.{eq-eqb, ne-eqb, ltb-true, lt-ltb, le-ltb, not-false}
-use Rattle.table.specs.RefusalLaws.{first-cause, some-cause, passed-test}
+use lib.Dec.{eqb}
+use borrow.Author.Tests.{eq-eqb, ne-eqb}
+use Rattle.table.specs.RefusalLaws.{first-cause, some-cause}
 use Rattle.machine.specs.Kept.{kept-exact}
-use Rattle.machine.specs.State.{State, units, links, finished, FINISHED}
+use Rattle.machine.specs.State.{State, units, links, finished}
 use Rattle.machine.specs.WellFormed.{wellFormed}
+use Rattle.asking.specs.TwoLinks.{two-passed}
 use Rattle.reach.specs.Site.{Site}
 use Rattle.ring.specs.Found.{RingTold}
 use Rattle.ring.specs.KeptSite.{kept-site}
@@ -21,35 +22,6 @@ use Rattle.doubtful.specs.declared.Verdict.the-variants.{Always, Perhaps
 use Rattle.doubtful.specs.Doubtful.{numberOf, doubtRefusal, doubtReasons}
 use Rattle.doubtful.specs.DoubtRight.{Says, VerdictTold, DoubtRight}
 use Rattle.doubtful.specs.Settings.{InEach, InSome}
-
--- ---- the tests in order
-
-module _ (i j marks : ℕ) (s : State) where
-  pub refused-malformed : wellFormed s ≡ false → 10 ≡ doubtRefusal i j marks s
-  unfolding doubtRefusal
-  refused-malformed w = rw w refl
-
-  module _ (w : wellFormed s ≡ true) where
-    pub refused-running : (s .clock .stage ≡ FINISHED → ⊥) → 12 ≡ doubtRefusal i j marks s
-    unfolding doubtRefusal
-    refused-running h = rw (w, ne-eqb (s .clock .stage) FINISHED h) refl
-
-    module _ (f : s .clock .stage ≡ FINISHED) where
-      pub refused-first : links s ≤ i → 13 ≡ doubtRefusal i j marks s
-      unfolding doubtRefusal
-      refused-first h = rw (w, eq-eqb (s .clock .stage) FINISHED f, le-ltb i (links s) h) refl
-
-      pub refused-second : i < links s → links s ≤ j → 13 ≡ doubtRefusal i j marks s
-      unfolding doubtRefusal
-      refused-second a h = rw (w, eq-eqb (s .clock .stage) FINISHED f, lt-ltb i (links s) a, le-ltb j (links s) h) refl
-
-      pub refused-marks : i < links s → j < links s → (marks ≡ links s → ⊥) → 15 ≡ doubtRefusal i j marks s
-      unfolding doubtRefusal
-      refused-marks a b h = rw (w, eq-eqb (s .clock .stage) FINISHED f, lt-ltb i (links s) a, lt-ltb j (links s) b, ne-eqb marks (links s) h) refl
-
-      pub refused-none : i < links s → j < links s → marks ≡ links s → 0 ≡ doubtRefusal i j marks s
-      unfolding doubtRefusal
-      refused-none a b h = rw (w, eq-eqb (s .clock .stage) FINISHED f, lt-ltb i (links s) a, lt-ltb j (links s) b, eq-eqb marks (links s) h) refl
 
 -- ---- settings
 
@@ -104,32 +76,36 @@ module _ (m : ℕ) (ends marks : List ℕ) (i j : ℕ) where
 
 -- ---- the verdict
 
-module _ (n m : ℕ) (ends marks : List ℕ) (i j : ℕ) where
-  -- what the number of a ring's units says, for any marks
-  exact : (t ring₀ ring : List ℕ) (r : ℕ) → length ring₀ ≡ 256 → RingTold (sure t) n m ends i j ring₀ ring r → Site n m ends → i < m → j < m
-      → ((r ≡ 0 → ⊥) → Ringed (sure t) m ends i j) × (r ≡ 0 → Ringed (sure t) m ends i j → ⊥)
-  exact t ring₀ ring r long T site hi hj = go (T site hi hj long)
+module _ (n m : ℕ) (ends : List ℕ) (i j : ℕ) where
+  -- whether a ring of the links that count holds both
+  abbrev pub RingedTold : (ℕ → Bool) → Bool → Type 0
+  RingedTold ok told = Site n m ends → i < m → j < m → (told ≡ true → Ringed ok m ends i j) × (told ≡ false → Ringed ok m ends i j → ⊥)
+
+  -- by the number of its units
+  pub ringed-told : (ok : ℕ → Bool) (ring₀ ring : List ℕ) (r : ℕ) → length ring₀ ≡ 256 → RingTold ok n m ends i j ring₀ ring r → RingedTold ok (not (eqb r 0))
+  ringed-told ok ring₀ ring r long T site hi hj = go (T site hi hj long)
     where
-      go : ((r ≡ 0) × (Ringed (sure t) m ends i j → ⊥)) ⊎ (Shows (sure t) m ends i j (take r ring) × (r ≡ length (take r ring)))
-          → ((r ≡ 0 → ⊥) → Ringed (sure t) m ends i j) × (r ≡ 0 → Ringed (sure t) m ends i j → ⊥)
-      go (inl (z, h)) = (λ k. absurd (k z), λ q. h)
-      go (inr (S, q)) = (λ k. (take r ring, S .ring, S .first, S .second), λ z. absurd (omega (arith, S .ring .three)))
+      go : ((r ≡ 0) × (Ringed ok m ends i j → ⊥)) ⊎ (Shows ok m ends i j (take r ring) × (r ≡ length (take r ring)))
+          → (not (eqb r 0) ≡ true → Ringed ok m ends i j) × (not (eqb r 0) ≡ false → Ringed ok m ends i j → ⊥)
+      go (inl (z, h)) = (λ k. absurd (false≢true (rw (eq-eqb r 0 z) at k)), λ q. h)
+      go (inr (S, q)) = (
+        λ k. (take r ring, S .ring, S .first, S .second),
+        λ k. absurd (false≢true (sym (rw (ne-eqb r 0 (λ z. omega (arith, S .ring .three))) at k))),
+      )
 
-  module _ (a₀ a₁ : List ℕ) (x : ℕ) (la : length a₀ ≡ 256) (A : RingTold (sure marks) n m ends i j a₀ a₁ x) where
-    pub told-always : (x ≡ 0 → ⊥) → VerdictTold n m ends marks i j Always
-    told-always h site hi hj = says-always m ends marks i j (each m ends marks i j .1 (exact marks a₀ a₁ x la A site hi hj .0 h))
+  module _ (marks : List ℕ) (x : Bool) (A : RingedTold (sure marks) x) where
+    pub told-always : x ≡ true → VerdictTold n m ends marks i j Always
+    told-always h site hi hj = says-always m ends marks i j (each m ends marks i j .1 (A site hi hj .0 h))
 
-    module _ (z : x ≡ 0) (all b₀ b₁ : List ℕ) (y : ℕ) (counts : (k : ℕ) → getD all k 0 ≡ 0) (lb : length b₀ ≡ 256)
-        (B : RingTold (sure all) n m ends i j b₀ b₁ y) where
+    module _ (z : x ≡ false) (all : List ℕ) (y : Bool) (counts : (k : ℕ) → getD all k 0 ≡ 0) (B : RingedTold (sure all) y) where
       none-each : Site n m ends → i < m → j < m → InEach m ends marks i j → ⊥
-      none-each site hi hj h = exact marks a₀ a₁ x la A site hi hj .1 z (each m ends marks i j .0 h)
+      none-each site hi hj h = A site hi hj .1 z (each m ends marks i j .0 h)
 
-      pub told-perhaps : (y ≡ 0 → ⊥) → VerdictTold n m ends marks i j Perhaps
-      told-perhaps h site hi hj =
-          says-perhaps m ends marks i j (some m ends marks i j all counts .1 (exact all b₀ b₁ y lb B site hi hj .0 h)) (none-each site hi hj)
+      pub told-perhaps : y ≡ true → VerdictTold n m ends marks i j Perhaps
+      told-perhaps h site hi hj = says-perhaps m ends marks i j (some m ends marks i j all counts .1 (B site hi hj .0 h)) (none-each site hi hj)
 
-      pub told-never : y ≡ 0 → VerdictTold n m ends marks i j Never
-      told-never q site hi hj = says-never m ends marks i j (λ h. exact all b₀ b₁ y lb B site hi hj .1 q (some m ends marks i j all counts .0 h))
+      pub told-never : y ≡ false → VerdictTold n m ends marks i j Never
+      told-never q site hi hj = says-never m ends marks i j (λ h. B site hi hj .1 q (some m ends marks i j all counts .0 h))
 
 -- ---- the call
 
@@ -151,17 +127,9 @@ module _ (i j : ℕ) (marks : List ℕ) (s : State) where
   pub doubt-refused : (r : ℕ) → r ≡ refusal → (r ≡ 0 → ⊥) → DoubtRight i j marks s (record { state = s; reply = Refused r })
   doubt-refused r e h = right (Refused r) e (λ z. absurd (h (e ∙ z)))
 
-  passed : refusal ≡ 0 → (wellFormed s ≡ true) × (i < links s) × (j < links s)
-  unfolding doubtRefusal
-  passed e =
-      let a = passed-test (not (wellFormed s)) 10 _ (omega arith) e in
-      let b = passed-test (not (finished s)) 12 _ (omega arith) (a .1) in
-      let c = passed-test (not (ltb i (links s))) 13 _ (omega arith) (b .1) in
-      let d = passed-test (not (ltb j (links s))) 13 _ (omega arith) (c .1) in
-      (not-false (wellFormed s) (a .0), ltb-true i (links s) (not-false _ (c .0)), ltb-true j (links s) (not-false _ (d .0)))
-
   pub doubt-told : (reply : Verdict) → refusal ≡ 0 → length (s .table .ends) ≡ 2048 → numberOf reply ≡ 0
       → VerdictTold (units s) (links s) (s .table .ends) marks i j reply → DoubtRight i j marks s (record { state = s; reply = reply })
+  unfolding doubtRefusal
   doubt-told reply e full z T =
-      let p = passed e in
+      let p = two-passed (wellFormed s) (finished s) (links s) i j 15 (not (eqb (length marks) (links s))) (omega arith) e in
       right reply (z ∙ sym e) (λ q. T (kept-site s full (kept-exact s .0 (p .0))) (p .1) (p .2))

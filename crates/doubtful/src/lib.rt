@@ -1,11 +1,10 @@
 // Whether a ring holds two links of a finished survey however many of the doubtful ones are absent (T-08), by value.
 ghost use mathlib.Core.Path.{_≡_};
-ghost use Prim.Native.Nat.{ℕ};
-ghost use lib.ListN.{length, getD};
 ghost use Rattle.survey.specs.View.{of};
-ghost use Rattle.doubtful.specs.Doubtful.{doubtRefusal, answerOf, numberOf};
+ghost use Rattle.ring.specs.Present.{sure};
+ghost use Rattle.doubtful.specs.Doubtful.{answerOf, numberOf};
 ghost use Rattle.doubtful.specs.DoubtRight.{VerdictTold, DoubtRight};
-use survey::Clock;
+ghost use Rattle.doubtful.specs.DoubtRightProof.{RingedTold};
 use survey::Survey;
 
 // What the call replies: a ring holds both in each setting, in some but not each, in none; or the number of a refusal.
@@ -37,40 +36,19 @@ impl Answer {
     }
 }
 
-// The number of the first cause among 10, 12, 13, 15.
-fn refusal(s: Survey, first: u16, second: u16, marks: usize) -> u8
-    ensures { λ r. ⌜ r ≡ doubtRefusal first second marks (of s) ⌝ }
+// Whether the links of a site that count by `marks` have a ring that holds both.
+fn ringed<'a>(
+    marks: &'a [u8],
+    units: u16,
+    links: u16,
+    ends: &'a [u16],
+    first: u16,
+    second: u16,
+) -> bool
+    ensures { λ r. ⌜ RingedTold units links (now (ends .entry)) first second (sure (now (marks .entry))) r ⌝ }
 {
-    if !s.well_formed() {
-        return 10;
-    }
-    if s.clock.stage != Clock::FINISHED {
-        return 12;
-    }
-    if s.table.links <= first {
-        return 13;
-    }
-    if s.table.links <= second {
-        return 13;
-    }
-    if marks != s.table.links as usize {
-        return 15;
-    }
-    0
-}
-
-// Marks by which every link counts.
-fn unmarked() -> [u8; 1]
-    ensures { λ r. ⌜ ((j : ℕ) → getD r j 0 ≡ 0) ⌝ }
-{
-    [0; 1]
-}
-
-// A table for a ring.
-fn blank() -> [u16; 256]
-    ensures { λ r. ⌜ length r ≡ 256 ⌝ }
-{
-    [0; 256]
+    let mut found = ring_tables::zeros();
+    showing::ring(marks, units, links, ends, first, second, &mut found) != 0
 }
 
 // A byte a link in `marks`, 0 for a sure one and any other for a doubtful one. Two questions are enough: whether the sure links of a site have a ring that
@@ -86,15 +64,13 @@ pub fn judged<'a>(
     ensures number { λ r. ⌜ numberOf r ≡ 0 ⌝ }
     ensures told { λ r. ⌜ VerdictTold units links (now (ends .entry)) (now (marks .entry)) first second r ⌝ }
 {
-    let mut found = blank();
-    let sure = showing::ring(marks, units, links, ends, first, second, &mut found);
-    if sure != 0 {
+    let sure = ringed(marks, units, links, ends, first, second);
+    if sure {
         return Verdict::Always;
     }
-    let none = unmarked();
-    let mut other = blank();
-    let all = showing::ring(&none, units, links, ends, first, second, &mut other);
-    if all != 0 {
+    let none = ring_tables::unmarked();
+    let all = ringed(&none, units, links, ends, first, second);
+    if all {
         return Verdict::Perhaps;
     }
     Verdict::Never
@@ -104,7 +80,16 @@ pub fn judged<'a>(
 pub fn doubt<'a>(survey: Survey, first: u16, second: u16, marks: &'a [u8]) -> Answer
     ensures { λ r. ⌜ DoubtRight first second (now (marks .entry)) (of survey) (answerOf r) ⌝ }
 {
-    let refused = refusal(survey, first, second, marks.len());
+    let differ = marks.len() != survey.table.links as usize;
+    let refused = asking::two_links(
+        survey.well_formed(),
+        survey.clock.stage,
+        survey.table.links,
+        first,
+        second,
+        15,
+        differ,
+    );
     if refused != 0 {
         return Answer {
             survey,

@@ -59,6 +59,13 @@ pub fn lay(next: &[u16], count: u16, v: u16, i: u16, up: bool, placing: bool, ou
     }
 }
 
+// Marks by which every link counts.
+pub fn unmarked() -> [u8; 1]
+    ensures { λ r. ⌜ ((j : ℕ) → getD r j 0 ≡ 0) ⌝ }
+{
+    [0; 1]
+}
+
 // A table of zeros by unit.
 pub fn zeros() -> [u16; 256]
     ensures { λ r. ⌜ ((i : ℕ) → i < 256 → getD r i 0 ≡ 0) ⌝ }

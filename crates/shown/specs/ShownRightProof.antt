@@ -1,22 +1,23 @@
 -- The proof of what T-04 asks, by what `showing` tells of the state's tables.
 use mathlib.Core.Path.{_≡_, refl, sym, ap, _∙_}
-use mathlib.Core.Bool.{true, false, not}
+use mathlib.Core.Bool.{true}
 use mathlib.Core.Logic.{_⊎_, inl, inr}
 use mathlib.Core.List.{List, [], _∷_, _++_}
 use Prim.Native.Nat.{ℕ, zero, suc, _≤_, _<_}
 use native.Mathlib.Omega.{arith}
 use lib.Dec.{ltb}
 use lib.ListN.{length, getD, take, drop, length-take}
-use borrow.Author.Tests.{eq-eqb, ltb-true, ltb-false, not-false, ne-eqb, lt-ltb, le-ltb}
+use borrow.Author.Tests.{eq-eqb, ltb-false}
 use Rattle.lists.specs.Tables.{over}
-use Rattle.table.specs.RefusalLaws.{first-cause, some-cause, passed-test}
+use Rattle.table.specs.RefusalLaws.{first-cause, some-cause}
 use Rattle.table.specs.Table.{endA, endB}
 use Rattle.graph.specs.Rings.{Ring, lastOf, OnRing}
 use Rattle.graph.specs.Together.{onRing-more}
 use Rattle.graph.specs.Walks.{walk-map, ring-closed, closed-ring}
 use Rattle.machine.specs.Kept.{kept-exact}
-use Rattle.machine.specs.State.{State, units, links, finished, FINISHED}
+use Rattle.machine.specs.State.{State, units, links, finished}
 use Rattle.machine.specs.WellFormed.{wellFormed}
+use Rattle.asking.specs.TwoLinks.{two-passed}
 use Rattle.reach.specs.Site.{Link}
 use Rattle.ring.specs.Closing.{shows-short}
 use Rattle.ring.specs.Found.{RingTold}
@@ -26,35 +27,6 @@ use Rattle.shown.specs.declared.Shown.the-variants.{NoRing, Refused}
 use Rattle.shown.specs.declared.Shown.the-variants as Replies
 use Rattle.shown.specs.Shown.{Answer, numberOf, shownRefusal, shownReasons}
 use Rattle.shown.specs.ShownRight.{RingThrough, Laid, RingLaid, Told, ShownRight}
-
--- ---- the tests in order
-
-module _ (i j places : ℕ) (s : State) where
-  pub refused-malformed : wellFormed s ≡ false → 10 ≡ shownRefusal i j places s
-  unfolding shownRefusal
-  refused-malformed w = rw w refl
-
-  module _ (w : wellFormed s ≡ true) where
-    pub refused-running : (s .clock .stage ≡ FINISHED → ⊥) → 12 ≡ shownRefusal i j places s
-    unfolding shownRefusal
-    refused-running h = rw (w, ne-eqb (s .clock .stage) FINISHED h) refl
-
-    module _ (f : s .clock .stage ≡ FINISHED) where
-      pub refused-first : links s ≤ i → 13 ≡ shownRefusal i j places s
-      unfolding shownRefusal
-      refused-first h = rw (w, eq-eqb (s .clock .stage) FINISHED f, le-ltb i (links s) h) refl
-
-      pub refused-second : i < links s → links s ≤ j → 13 ≡ shownRefusal i j places s
-      unfolding shownRefusal
-      refused-second a h = rw (w, eq-eqb (s .clock .stage) FINISHED f, lt-ltb i (links s) a, le-ltb j (links s) h) refl
-
-      pub refused-short : i < links s → j < links s → places < units s → 14 ≡ shownRefusal i j places s
-      unfolding shownRefusal
-      refused-short a b h = rw (w, eq-eqb (s .clock .stage) FINISHED f, lt-ltb i (links s) a, lt-ltb j (links s) b, lt-ltb places (units s) h) refl
-
-      pub refused-none : i < links s → j < links s → units s ≤ places → 0 ≡ shownRefusal i j places s
-      unfolding shownRefusal
-      refused-none a b h = rw (w, eq-eqb (s .clock .stage) FINISHED f, lt-ltb i (links s) a, lt-ltb j (links s) b, le-ltb places (units s) h) refl
 
 -- ---- rings of the links that count, where all do
 
@@ -127,12 +99,8 @@ module _ (i j : ℕ) (s : State) (out : List ℕ) where
   passed : refusal ≡ 0 → (wellFormed s ≡ true) × (i < links s) × (j < links s) × (units s ≤ length out)
   unfolding shownRefusal
   passed e =
-      let a = passed-test (not (wellFormed s)) 10 _ (omega arith) e in
-      let b = passed-test (not (finished s)) 12 _ (omega arith) (a .1) in
-      let c = passed-test (not (ltb i (links s))) 13 _ (omega arith) (b .1) in
-      let d = passed-test (not (ltb j (links s))) 13 _ (omega arith) (c .1) in
-      let f = passed-test (ltb (length out) (units s)) 14 _ (omega arith) (d .1) in
-      (not-false (wellFormed s) (a .0), ltb-true i (links s) (not-false _ (c .0)), ltb-true j (links s) (not-false _ (d .0)), ltb-false (length out) (units s) (f .0))
+      let p = two-passed (wellFormed s) (finished s) (links s) i j 14 (ltb (length out) (units s)) (omega arith) e in
+      (p .0, p .1, p .2, ltb-false (length out) (units s) (p .3))
 
   module _ (new : List ℕ) (r : ℕ) (e : refusal ≡ 0) (full : length (s .table .ends) ≡ 2048) (L : RingLaid (units s) (links s) (s .table .ends) i j out new r) where
     abbrev m : ℕ

@@ -1,12 +1,9 @@
 // A ring of a finished survey that holds two links (T-04), by value.
 ghost use mathlib.Core.Path.{_≡_};
-ghost use Prim.Native.Nat.{ℕ, _<_};
-ghost use lib.ListN.{length, getD, drop};
-ghost use Rattle.lists.specs.Tables.{over};
+ghost use lib.ListN.{drop};
 ghost use Rattle.survey.specs.View.{of};
-ghost use Rattle.shown.specs.Shown.{shownRefusal, answerOf, numberOf};
+ghost use Rattle.shown.specs.Shown.{answerOf, numberOf};
 ghost use Rattle.shown.specs.ShownRight.{RingLaid, ShownRight};
-use survey::Clock;
 use survey::Survey;
 
 // What the call replies: the number of units of the ring that was written, that there is none, or the number of a refusal.
@@ -36,42 +33,6 @@ impl Answer {
     }
 }
 
-// The number of the first cause among 10, 12, 13, 14.
-fn refusal(s: Survey, first: u16, second: u16, places: usize) -> u8
-    ensures { λ r. ⌜ r ≡ shownRefusal first second places (of s) ⌝ }
-{
-    if !s.well_formed() {
-        return 10;
-    }
-    if s.clock.stage != Clock::FINISHED {
-        return 12;
-    }
-    if s.table.links <= first {
-        return 13;
-    }
-    if s.table.links <= second {
-        return 13;
-    }
-    if places < s.table.units as usize {
-        return 14;
-    }
-    0
-}
-
-// Marks by which every link counts.
-fn unmarked() -> [u8; 1]
-    ensures { λ r. ⌜ ((j : ℕ) → getD r j 0 ≡ 0) ⌝ }
-{
-    [0; 1]
-}
-
-// A table for the ring.
-fn blank() -> [u16; 256]
-    ensures { λ r. ⌜ length r ≡ 256 ⌝ }
-{
-    [0; 256]
-}
-
 // The units of a ring of a site that holds both links at the front of `out`, the two ends of the first link before the others, and how many they are;
 // 0 where there is none. Words past so many stay, whatever the table is.
 pub fn lay_ring<'a>(
@@ -85,8 +46,8 @@ pub fn lay_ring<'a>(
     ensures laid { λ r. ⌜ RingLaid units links (now (ends .entry)) first second (now (out .entry)) (now (out .exit)) r ⌝ }
     ensures past { λ r. ⌜ drop r (now (out .exit)) ≡ drop r (now (out .entry)) ⌝ }
 {
-    let marks = unmarked();
-    let mut found = blank();
+    let marks = ring_tables::unmarked();
+    let mut found = ring_tables::zeros();
     let count = showing::ring(&marks, units, links, ends, first, second, &mut found);
     copies::lay_first(count, &found, out);
     count
@@ -96,7 +57,16 @@ pub fn lay_ring<'a>(
 pub fn show(survey: Survey, first: u16, second: u16, out: &mut [u16]) -> Answer
     ensures { λ r. ⌜ ShownRight first second (of survey) (now (out .entry)) (answerOf r) (now (out .exit)) ⌝ }
 {
-    let refused = refusal(survey, first, second, out.len());
+    let short = out.len() < survey.table.units as usize;
+    let refused = asking::two_links(
+        survey.well_formed(),
+        survey.clock.stage,
+        survey.table.links,
+        first,
+        second,
+        14,
+        short,
+    );
     if refused != 0 {
         return Answer {
             survey,

@@ -7,8 +7,8 @@ use Rattle.shown.proofs.lay_ring.Tie as tie
 unmarked-requires : tie.Need-unmarked-requires
 unmarked-requires c κs = search needs
 
-blank-requires : tie.Need-blank-requires
-blank-requires c κs = search needs
+zeros-requires : tie.Need-zeros-requires
+zeros-requires c κs = search needs
 
 slice-aggregate-ring : tie.Need-slice-aggregate-ring
 slice-aggregate-ring c = search needs
@@ -35,14 +35,14 @@ returns c =
     let b = k .before .before .before in
     let u = b .before in
     let a = u .before .before .before .args in
-    (ring-laid (a .units) (a .links) (a .ends .now) (a .first) (a .second) (a .out .now) (u .unmarked .result) (b .blank .result) (k .ring .last .1 .1 .1 .1 .1 .1 .0) (k .ring .result) (u .unmarked .ensures) (b .blank .ensures) (k .ring .ensures) _ (l .lay-first .ensures), over-past (k .ring .result) (k .ring .last .1 .1 .1 .1 .1 .1 .0) (a .out .now) _ (l .lay-first .ensures))
+    (ring-laid (a .units) (a .links) (a .ends .now) (a .first) (a .second) (a .out .now) (u .unmarked .result) (b .zeros .result) (k .ring .last .1 .1 .1 .1 .1 .1 .0) (k .ring .result) (u .unmarked .ensures) (search (b .zeros .ok, needs)) (k .ring .ensures) _ (l .lay-first .ensures), over-past (k .ring .result) (k .ring .last .1 .1 .1 .1 .1 .1 .0) (a .out .now) _ (l .lay-first .ensures))
 
 pub lay-ring-spec : {M : Type 1} → statement M
 lay-ring-spec =
     tie.close
     (tie.spec
     unmarked-requires
-    blank-requires
+    zeros-requires
     slice-aggregate-ring
     slice-aggregate-ring-2
     ring-requires

@@ -1,7 +1,7 @@
 -- One mark, and none past it.
 use Rattle.ring.specs.Present.{one-sure}
-use Rattle.doubtful.proofs.unmarked.Statement.{statement}
-use Rattle.doubtful.proofs.unmarked.Tie as tie
+use Rattle.ring_tables.proofs.unmarked.Statement.{statement}
+use Rattle.ring_tables.proofs.unmarked.Tie as tie
 
 returns : tie.Need-returns
 returns c = λ j. one-sure j
