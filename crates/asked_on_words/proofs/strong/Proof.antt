@@ -1,7 +1,5 @@
 -- The reply of `one_way`, told word by word.
-use mathlib.Core.Path.{sym, ap, _∙_}
-use Rattle.one_way.specs.Numbering.{numberOf}
-use Rattle.asked_on_words.specs.NumbersSaid.{passesSaid, passes-said}
+use Rattle.asked_on_words.specs.NumbersSaid.{strong-said}
 use borrow.Author.Needs.{needs}
 use Rattle.asked_on_words.proofs.strong.Statement.{statement}
 use Rattle.asked_on_words.proofs.strong.Tie as tie
@@ -25,8 +23,7 @@ returns : tie.Need-returns
 returns c =
     let a = c .before .before .before .before .before .before .before .before .before .args in
     let r = c .before .before .before .before .before .strong in
-    let is = sym (c .before .told .given .1) in
-    (ap numberOf is ∙ r .ensures .1 .1 .0, (r .ensures .1 .0, ap (λ x. passesSaid x (a .passes .now)) (is ∙ r .ensures .0) ∙ passes-said (a .units) (a .links .now) (a .numbers .now) (a .passes .now)))
+    strong-said (a .units) (a .links .now) (a .numbers .now) (a .passes .now) (r .result) _ _ (c .before .told .given .1) (r .ensures .0) (r .ensures .1 .0) (r .ensures .1 .1 .0)
 
 same-length-2 : tie.Need-same-length-2
 same-length-2 c = search needs
@@ -35,8 +32,7 @@ returns-2 : tie.Need-returns-2
 returns-2 c =
     let a = c .before .before .before .before .before .before .before .before .before .args in
     let r = c .before .before .before .before .before .strong in
-    let is = sym (c .before .told2 .given .1) in
-    (ap numberOf is ∙ r .ensures .1 .1 .0, (r .ensures .1 .0, ap (λ x. passesSaid x (a .passes .now)) (is ∙ r .ensures .0) ∙ passes-said (a .units) (a .links .now) (a .numbers .now) (a .passes .now)))
+    strong-said (a .units) (a .links .now) (a .numbers .now) (a .passes .now) (r .result) _ _ (c .before .told2 .given .1) (r .ensures .0) (r .ensures .1 .0) (r .ensures .1 .1 .0)
 
 pub strong-spec : {M : Type 1} → statement M
 strong-spec =
