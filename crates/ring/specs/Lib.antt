@@ -2,6 +2,7 @@ pub mod Upright
 pub mod Ears
 pub mod Anchors
 pub mod Present
+pub mod Missing
 pub mod Steps
 pub mod Lists
 pub mod Tree

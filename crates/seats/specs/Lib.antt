@@ -2,3 +2,4 @@ pub mod Lent
 pub mod LentLaws
 pub mod ServeLaws
 pub mod Cleared
+pub mod SameSeats
