@@ -1,4 +1,4 @@
-//! Links the proved library's C face, for the feature `face` alone, and the crate `seats` for `record`.
+//! Links the proved library's C face, for the feature `face` alone, and the crate `words_seats` for `record`.
 
 use std::path::Path;
 
@@ -11,7 +11,7 @@ fn main() {
     println!("cargo::rustc-link-search=native={}", folder.display());
     link(&folder, "survey_c");
     if std::env::var_os("CARGO_FEATURE_RECORD").is_some() {
-        link(&folder, "seats");
+        link(&folder, "words_seats");
     }
 }
 

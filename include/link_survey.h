@@ -49,7 +49,7 @@
  * The words of a state, lent by the caller to every call on a state (all but link_survey_report, link_survey_read,
  * link_survey_write, link_survey_one_way and those of live tables): units, links, the ends of the links (2,048); stage,
  * rounds made in the stage, all rounds, requests; then the tables of the stages, each whole, in the order of
- * crates/words/specs/Layout.antt; the levels of the links (1,024), each as its 16 bits in two's complement, 0 past the
+ * crates/words_layout/specs/Layout.antt; the levels of the links (1,024), each as its 16 bits in two's complement, 0 past the
  * links after a load; last the parents that the planner drew (256), absent without a plan, and whether a plan was given,
  * any number but 0. Any words are a state. One whose words are out of their bounds is "not kept", and refused with 10 by
  * all calls on a state but the loads. Before the first load the words may hold anything; all zeros are not kept.

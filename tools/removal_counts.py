@@ -1,7 +1,7 @@
 #!/usr/bin/env python3
-"""What removal_check must print: python3 tools/removal_counts.py > crates/removal_check/stdout
+"""What check_removal must print: python3 tools/removal_counts.py > crates/check_removal/stdout
 
-Draws the tables that removal_check reads, writes them to its data, and counts single points, lone links and labels in ways of its own: rings are
+Draws the tables that check_removal reads, writes them to its data, and counts single points, lone links and labels in ways of its own: rings are
 listed one by one on the small tables, and on all tables two links go together until the removal of a unit parts them."""
 
 from itertools import combinations, permutations
@@ -186,7 +186,7 @@ def stream(tables):
 
 
 def main():
-    crate = Path(__file__).parent.parent / "crates/removal_check"
+    crate = Path(__file__).parent.parent / "crates/check_removal"
     args = (crate / "args").read_text().splitlines()
     files, names = args[::2], args[1::2]
     kinds = [list(small(units)) for units in range(1, 6)]

@@ -1,5 +1,5 @@
 """The vectors of document 02's requests through the calls from C, for tools/test_examples.py: from the numbers of a stream to the lines that the check
-programs of T-04, T-07, T-08, T-09 and T-11 print for it (crates/*_check/stdout, from an independent model). Whatever a call must leave is judged here.
+programs of T-04, T-07, T-08, T-09 and T-11 print for it (crates/check_*/stdout, from an independent model). Whatever a call must leave is judged here.
 """
 from ctypes import byref, c_int16, c_size_t, c_uint16, c_uint8
 

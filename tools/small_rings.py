@@ -1,8 +1,8 @@
 #!/usr/bin/env python3
 """Every small site with all its rings, for the check programs of T-04 and T-08.
 
-    small_rings.py rings DIR      streams for rings_check: every table of 2 to 5 units, every two positions
-    small_rings.py doubtful DIR   streams for doubtful_check: every table of 2 to 4 units, all marks, every two positions
+    small_rings.py rings DIR      streams for check_rings: every table of 2 to 5 units, every two positions
+    small_rings.py doubtful DIR   streams for check_doubtful: every table of 2 to 4 units, all marks, every two positions
 
 A table has every set of links in which each unit has one; the order of its links and of their ends is drawn from a fixed
 seed. All rings are listed by trying every sequence of units, all settings by trying every set of doubtful links. Writes

@@ -20,7 +20,7 @@ from losses import Losses
 from survey_text import Fault, Site, read_site
 
 ROOT = os.path.dirname(os.path.dirname(os.path.abspath(__file__)))
-VECTORS = os.path.join(ROOT, "crates", "vector_check", "data")
+VECTORS = os.path.join(ROOT, "crates", "check_vectors", "data")
 SVG = "{http://www.w3.org/2000/svg}"
 SHEET = 190, 277  # mm, A4 without its margins
 ROADS = 200

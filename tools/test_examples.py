@@ -16,7 +16,7 @@ import request_vectors
 
 ROOT = os.path.dirname(os.path.dirname(os.path.abspath(__file__)))
 EXAMPLES = os.path.join(ROOT, "examples")
-VECTORS = os.path.join(ROOT, "crates", "vector_check", "data")
+VECTORS = os.path.join(ROOT, "crates", "check_vectors", "data")
 LEVELS = os.path.join(ROOT, "evidence", "tests", "levels", "program")
 ARCHIVE = os.path.join(ROOT, "target", "staticlib", "libsurvey_c.a")
 WARNINGS = ["-Wall", "-Wextra", "-Wpedantic", "-Werror"]
@@ -169,7 +169,7 @@ class Programs(unittest.TestCase):
         for line in CASE_B.splitlines():
             self.assertIn(line + "\n", printed)
         # the first case of these vectors is case B: 28 times the foreman's line, then the service line
-        lines = contents(os.path.join(ROOT, "crates", "lines_check", "stdout")).splitlines()
+        lines = contents(os.path.join(ROOT, "crates", "check_lines", "stdout")).splitlines()
         self.assertEqual(re.findall(r"(?m)^round .+  (20[0-9A-F]{8})$", printed), lines[0:56:2])
 
     def test_vectors(self):
@@ -217,7 +217,7 @@ class Calls(unittest.TestCase):
 
     def test_vectors(self):
         for family in "rings", "lifting", "doubtful", "one_way", "live":
-            crate = os.path.join(ROOT, "crates", family + "_check")
+            crate = os.path.join(ROOT, "crates", "check_" + family)
             lines = []
             for name in re.findall(r"\S+\.in\b", contents(os.path.join(crate, "args"))):
                 lines += request_vectors.played(self.library, family, name, contents(os.path.join(crate, "data", name)))

@@ -28,7 +28,7 @@ def site_of(units, links):
 
 
 def stored(name):
-    path = sorted(glob.glob(os.path.join(ROOT, "crates", "vector_check", "data", f"*_v_{name}.in")))[0]
+    path = sorted(glob.glob(os.path.join(ROOT, "crates", "check_vectors", "data", f"*_v_{name}.in")))[0]
     with open(path, "rb") as file:
         return Losses(read_site(file.read()))
 

@@ -1,6 +1,6 @@
 """Tests of the front door, its words and the plain text: python3 tools/test_survey.py
 
-The vectors stand in crates/vector_check/data, or where LINK_SURVEY_VECTORS says: NAME.in is a survey file, NAME.out what the survey prints.
+The vectors stand in crates/check_vectors/data, or where LINK_SURVEY_VECTORS says: NAME.in is a survey file, NAME.out what the survey prints.
 What the program is made to run on is skipped, and said so, where target/bin/link_survey is not built; most tests lend it a report instead.
 """
 import contextlib
@@ -26,7 +26,7 @@ from survey_text import Fault, Site, level_of, read_site, write_site
 
 HERE = os.path.dirname(os.path.abspath(__file__))
 ROOT = os.path.dirname(HERE)
-DATA = os.path.join(ROOT, "crates", "vector_check", "data")
+DATA = os.path.join(ROOT, "crates", "check_vectors", "data")
 VECTORS = os.environ.get("LINK_SURVEY_VECTORS", DATA)
 LEVELS = os.path.join(ROOT, "evidence", "tests", "levels", "program")
 REWRITE = os.path.join(ROOT, "evidence", "tests", "levels", "rewrite")

@@ -198,7 +198,7 @@ pub const PROVED: Calls = Calls {
     seats: PROVED_SEATS,
 };
 
-/// The tick that takes the turn as a record, of the archive of the crate `seats`.
+/// The tick that takes the turn as a record, of the archive of the crate `words_seats`.
 #[cfg(feature = "record")]
 pub mod record {
     use super::{SeatCalls, Seats, seat_load};

@@ -30,7 +30,7 @@ fn service(survey: &Survey) -> String {
     line(survey, Survey::service_line, SERVICE_LINE)
 }
 
-/// Each case of `lines_check`: both lines after the load and after each round.
+/// Each case of `check_lines`: both lines after the load and after each round.
 #[test]
 fn line_vectors() {
     streams::vectors("lines").hold(|name, numbers, said| {

@@ -1,4 +1,4 @@
-//! Seats (document 02, T-12): the plain version against the vectors of `seats_check`; and, with the feature `face`, a search for
+//! Seats (document 02, T-12): the plain version against the vectors of `check_seats`; and, with the feature `face`, a search for
 //! differences between it and the proved library, every word and the turn compared after each call.
 
 mod streams;

@@ -40,7 +40,7 @@ fn with_levels(file: &[u8]) -> Vec<u8> {
 /// A folder of NAME.in and NAME.out: what the program reads, and what it prints.
 #[test]
 fn reports_of_files() {
-    let folder = std::env::var_os("SURVEY_VECTORS").map_or(crates().join("vector_check/data"), PathBuf::from);
+    let folder = std::env::var_os("SURVEY_VECTORS").map_or(crates().join("check_vectors/data"), PathBuf::from);
     let entries = std::fs::read_dir(&folder).unwrap_or_else(|e| panic!("{}: {e}", folder.display()));
     let mut inputs: Vec<PathBuf> =
         entries.map(|entry| entry.unwrap().path()).filter(|path| path.extension().is_some_and(|e| e == "in")).collect();
@@ -62,11 +62,11 @@ fn reports_of_files() {
 /// Each file read, checked and written back: the number of its refusal, or every byte the same but for the kind of its links.
 #[test]
 fn files_read_and_written() {
-    let lines = text(&crates().join("file_check/stdout"));
+    let lines = text(&crates().join("check_files/stdout"));
     assert!(lines.lines().count() >= 100);
     for line in lines.lines() {
         let (name, expected) = line.split_once(' ').unwrap();
-        let input = read(&crates().join("file_check/data").join(name));
+        let input = read(&crates().join("check_files/data").join(name));
         let (mut words, mut levels) = ([0; 2048], [0; 1024]);
         let mut copy = vec![0; 2 * input.len()];
         let outcome = if input.len() > plain::MAX_INPUT {
@@ -123,7 +123,7 @@ fn each_round(folder: &str, load: fn(&[u8]) -> Survey, say: fn(&Survey, &mut Str
 /// The status after the load and after each round.
 #[test]
 fn traces() {
-    each_round("trace_check", loaded, |survey, said| {
+    each_round("check_traces", loaded, |survey, said| {
         let s = survey.status().unwrap();
         writeln!(said, "{} {} {} {}", s.stage, s.countdown, s.rounds, s.requests).unwrap();
     });
@@ -133,7 +133,7 @@ fn traces() {
 /// and with a tree drawn by the planner (T-05).
 #[test]
 fn tables() {
-    each_round("table_check", |text| if text.starts_with(b"0") { loaded(text) } else { streamed(text) }, say_tables);
+    each_round("check_tables", |text| if text.starts_with(b"0") { loaded(text) } else { streamed(text) }, say_tables);
 }
 
 /// A stream of numbers: the unit count, the list of words, the list of levels, and with a plan the list of parents; a list is its length

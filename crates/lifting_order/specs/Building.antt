@@ -6,10 +6,10 @@ use Prim.Native.Nat.{ℕ, _≤_, _<_}
 use native.Mathlib.Decide.{ℕ-discrete}
 use native.Mathlib.Omega.{arith}
 use lib.ListN.{length}
-use Rattle.lists.specs.Members.{Mem, Distinct, mem?, mem-right, mem-split, distinct-right}
-use Rattle.graph.specs.Rings.{last, Walk, Connected}
-use Rattle.graph.specs.Walks.{walk-map}
-use Rattle.graph.specs.Routes.{connected-trans, connected-link}
+use Rattle.base_lists.specs.Members.{Mem, Distinct, mem?, mem-right, mem-split, distinct-right}
+use Rattle.theory_graph.specs.Rings.{last, Walk, Connected}
+use Rattle.theory_graph.specs.Walks.{walk-map}
+use Rattle.theory_graph.specs.Routes.{connected-trans, connected-link}
 use Rattle.lifting_order.specs.Lifts.{Among, Lifts, MayStand, LeastEach, NotAfter}
 
 -- each unit of the list might stand when it was its turn, the last first

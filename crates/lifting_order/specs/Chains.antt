@@ -11,7 +11,7 @@ use lib.Dec.{eqb}
 use lib.ListN.{length, getD, set}
 use lib.Seq.{getD-set-same, getD-set-other}
 use borrow.Author.Tests.{eqb-true, eq-eqb, ne-eqb}
-use Rattle.lists.specs.Tests.{either}
+use Rattle.base_lists.specs.Tests.{either}
 
 -- one more than the last place below i that holds v, 0 where none does
 unfoldable pub lastBefore : List ℕ → ℕ → ℕ → ℕ

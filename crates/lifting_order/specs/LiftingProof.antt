@@ -8,7 +8,7 @@ use native.Mathlib.Omega.{arith}
 use lib.Dec.{eqb}
 use lib.ListN.{length, getD}
 use borrow.Author.Tests.{eqb-true, eq-eqb, ne-eqb, not-false}
-use Rattle.lists.specs.Tests.{not-both}
+use Rattle.base_lists.specs.Tests.{not-both}
 use Rattle.table.specs.Table.{endMissing}
 use Rattle.table.specs.TableCauses.{endMissing-exact}
 use Rattle.lifting_order.specs.Lifts.{Lifts}

@@ -3,8 +3,8 @@ use mathlib.Core.Path.{_≡_}
 use mathlib.Core.Logic.{_⊎_, _↔_}
 use mathlib.Core.List.{List, [], _∷_, _++_}
 use Prim.Native.Nat.{ℕ, _≤_, _<_}
-use Rattle.lists.specs.Members.{Mem, Distinct}
-use Rattle.graph.specs.Rings.{Connected}
+use Rattle.base_lists.specs.Members.{Mem, Distinct}
+use Rattle.theory_graph.specs.Rings.{Connected}
 
 -- the links between units of a list
 abbrev pub Among : List ℕ → (ℕ → ℕ → Type 0) → ℕ → ℕ → Type 0

@@ -9,7 +9,7 @@ use lib.Dec.{eqb}
 use lib.ListN.{length, getD, set, length-set}
 use lib.Seq.{getD-set-same, getD-set-other}
 use borrow.Author.Tests.{eq-eqb, ne-eqb}
-use Rattle.lists.specs.Folds.{some, count}
+use Rattle.base_lists.specs.Folds.{some, count}
 use Rattle.table.specs.Table.{linkCount, endA, endB}
 use Rattle.lifting_order.specs.Chains.{through}
 

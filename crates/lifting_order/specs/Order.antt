@@ -6,9 +6,9 @@ use mathlib.Core.List.{List, [], _∷_}
 use Prim.Native.Nat.{ℕ, zero, suc, _<_}
 use lib.Dec.{eqb, ltb}
 use lib.ListN.{length}
-use Rattle.lists.specs.Folds.{some, least}
-use Rattle.lists.specs.Parts.{memb}
-use Rattle.graph.specs.Rings.{SameLink}
+use Rattle.base_lists.specs.Folds.{some, least}
+use Rattle.base_lists.specs.Parts.{memb}
+use Rattle.theory_graph.specs.Rings.{SameLink}
 use Rattle.table.specs.Table.{linkCount, endA, endB, oddWords, endMissing}
 
 -- a link joins u and v; a pair says x before y

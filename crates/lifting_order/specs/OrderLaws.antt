@@ -8,15 +8,15 @@ use native.Mathlib.Omega.{arith}
 use lib.Dec.{eqb, ltb}
 use lib.ListN.{length}
 use borrow.Author.Tests.{eqb-true, eq-eqb, ltb-true, ltb-false}
-use Rattle.lists.specs.Counts.{count-le}
-use Rattle.lists.specs.Folds.{some}
-use Rattle.lists.specs.LeastLaws.{least-is, least-le}
-use Rattle.lists.specs.Members.{Mem, Distinct, mem?}
-use Rattle.lists.specs.Parts.{memb, memb-mem, mem-memb}
-use Rattle.lists.specs.Pigeonhole.{Picked, pigeonhole}
-use Rattle.lists.specs.Some.{some-exact}
-use Rattle.lists.specs.Tests.{either, and-exact, or-exact, not-exact}
-use Rattle.graph.specs.Rings.{SameLink}
+use Rattle.base_lists.specs.Counts.{count-le}
+use Rattle.base_lists.specs.Folds.{some}
+use Rattle.base_lists.specs.LeastLaws.{least-is, least-le}
+use Rattle.base_lists.specs.Members.{Mem, Distinct, mem?}
+use Rattle.base_lists.specs.Parts.{memb, memb-mem, mem-memb}
+use Rattle.base_lists.specs.Pigeonhole.{Picked, pigeonhole}
+use Rattle.base_lists.specs.Some.{some-exact}
+use Rattle.base_lists.specs.Tests.{either, and-exact, or-exact, not-exact}
+use Rattle.theory_graph.specs.Rings.{SameLink}
 use Rattle.table.specs.Table.{linkCount, endA, endB}
 use Rattle.lifting_order.specs.Lifts.{Lifts, MayStand, LeastEach}
 use Rattle.lifting_order.specs.Order.{Joins, Pair, reaches, held, blocks, free, mayStand, nextUp, grow}

@@ -11,14 +11,14 @@ use lib.Dec.{eqb}
 use lib.ListN.{length, getD, set, drop, length-set}
 use lib.Seq.{getD-set-same, getD-set-other}
 use borrow.Author.Tests.{eqb-true, eq-eqb, ne-eqb, lt-ltb, le-ltb}
-use Rattle.lists.specs.Counts.{count-none, count-positive, count-cong, count-le}
-use Rattle.lists.specs.Folds.{some, count, least}
-use Rattle.lists.specs.FoldLaws.{fold-cong}
-use Rattle.lists.specs.LeastLaws.{least-is, least-start}
-use Rattle.lists.specs.Parts.{memb}
-use Rattle.lists.specs.Some.{some-exact, some-none, some-or}
-use Rattle.lists.specs.Tables.{over}
-use Rattle.lists.specs.Tests.{either, refuted, and-left, and-right, or-swap}
+use Rattle.base_lists.specs.Counts.{count-none, count-positive, count-cong, count-le}
+use Rattle.base_lists.specs.Folds.{some, count, least}
+use Rattle.base_lists.specs.FoldLaws.{fold-cong}
+use Rattle.base_lists.specs.LeastLaws.{least-is, least-start}
+use Rattle.base_lists.specs.Parts.{memb}
+use Rattle.base_lists.specs.Some.{some-exact, some-none, some-or}
+use Rattle.base_lists.specs.Tables.{over}
+use Rattle.base_lists.specs.Tests.{either, refuted, and-left, and-right, or-swap}
 use Rattle.table.specs.Table.{linkCount, endA, endB}
 use Rattle.lifting_order.specs.Order.{reaches, held, blocks, free, mayStand, nextUp, grow, orderOf}
 use Rattle.lifting_order.specs.Chains.{Words}

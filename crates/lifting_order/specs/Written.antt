@@ -6,7 +6,7 @@ use lib.Dec.{leb, ltb}
 use lib.ListN.{length, take}
 use Rattle.table.specs.Refusals.{firstOf, written}
 use Rattle.table.specs.Table.{maxUnits}
-use Rattle.rules.specs.Fits.{linksFit}
+use Rattle.spec_rules.specs.Fits.{linksFit}
 use Rattle.lifting_order.specs.Order.{orderOf, badPairs, noOrder}
 
 -- what the order is made from: at most 256 units, and m links between them, as in every kept state

@@ -8,14 +8,14 @@ use lib.Dec.{leb, ltb}
 use lib.ListN.{length, getD, take, drop, length-take}
 use lib.Seq.{take-all}
 use borrow.Author.Tests.{eq-eqb, ne-eqb, leb-true, le-leb, lt-leb, leb-false, ltb-true, ltb-false, lt-ltb, le-ltb, eqb-false, not-false}
-use Rattle.lists.specs.All.{every-at}
-use Rattle.lists.specs.Folds.{every}
-use Rattle.lists.specs.Tables.{over}
-use Rattle.lists.specs.Tests.{and-left, and-right, or-false-left, or-false-right}
+use Rattle.base_lists.specs.All.{every-at}
+use Rattle.base_lists.specs.Folds.{every}
+use Rattle.base_lists.specs.Tables.{over}
+use Rattle.base_lists.specs.Tests.{and-left, and-right, or-false-left, or-false-right}
 use Rattle.table.specs.Refusals.{firstOf}
 use Rattle.table.specs.RefusalLaws.{first-some, first-none, passed-test}
 use Rattle.table.specs.Table.{linkCount, oddWords, endMissing, maxUnits}
-use Rattle.rules.specs.Fits.{linksFit, fit-few}
+use Rattle.spec_rules.specs.Fits.{linksFit, fit-few}
 use Rattle.lifting_order.specs.Order.{orderOf, badPairs, noOrder}
 use Rattle.lifting_order.specs.Standing.{Given, Found, laid-over}
 use Rattle.lifting_order.specs.Written.{siteFits, givenRefusal, orderRefusal, orderWritten}

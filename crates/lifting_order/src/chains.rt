@@ -33,10 +33,10 @@ pub(crate) fn chained(t: &[u16]) -> Chains
     let mut next = places();
     let mut i = 0;
     while i < t.len() {
-        let v = slices::word(t, i) as usize;
-        let before = slices::word(&last, v);
-        slices::put(&mut next, i, before);
-        slices::put(&mut last, v, i as u16 + 1);
+        let v = base_slices::word(t, i) as usize;
+        let before = base_slices::word(&last, v);
+        base_slices::put(&mut next, i, before);
+        base_slices::put(&mut last, v, i as u16 + 1);
         i += 1;
     }
     Chains { last, next }
@@ -62,14 +62,14 @@ pub(crate) fn walk<'a>(
     requires { ⌜ Words (now t) × Chained (now t) (now last) (now next) (length (now t)) × (v < 256) ⌝ }
     ensures { λ _. ⌜ now (x .exit) ≡ walked mark (now (t .entry)) v (now (x .entry)) ⌝ }
 {
-    let mut c = slices::word(last, v as usize);
+    let mut c = base_slices::word(last, v as usize);
     while c != 0 {
         let past = c as usize;
         let i = past - 1;
-        let w = slices::word(t, other(i)) as usize;
-        let less = values::less(slices::word(x, w), (i % 2) as u16);
-        let new = values::choose(mark, 1, less);
-        slices::put(x, w, new);
-        c = slices::word(next, i);
+        let w = base_slices::word(t, other(i)) as usize;
+        let less = table_values::less(base_slices::word(x, w), (i % 2) as u16);
+        let new = table_values::choose(mark, 1, less);
+        base_slices::put(x, w, new);
+        c = base_slices::word(next, i);
     }
 }

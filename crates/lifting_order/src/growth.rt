@@ -5,7 +5,7 @@ ghost use mathlib.Core.Bool.{cond};
 ghost use Prim.Native.Nat.{ℕ, _*_, _≤_, _<_};
 ghost use lib.Dec.{eqb};
 ghost use lib.ListN.{length, getD};
-ghost use Rattle.lists.specs.Folds.{count};
+ghost use Rattle.base_lists.specs.Folds.{count};
 ghost use Rattle.table.specs.Table.{linkCount, endA};
 ghost use Rattle.lifting_order.specs.Chains.{Words};
 ghost use Rattle.lifting_order.specs.Order.{nextUp};
@@ -28,9 +28,9 @@ fn waiting(p: &[u16]) -> [u16; 256]
     let mut wait = chains::zeros();
     let mut k = 0;
     while k < p.len() / 2 {
-        let w = slices::word(p, 2 * k) as usize;
-        let more = values::bounded_sum(slices::word(&wait, w), 1);
-        slices::put(&mut wait, w, more);
+        let w = base_slices::word(p, 2 * k) as usize;
+        let more = table_values::bounded_sum(base_slices::word(&wait, w), 1);
+        base_slices::put(&mut wait, w, more);
         k += 1;
     }
     wait
@@ -44,8 +44,11 @@ fn next_up<'a>(units: u16, near: &'a [u16], wait: &'a [u16]) -> u16
     let mut v = 0;
     while v < units {
         let i = v as usize;
-        let may = values::both(slices::word(near, i) != 0, slices::word(wait, i) == 0);
-        least = values::least_of(least, values::choose(may, v, units));
+        let may = table_values::both(
+            base_slices::word(near, i) != 0,
+            base_slices::word(wait, i) == 0,
+        );
+        least = table_values::least_of(least, table_values::choose(may, v, units));
         v += 1;
     }
     least
@@ -68,10 +71,10 @@ pub(crate) fn grown<'a>(units: u16, ends: &'a [u16], pairs: &'a [u16], order: &m
             return left;
         }
         left -= 1;
-        slices::put(order, left as usize, v);
+        base_slices::put(order, left as usize, v);
         chains::walk(true, ends, &by_end.last, &by_end.next, v, &mut near);
         chains::walk(false, pairs, &by_pair.last, &by_pair.next, v, &mut wait);
-        slices::put(&mut wait, v as usize, 1);
+        base_slices::put(&mut wait, v as usize, 1);
     }
     left
 }

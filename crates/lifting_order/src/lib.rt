@@ -2,7 +2,7 @@
 ghost use mathlib.Core.Path.{_≡_};
 ghost use Prim.Native.Nat.{ℕ};
 ghost use lib.ListN.{length, getD};
-ghost use Rattle.lists.specs.Tables.{over};
+ghost use Rattle.base_lists.specs.Tables.{over};
 ghost use Rattle.lifting_order.specs.Order.{badPairs};
 ghost use Rattle.lifting_order.specs.Written.{siteFits, givenRefusal, orderRefusal, orderWritten};
 
@@ -19,7 +19,7 @@ fn site_fits(units: u16, links: u16, ends: &[u16]) -> bool
     if ends.len() < 2 * (links as usize) {
         return false;
     }
-    values::bounds::links_fit(units, links, ends)
+    table_values::bounds::links_fit(units, links, ends)
 }
 
 // More than 256 pairs, an odd number of words, or a pair that names a missing unit.
@@ -33,7 +33,7 @@ fn bad_pairs(units: u16, pairs: &[u16]) -> bool
     if pairs.len() % 2 == 1 {
         return true;
     }
-    !values::bounds::links_fit(units, count as u16, pairs)
+    !table_values::bounds::links_fit(units, count as u16, pairs)
 }
 
 // The number of the first cause among 10, 14, 19.
@@ -66,6 +66,6 @@ pub fn write<'a>(units: u16, links: u16, ends: &'a [u16], pairs: &'a [u16], out:
     if left != 0 {
         return 20;
     }
-    copies::lay_first(units, &order, out);
+    base_copies::lay_first(units, &order, out);
     0
 }

@@ -10,14 +10,14 @@ use lib.Dec.{eqb, leb, ltb}
 use lib.ListN.{length, length-append}
 use lib.IntN.{ℤ}
 use borrow.Author.Tests.{lt-ltb, le-ltb, le-leb, lt-leb, ne-eqb, eq-eqb, not-false}
-use Rattle.lists.specs.Folds.{every}
-use Rattle.lists.specs.All.{every-append}
-use Rattle.lists.specs.Tests.{same-test, or-swap}
-use Rattle.levels.specs.Level.{inRange}
+use Rattle.base_lists.specs.Folds.{every}
+use Rattle.base_lists.specs.All.{every-append}
+use Rattle.base_lists.specs.Tests.{same-test, or-swap}
+use Rattle.table_levels.specs.Level.{inRange}
 use Rattle.table.specs.Passes.{Passes, passes, table-alone, table-levelled}
 use Rattle.table.specs.Table.{maxLinks, linkCount, oddWords, tooManyLinks, levelsDiffer, levelOutside, endMissing, equalEnds, sameEnds, joinedIn, repeatedBy, repeatedLink, storedRefusal}
 use Rattle.table.specs.TableCauses.{SameEnds, sameEnds-exact}
-use Rattle.machine.specs.Load.{Input}
+use Rattle.spec_machine.specs.Load.{Input}
 use Rattle.live_table.specs.Live.{added}
 use Rattle.live_table.specs.LiveCalls.{openRefusal, linkRefusal}
 use Rattle.live_table.specs.PassedLaws.{passed}

@@ -12,11 +12,11 @@ use lib.Dec.{eqb}
 use lib.ListN.{length, getD, set, length-set}
 use lib.Seq.{ext-getD, getD-set-same, getD-set-other}
 use borrow.Author.Tests.{eqb-true, eq-eqb, ne-eqb}
-use Rattle.lists.specs.Folds.{count, some}
-use Rattle.lists.specs.Counts.{count-le}
-use Rattle.lists.specs.Some.{some-exact}
-use Rattle.lists.specs.Tables.{tab, getD-tab}
-use Rattle.lists.specs.Tests.{not-exact, refuted}
+use Rattle.base_lists.specs.Folds.{count, some}
+use Rattle.base_lists.specs.Counts.{count-le}
+use Rattle.base_lists.specs.Some.{some-exact}
+use Rattle.base_lists.specs.Tables.{tab, getD-tab}
+use Rattle.base_lists.specs.Tests.{not-exact, refuted}
 use Rattle.table.specs.Table.{maxUnits, endA, endB}
 use Rattle.live_table.specs.Counts.{endsAt, countedAt, countsTo, miscounted}
 

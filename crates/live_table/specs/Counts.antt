@@ -4,8 +4,8 @@ use mathlib.Core.List.{List}
 use Prim.Native.Nat.{ℕ}
 use lib.Dec.{eqb}
 use lib.ListN.{getD}
-use Rattle.lists.specs.Folds.{count, some}
-use Rattle.lists.specs.Tables.{tab}
+use Rattle.base_lists.specs.Folds.{count, some}
+use Rattle.base_lists.specs.Tables.{tab}
 use Rattle.table.specs.Table.{maxUnits, linkCount, endA, endB}
 
 -- the link at position j has the unit v as an end

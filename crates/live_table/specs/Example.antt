@@ -3,8 +3,8 @@ use mathlib.Core.Path.{_≡_, refl}
 use mathlib.Core.List.{[], _∷_}
 use lib.IntN.{pos, negsuc}
 use Rattle.table.specs.Table.{joinedIn}
-use Rattle.levels.specs.Level.{inRange}
-use Rattle.machine.specs.Load.{Input}
+use Rattle.table_levels.specs.Level.{inRange}
+use Rattle.spec_machine.specs.Load.{Input}
 use Rattle.live_table.specs.Counts.{countedAt, linksAt}
 use Rattle.live_table.specs.Live.{placeOf, added, withdrawn}
 use Rattle.live_table.specs.LiveCalls.{linkRefusal, pairRefusal}

@@ -12,7 +12,7 @@ use borrow.Author.Tests.{lt-ltb, le-ltb, ltb-false, eq-eqb, ne-eqb}
 use Rattle.table.specs.Refusals.{firstOf}
 use Rattle.table.specs.RefusalLaws.{first-some, first-none, passed-test}
 use Rattle.table.specs.Table.{maxLinks, badUnitCount, oddWords, tooManyLinks, levelsDiffer, storedTests, storedRefusal}
-use Rattle.machine.specs.Load.{linksIn}
+use Rattle.spec_machine.specs.Load.{linksIn}
 use Rattle.live_table.specs.Counts.{miscounted}
 use Rattle.live_table.specs.Live.{Live, held}
 use Rattle.live_table.specs.LiveCalls.{givenRefusal}

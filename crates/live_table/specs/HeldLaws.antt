@@ -8,7 +8,7 @@ use lib.Seq.{take-at}
 use Rattle.table.specs.Passes.{passes, table-alone, table-levelled}
 use Rattle.table.specs.Refusals.{firstOf}
 use Rattle.table.specs.RefusalLaws.{first-none}
-use Rattle.machine.specs.Load.{Input, linksIn, endsOf, levelsOf}
+use Rattle.spec_machine.specs.Load.{Input, linksIn, endsOf, levelsOf}
 use Rattle.live_table.specs.CountLaws.{right-counted}
 use Rattle.live_table.specs.Live.{held, liveOf}
 use Rattle.live_table.specs.LiveCalls.{openRefusal, givenTests, linkTests, pairTests, givenRefusal, linkRefusal, pairRefusal, addRefusal, withdrawRefusal}

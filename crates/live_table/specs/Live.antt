@@ -5,7 +5,7 @@ use Prim.Native.Nat.{ℕ, suc, _+_, _*_}
 use lib.ListN.{take, drop}
 use lib.IntN.{ℤ}
 use Rattle.table.specs.Table.{sameEnds}
-use Rattle.machine.specs.Load.{Input, linksIn, endsOf, levelsOf}
+use Rattle.spec_machine.specs.Load.{Input, linksIn, endsOf, levelsOf}
 use Rattle.live_table.specs.Counts.{countsTo}
 
 -- the ends of link j stand at 2j and 2j + 1, its level at j, the number of links at unit v at v

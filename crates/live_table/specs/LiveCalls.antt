@@ -4,10 +4,10 @@ use mathlib.Core.List.{List, [], _∷_, _++_}
 use Prim.Native.Nat.{ℕ}
 use lib.Dec.{eqb, leb, ltb}
 use lib.IntN.{ℤ}
-use Rattle.levels.specs.Level.{inRange}
+use Rattle.table_levels.specs.Level.{inRange}
 use Rattle.table.specs.Refusals.{firstOf}
 use Rattle.table.specs.Table.{maxLinks, badUnitCount, levelOutside, endMissing, equalEnds, repeatedLink, sameEnds, joinedIn, storedRefusal}
-use Rattle.machine.specs.Load.{Input, linksIn}
+use Rattle.spec_machine.specs.Load.{Input, linksIn}
 use Rattle.live_table.specs.Counts.{miscounted}
 use Rattle.live_table.specs.Live.{Live, held, liveOf, unopened, added, withdrawn}
 

@@ -8,14 +8,14 @@ use lib.Dec.{eqb, leb, ltb}
 use lib.ListN.{length, getD}
 use lib.IntN.{ℤ}
 use borrow.Author.Tests.{ltb-true, lt-ltb}
-use Rattle.lists.specs.Tests.{or-exact, not-exact}
-use Rattle.levels.specs.Level.{inRange}
-use Rattle.levels.specs.LevelLaws.{InRange, range-exact}
+use Rattle.base_lists.specs.Tests.{or-exact, not-exact}
+use Rattle.table_levels.specs.Level.{inRange}
+use Rattle.table_levels.specs.LevelLaws.{InRange, range-exact}
 use Rattle.table.specs.RefusalLaws.{Reason}
 use Rattle.table.specs.Table.{maxUnits, maxLinks, linkCount, endA, endB, badUnitCount, levelOutside, endMissing, equalEnds, repeatedLink, sameEnds, joinedIn}
 use Rattle.table.specs.TableCauses.{SameEnds, LevelOutside, unitCount-exact, levelOutside-exact, endMissing-exact, equalEnds-exact, repeated-exact}
-use Rattle.rules.specs.BoundLaws.{le-exact, eq-exact}
-use Rattle.machine.specs.Load.{Input, linksIn}
+use Rattle.spec_rules.specs.BoundLaws.{le-exact, eq-exact}
+use Rattle.spec_machine.specs.Load.{Input, linksIn}
 use Rattle.live_table.specs.Counts.{miscounted}
 use Rattle.live_table.specs.CountLaws.{Miscounted, miscounted-exact}
 use Rattle.live_table.specs.Live.{Live, held}

@@ -8,15 +8,15 @@ use native.Mathlib.Omega.{arith}
 use lib.Dec.{eqb, leb}
 use lib.ListN.{length, getD}
 use borrow.Author.Tests.{eqb-true, eq-eqb, ne-eqb, ltb-true, not-false}
-use Rattle.lists.specs.Tests.{either}
-use Rattle.levels.specs.Level.{HIGHEST}
+use Rattle.base_lists.specs.Tests.{either}
+use Rattle.table_levels.specs.Level.{HIGHEST}
 use Rattle.table.specs.Passes.{table-levelled}
 use Rattle.table.specs.Refusals.{firstOf}
 use Rattle.table.specs.RefusalLaws.{Reason, FirstCause, SomeCause, Numbered, tests, first-cause, some-cause, passed-test}
 use Rattle.table.specs.Table.{maxUnits, endA, endB, sameEnds, joinedIn}
 use Rattle.table.specs.TableCauses.{sameEnds-exact, stored-first-cause, stored-some-cause}
-use Rattle.machine.specs.Load.{Input, linksIn}
-use Rattle.machine.specs.Calls.{loadAnswer, storedLoadAnswer}
+use Rattle.spec_machine.specs.Load.{Input, linksIn}
+use Rattle.spec_machine.specs.Calls.{loadAnswer, storedLoadAnswer}
 use Rattle.live_table.specs.Counts.{linksAt}
 use Rattle.live_table.specs.CountLaws.{counts-at}
 use Rattle.live_table.specs.Live.{Live, held, liveOf, added, withdrawn, placeOf}

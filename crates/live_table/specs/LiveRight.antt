@@ -7,13 +7,13 @@ use Prim.Native.Nat.{ℕ, suc, _<_}
 use lib.Dec.{eqb}
 use lib.ListN.{getD}
 use lib.IntN.{ℤ}
-use Rattle.levels.specs.Level.{HIGHEST}
+use Rattle.table_levels.specs.Level.{HIGHEST}
 use Rattle.table.specs.RefusalLaws.{Reason, FirstCause, SomeCause}
 use Rattle.table.specs.Table.{maxUnits, endA, endB}
 use Rattle.table.specs.TableCauses.{SameEnds, storedReasons}
-use Rattle.machine.specs.Load.{Input, linksIn}
-use Rattle.machine.specs.State.{State}
-use Rattle.machine.specs.Calls.{loadAnswer, storedLoadAnswer}
+use Rattle.spec_machine.specs.Load.{Input, linksIn}
+use Rattle.spec_machine.specs.State.{State}
+use Rattle.spec_machine.specs.Calls.{loadAnswer, storedLoadAnswer}
 use Rattle.live_table.specs.Counts.{linksAt}
 use Rattle.live_table.specs.Live.{Live, held, liveOf, added, withdrawn, placeOf}
 use Rattle.live_table.specs.LiveCalls.{Answer, openRefusal, openAnswer, addAnswer, withdrawAnswer, linkRefusal, pairRefusal}

@@ -9,8 +9,8 @@ use native.Mathlib.Omega.{arith}
 use lib.Dec.{ltb}
 use lib.ListN.{length, getD, drop, length-drop}
 use borrow.Author.Tests.{lt-ltb, le-ltb, ltb-true}
-use Rattle.lists.specs.Rests.{rest-two}
-use Rattle.lists.specs.Tests.{or-left, or-right}
+use Rattle.base_lists.specs.Rests.{rest-two}
+use Rattle.base_lists.specs.Tests.{or-left, or-right}
 use Rattle.table.specs.Table.{linkCount, endA, endB, sameEnds, joinedIn}
 use Rattle.table.specs.TableCauses.{SameEnds, sameEnds-exact}
 use Rattle.table.specs.TableLaws.{endA-later, endB-later}

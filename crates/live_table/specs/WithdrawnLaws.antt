@@ -7,14 +7,14 @@ use native.Mathlib.Decide.{decLt}
 use native.Mathlib.Omega.{arith}
 use lib.ListN.{length, getD}
 use lib.IntN.{ℤ}
-use Rattle.lists.specs.All.{every-at}
-use Rattle.levels.specs.Level.{HIGHEST, inRange}
-use Rattle.levels.specs.LevelLaws.{range-exact}
+use Rattle.base_lists.specs.All.{every-at}
+use Rattle.table_levels.specs.Level.{HIGHEST, inRange}
+use Rattle.table_levels.specs.LevelLaws.{range-exact}
 use Rattle.table.specs.Passes.{Passes, passes, table-alone, table-levelled, table-range}
 use Rattle.table.specs.RefusalLaws.{SomeCause}
 use Rattle.table.specs.Table.{linkCount, storedRefusal}
 use Rattle.table.specs.TableCauses.{storedReasons}
-use Rattle.machine.specs.Load.{Input, linksIn}
+use Rattle.spec_machine.specs.Load.{Input, linksIn}
 use Rattle.live_table.specs.Live.{without, lessLink}
 use Rattle.live_table.specs.LiveCalls.{openRefusal}
 use Rattle.live_table.specs.PassedLaws.{passes-none}

@@ -18,8 +18,12 @@ fn none() -> [u16; 256]
 fn raise(counts: &mut [u16], v: u16, x: u16)
     ensures { λ _. ⌜ now (counts .exit) ≡ raisedAt (now (counts .entry)) v x ⌝ }
 {
-    let old = slices::word(counts, v as usize);
-    slices::put(counts, v as usize, values::word_of(old as u32 + x as u32));
+    let old = base_slices::word(counts, v as usize);
+    base_slices::put(
+        counts,
+        v as usize,
+        table_values::word_of(old as u32 + x as u32),
+    );
 }
 
 // A link counted at its two ends, once where they are equal.
@@ -27,7 +31,7 @@ fn count_in(counts: &mut [u16], a: u16, b: u16)
     ensures { λ _. ⌜ now (counts .exit) ≡ countedIn (now (counts .entry)) a b ⌝ }
 {
     raise(counts, a, 1);
-    raise(counts, b, values::choose(a == b, 0, 1));
+    raise(counts, b, table_values::choose(a == b, 0, 1));
 }
 
 // The number of links at each unit, of the first `links` links.
@@ -40,8 +44,8 @@ pub fn counts_of(links: u16, words: &[u16]) -> [u16; 256]
         let i = 2 * (j as usize);
         count_in(
             &mut counts,
-            slices::word(words, i),
-            slices::word(words, i + 1),
+            base_slices::word(words, i),
+            base_slices::word(words, i + 1),
         );
         j += 1;
     }
@@ -56,7 +60,10 @@ pub fn miscounted<'a>(links: u16, words: &'a [u16], counts: &'a [u16]) -> bool
     let mut wrong = false;
     let mut v: usize = 0;
     while v < 256 {
-        wrong = values::either(wrong, slices::word(counts, v) != slices::word(&right, v));
+        wrong = table_values::either(
+            wrong,
+            base_slices::word(counts, v) != base_slices::word(&right, v),
+        );
         v += 1;
     }
     wrong
@@ -66,7 +73,10 @@ pub fn miscounted<'a>(links: u16, words: &'a [u16], counts: &'a [u16]) -> bool
 fn same_ends(a: u16, b: u16, c: u16, d: u16) -> bool
     ensures { λ r. ⌜ r ≡ sameEnds a b c d ⌝ }
 {
-    values::either(values::both(a == c, b == d), values::both(a == d, b == c))
+    table_values::either(
+        table_values::both(a == c, b == d),
+        table_values::both(a == d, b == c),
+    )
 }
 
 // The position of the first link that joins `a` and `b`, whichever way round; the number of links where none does.

@@ -6,7 +6,7 @@ use lib.Dec.{eqb, ltb}
 use lib.ListN.{length}
 use Rattle.table.specs.Refusals.{firstOf}
 use Rattle.table.specs.Table.{pairTests}
-use Rattle.min_label.specs.MinLabel.{minLabel}
+use Rattle.theory_min_label.specs.MinLabel.{minLabel}
 use Rattle.one_way.specs.declared.Numbering.{Numbering}
 use Rattle.one_way.specs.declared.Numbering.the-variants.{Passes, Refused}
 

@@ -9,14 +9,14 @@ use native.Mathlib.Omega.{arith}
 use lib.Dec.{eqb, ltb, leb}
 use lib.ListN.{length}
 use borrow.Author.Tests.{ltb-true, lt-ltb, le-ltb, ltb-false, leb-false, eqb-false, ne-eqb}
-use Rattle.lists.specs.Tests.{or-false-left, or-false-right}
+use Rattle.base_lists.specs.Tests.{or-false-left, or-false-right}
 use Rattle.table.specs.Refusals.{firstOf}
 use Rattle.table.specs.RefusalLaws.{Reason, FirstCause, SomeCause, tests, first-cause, some-cause, first-some, first-none, passed-test}
 use Rattle.table.specs.Table.{maxUnits, badUnitCount, oddWords, tooManyLinks, endMissing, equalEnds, repeatedPair, pairTests, pairRefusal}
 use Rattle.table.specs.TableCauses.{pairReasons}
-use Rattle.min_label.specs.MinLabel.{minLabel}
-use Rattle.min_label.specs.Groups.{Link}
-use Rattle.min_label.specs.Hands.{Ends, Site}
+use Rattle.theory_min_label.specs.MinLabel.{minLabel}
+use Rattle.theory_min_label.specs.Groups.{Link}
+use Rattle.theory_min_label.specs.Hands.{Ends, Site}
 use Rattle.one_way.specs.Numbering.{strongRefusal, strongReply, strongNumbers, numberOf, valuesOf}
 use Rattle.one_way.specs.declared.Numbering.{Numbering}
 use Rattle.one_way.specs.declared.Numbering.the-variants.{Passes, Refused}

@@ -3,10 +3,10 @@ use mathlib.Core.Path.{_≡_, sym}
 use mathlib.Core.List.{List}
 use Prim.Native.Nat.{ℕ}
 use lib.ListN.{length}
-use Rattle.min_label.specs.MinLabel.{minLabel}
-use Rattle.min_label.specs.Groups.{Strong}
-use Rattle.min_label.specs.StrongProof.{strong}
-use Rattle.min_label.specs.HandLaws.{ends-within}
+use Rattle.theory_min_label.specs.MinLabel.{minLabel}
+use Rattle.theory_min_label.specs.Groups.{Strong}
+use Rattle.theory_min_label.specs.StrongProof.{strong}
+use Rattle.theory_min_label.specs.HandLaws.{ends-within}
 use Rattle.one_way.specs.Numbering.{strongRefusal, strongReply, strongNumbers}
 use Rattle.one_way.specs.NumberingLaws.{accepted-site, strong-accepted}
 use Rattle.one_way.specs.declared.Numbering.the-variants.{Passes}

@@ -1,13 +1,13 @@
 // Least labels handed on along the links that are left, until no label falls.
 use crate::order;
-use pass_tables::both;
-use pass_tables::choose;
-use pass_tables::either;
+use one_way_tables::both;
+use one_way_tables::choose;
+use one_way_tables::either;
 ghost use mathlib.Core.Path.{_≡_};
 ghost use Prim.Native.Nat.{_+_, _≤_, _<_};
 ghost use lib.ListN.{length, getD};
-ghost use Rattle.min_label.specs.MinLabelLaws.{Hears};
-ghost use Rattle.min_label.specs.Hands.{Live, lowers, handed, swept, falls, Spread, Settled, Room};
+ghost use Rattle.theory_min_label.specs.MinLabelLaws.{Hears};
+ghost use Rattle.theory_min_label.specs.Hands.{Live, lowers, handed, swept, falls, Spread, Settled, Room};
 
 // The link from `a` to `b` lowers a label.
 fn lowers(forward: bool, a: u16, b: u16, key: &[u32], x: &[u16]) -> bool
@@ -32,8 +32,8 @@ fn hand(forward: bool, links: &[u16], i: usize, key: &[u32], x: &mut [u16]) -> b
     if !lowers(forward, a, b, key, x) {
         return false;
     }
-    let label = slices::word(x, choose(forward, a, b) as usize);
-    slices::put(x, choose(forward, b, a) as usize, label);
+    let label = base_slices::word(x, choose(forward, a, b) as usize);
+    base_slices::put(x, choose(forward, b, a) as usize, label);
     true
 }
 
@@ -68,7 +68,7 @@ fn joined(queue: &mut [u16], end: u16, fell: bool, unit: u16) -> u16
     requires { ⌜ end ≤ 256 ⌝ }
     ensures { λ r. ⌜ r ≤ 256 ⌝ }
 {
-    slices::put(queue, end as usize, unit);
+    base_slices::put(queue, end as usize, unit);
     if both(fell, end < 256) { end + 1 } else { end }
 }
 
@@ -106,7 +106,7 @@ fn starts(unit: u16, key: &[u32], x: &[u16]) -> u16
     ensures { λ r. ⌜ r ≤ 1 ⌝ }
 {
     let at = unit as usize;
-    if slices::word(x, at) != unit {
+    if base_slices::word(x, at) != unit {
         return 0;
     }
     if key.len() <= at {
@@ -132,17 +132,17 @@ fn flood(
     requires { ⌜ Room (now links) (now key) (now x) ⌝ }
     ensures { λ _. ⌜ Spread (Hears forward (Live (now (links .entry)) (now (key .entry)))) (now (x .entry)) (now (x .exit)) ⌝ }
 {
-    slices::put(queue, 0, unit);
+    base_slices::put(queue, 0, unit);
     let mut head: u16 = 0;
     let mut end = starts(unit, key, x);
     while head < end {
-        let next = slices::word(queue, head as usize) as usize;
+        let next = base_slices::word(queue, head as usize) as usize;
         end = relax(
             forward,
             links,
             order,
-            slices::word(order, next),
-            slices::word(order, next + 1),
+            base_slices::word(order, next),
+            base_slices::word(order, next + 1),
             key,
             x,
             queue,

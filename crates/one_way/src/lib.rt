@@ -4,7 +4,7 @@ ghost use mathlib.Core.Bool.{cond};
 ghost use mathlib.Core.List.{[], _∷_};
 ghost use lib.Dec.{eqb};
 ghost use lib.ListN.{length};
-ghost use Rattle.min_label.specs.MinLabel.{minLabel};
+ghost use Rattle.theory_min_label.specs.MinLabel.{minLabel};
 ghost use Rattle.one_way.specs.Numbering.{strongRefusal, strongReply, strongNumbers, numberOf, valuesOf};
 
 mod labels;

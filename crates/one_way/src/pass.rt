@@ -1,22 +1,22 @@
 // One pass: labels forward and backward, marks, and the keys that tell which links remain; and passes until every unit has its number.
 use crate::labels;
 use crate::order;
-use pass_tables::clear;
-use pass_tables::key_of;
-use pass_tables::mark;
-use pass_tables::own;
-use pass_tables::sources;
-use pass_tables::unfinished;
+use one_way_tables::clear;
+use one_way_tables::key_of;
+use one_way_tables::mark;
+use one_way_tables::own;
+use one_way_tables::sources;
+use one_way_tables::unfinished;
 ghost use mathlib.Core.Path.{_≡_};
 ghost use mathlib.Core.Bool.{true, false};
 ghost use Prim.Native.Nat.{ℕ, _≤_};
 ghost use lib.ListN.{length};
-ghost use Rattle.lists.specs.Tables.{over};
-ghost use Rattle.min_label.specs.MinLabel.{at, source, passes, minLabel};
-ghost use Rattle.min_label.specs.Spread.{Least};
-ghost use Rattle.min_label.specs.MinLabelLaws.{Hears};
-ghost use Rattle.min_label.specs.Hands.{Live, Site, keyOf};
-ghost use Rattle.min_label.specs.Keys.{Passed};
+ghost use Rattle.base_lists.specs.Tables.{over};
+ghost use Rattle.theory_min_label.specs.MinLabel.{at, source, passes, minLabel};
+ghost use Rattle.theory_min_label.specs.Spread.{Least};
+ghost use Rattle.theory_min_label.specs.MinLabelLaws.{Hears};
+ghost use Rattle.theory_min_label.specs.Hands.{Live, Site, keyOf};
+ghost use Rattle.theory_min_label.specs.Keys.{Passed};
 
 // Step 1: forward least labels.
 fn forward(units: u16, links: &[u16], order: &[u16], key: &[u32]) -> [u16; 256]
@@ -46,7 +46,7 @@ fn rekey<'a>(units: u16, f: &'a [u16], b: &'a [u16], key: &mut [u32])
     let mut v: u16 = 0;
     while v < units {
         let at = v as usize;
-        key[at] = key_of(slices::word(f, at), slices::word(b, at), v);
+        key[at] = key_of(base_slices::word(f, at), base_slices::word(b, at), v);
         v += 1;
     }
 }

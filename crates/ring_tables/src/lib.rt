@@ -3,29 +3,29 @@ ghost use mathlib.Core.Path.{_≡_};
 ghost use Prim.Native.Nat.{ℕ, _<_};
 ghost use lib.ListN.{getD};
 ghost use Rattle.table.specs.Table.{endA, endB};
-ghost use Rattle.ring.specs.Present.{sure};
-ghost use Rattle.ring.specs.Steps.{seen, onOrder, laid, onward, climb};
+ghost use Rattle.theory_ears.specs.Present.{sure};
+ghost use Rattle.theory_ears.specs.Steps.{seen, onOrder, laid, onward, climb};
 use table::ABSENT;
-use values::tables;
+use table_values::tables;
 
 // Link `j` counts.
 pub fn counts(marks: &[u8], j: u16) -> bool
     ensures { λ r. ⌜ r ≡ sure (now (marks .entry)) j ⌝ }
 {
-    slices::byte(marks, j as usize) == 0
+    base_slices::byte(marks, j as usize) == 0
 }
 
 // The ends of link `j`.
 pub fn end_a(ends: &[u16], j: u16) -> u16
     ensures { λ r. ⌜ r ≡ endA (now (ends .entry)) j ⌝ }
 {
-    slices::word(ends, 2 * (j as usize))
+    base_slices::word(ends, 2 * (j as usize))
 }
 
 pub fn end_b(ends: &[u16], j: u16) -> u16
     ensures { λ r. ⌜ r ≡ endB (now (ends .entry)) j ⌝ }
 {
-    slices::word(ends, 2 * (j as usize) + 1)
+    base_slices::word(ends, 2 * (j as usize) + 1)
 }
 
 // The tree has `v`.
@@ -50,11 +50,15 @@ pub fn lay(next: &[u16], count: u16, v: u16, i: u16, up: bool, placing: bool, ou
     let mut x = i;
     let mut left = count;
     while 0 < left {
-        let p = values::choose(placing, u, x);
-        let q = values::choose(placing, x, u);
+        let p = table_values::choose(placing, u, x);
+        let q = table_values::choose(placing, x, u);
         tables::store(out, p, q);
         u = tables::at(next, u);
-        x = values::choose(up, values::bounded_sum(x, 1), values::less(x, 1));
+        x = table_values::choose(
+            up,
+            table_values::bounded_sum(x, 1),
+            table_values::less(x, 1),
+        );
         left -= 1;
     }
 }

@@ -33,7 +33,7 @@ fn ended(s: Survey) -> Survey {
 
 // Whether the library calls unit `v` a single point.
 fn single(s: Survey, v: u16) -> bool {
-    let answer = calls::unit(s, v);
+    let answer = value_calls::unit(s, v);
     let reply = answer.reply;
     match reply {
         Reply::Unit {

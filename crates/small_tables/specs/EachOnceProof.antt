@@ -8,7 +8,7 @@ use native.Mathlib.Omega.{arith}
 use lib.Dec.{eqb}
 use lib.ListN.{length}
 use borrow.Author.Tests.{eqb-true, eqb-false, eq-eqb, ne-eqb}
-use Rattle.lists.specs.Tests.{either}
+use Rattle.base_lists.specs.Tests.{either}
 use Rattle.small_tables.specs.Small.{pairsWith, pairsFrom, pairsOf, chosen}
 use Rattle.small_tables.specs.EachOnce.{Listed, tables, EachOnce}
 

@@ -4,8 +4,8 @@ use mathlib.Core.List.{List, [], _∷_, _++_}
 use Prim.Native.Nat.{ℕ, zero, suc, _+_, _/_, _%_, _^_}
 use lib.Dec.{eqb}
 use lib.ListN.{getD}
-use Rattle.lists.specs.Folds.{sum}
-use Rattle.frames.specs.Frame.{wordBytes}
+use Rattle.base_lists.specs.Folds.{sum}
+use Rattle.file_frames.specs.Frame.{wordBytes}
 
 -- the pairs of unit a with the k units from b on
 abbrev pub pairsWith : ℕ → ℕ → ℕ → List (ℕ × ℕ)

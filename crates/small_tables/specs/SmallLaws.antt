@@ -8,9 +8,9 @@ use native.Mathlib.Numerals.{add-one}
 use native.Mathlib.Omega.{arith}
 use lib.Dec.{eqb}
 use lib.ListN.{length, getD, drop, set, replicate, length-append, length-replicate}
-use Rattle.lists.specs.Puts.{put-two}
-use Rattle.lists.specs.Folds.{sum}
-use Rattle.rules.specs.Basics.{bounded}
+use Rattle.base_lists.specs.Puts.{put-two}
+use Rattle.base_lists.specs.Folds.{sum}
+use Rattle.spec_rules.specs.Basics.{bounded}
 use Rattle.small_tables.specs.declared.Drawing.{Drawing}
 use Rattle.small_tables.specs.Small.{pairsWith, pairsFrom, pairsOf, chosen, wordsOf, tableOf}
 

@@ -1,9 +1,9 @@
 // T-13: the table of a number among those of a few units, the mask of its single points, and the line that tells both.
-use frames::line as lines;
+use file_frames::line as lines;
 ghost use mathlib.Core.Path.{_≡_};
 ghost use Prim.Native.Nat.{_+_, _-_, _≤_, _<_, min};
 ghost use lib.ListN.{length};
-ghost use Rattle.frames.specs.Frame.{lineOver};
+ghost use Rattle.file_frames.specs.Frame.{lineOver};
 ghost use Rattle.small_tables.specs.Small.{tableOf, maskOf, smallBody};
 ghost use Rattle.small_tables.specs.SmallLaws.{laid, blank, takes, rowBy, rowsBy};
 
@@ -31,7 +31,7 @@ pub fn table(units: u16, number: u16) -> Small
     ensures words { λ r. ⌜ r .words ≡ laid (tableOf (min units 5) number) ⌝ }
     ensures count { λ r. ⌜ r .count ≡ length (tableOf (min units 5) number) ⌝ }
 {
-    let n = values::least_of(units, MOST);
+    let n = table_values::least_of(units, MOST);
     let mut x = none_of(number);
     let mut a = 0;
     while a < n {
@@ -78,11 +78,11 @@ fn taken(x: Drawing, a: u16, b: u16) -> Drawing
     let count = x.count;
     let rest = x.rest / 2;
     if x.rest % 2 == 1 {
-        slices::put(&mut words, count as usize, a);
-        slices::put(&mut words, (count as usize) + 1, b);
+        base_slices::put(&mut words, count as usize, a);
+        base_slices::put(&mut words, (count as usize) + 1, b);
         return Drawing {
             words,
-            count: values::bounded_sum(count, 2),
+            count: table_values::bounded_sum(count, 2),
             rest,
         };
     }
@@ -97,7 +97,7 @@ pub fn mask(singles: [bool; 5]) -> u8
     let mut bit: u16 = 1;
     let mut i: usize = 0;
     while i < 5 {
-        set += values::choose(singles[i], bit, 0);
+        set += table_values::choose(singles[i], bit, 0);
         bit *= 2;
         i += 1;
     }

@@ -1,6 +1,6 @@
 -- The struct and what a call hands back, seen as the machine's state and answer.
-use Rattle.machine.specs.State.{State}
-use Rattle.machine.specs.Calls as Calls
+use Rattle.spec_machine.specs.State.{State}
+use Rattle.spec_machine.specs.Calls as Calls
 use Rattle.survey.specs.declared.whole.Survey.{Survey}
 use Rattle.survey.specs.declared.answer.Answer.{Answer}
 

@@ -1,8 +1,8 @@
 // What a call hands back: the state, and beside it its reply.
 use super::whole::Survey;
-use state::Reply;
+use spec_state::Reply;
 ghost use mathlib.Core.Path.{_≡_};
-ghost use Rattle.machine.specs.Calls.{numberOf};
+ghost use Rattle.spec_machine.specs.Calls.{numberOf};
 
 pub struct Answer {
     pub survey: Survey,

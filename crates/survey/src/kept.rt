@@ -1,14 +1,14 @@
 // Whether a state is well formed (document 01: kept), told of every state where its tables stand.
 use super::whole::Survey;
 ghost use mathlib.Core.Path.{_≡_};
-ghost use Rattle.machine.specs.WellFormed.{wellFormed};
+ghost use Rattle.spec_machine.specs.WellFormed.{wellFormed};
 ghost use Rattle.survey.specs.View.{of};
 
 impl Survey {
     pub fn well_formed(self) -> bool
         ensures { λ r. ⌜ r ≡ wellFormed (of self) ⌝ }
     {
-        well_formed::kept(
+        value_kept::kept(
             self.table.units,
             self.table.links,
             self.clock,

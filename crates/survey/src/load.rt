@@ -1,11 +1,11 @@
 // A state that was never loaded, and loading: of a fresh table, of a stored one, and with a tree drawn by the planner.
 use super::answer::Answer;
 use super::whole::Survey;
-use state::Reply;
+use spec_state::Reply;
 ghost use mathlib.Core.Path.{_≡_};
 ghost use Rattle.table.specs.Table.{storedRefusal, refusalAs};
-ghost use Rattle.machine.specs.Load.{loaded, unloaded, plannedLoadRefusal, plannedLoaded};
-ghost use Rattle.machine.specs.Calls.{answered, loadAnswer, storedLoadAnswer, plannedLoadAnswer};
+ghost use Rattle.spec_machine.specs.Load.{loaded, unloaded, plannedLoadRefusal, plannedLoaded};
+ghost use Rattle.spec_machine.specs.Calls.{answered, loadAnswer, storedLoadAnswer, plannedLoadAnswer};
 ghost use Rattle.survey.specs.View.{of, answerOf};
 
 impl Survey {
@@ -13,7 +13,7 @@ impl Survey {
     pub fn new() -> Survey
         ensures { λ r. ⌜ of r ≡ unloaded ⌝ }
     {
-        Survey::begun(begin::table(0, &[], &[]))
+        Survey::begun(load_begin::table(0, &[], &[]))
     }
 
     // Of a fresh table: 4 to 6, 15, 16, 7 to 9, 22. On a refusal the state comes back as given.
@@ -34,7 +34,7 @@ impl Survey {
     pub fn load_planned(self, units: u16, table: &[u16], levels: &[i16], parents: &[u16]) -> Answer
         ensures { λ r. ⌜ answerOf r ≡ plannedLoadAnswer (record { units = units; words = now (table .entry); levels = now (levels .entry) }) (now (parents .entry)) (of self) ⌝ }
     {
-        let refused = plan::refusal(units, table, levels, parents);
+        let refused = load_plan::refusal(units, table, levels, parents);
         if refused != 0 {
             return Answer {
                 survey: self,
@@ -71,7 +71,7 @@ fn drawn(units: u16, table: &[u16], levels: &[i16], parents: &[u16]) -> Survey
     ensures { λ r. ⌜ of r ≡ plannedLoaded (record { units = units; words = now (table .entry); levels = now (levels .entry) }) (now (parents .entry)) ⌝ }
 {
     let mut survey = loaded(units, table, levels);
-    let plan = begin::plan(parents);
+    let plan = load_begin::plan(parents);
     survey.plan = plan;
     survey
 }
@@ -81,5 +81,5 @@ fn loaded(units: u16, table: &[u16], levels: &[i16]) -> Survey
     requires { ⌜ storedRefusal units (now table) (now levels) ≡ 0 ⌝ }
     ensures { λ r. ⌜ of r ≡ loaded (record { units = units; words = now (table .entry); levels = now (levels .entry) }) ⌝ }
 {
-    Survey::begun(begin::table(units, table, levels))
+    Survey::begun(load_begin::table(units, table, levels))
 }

@@ -2,25 +2,25 @@
 // rest of the state stays where it is.
 use super::answer::Answer;
 use super::whole::Survey;
-use state::Aux;
-use state::Clock;
-use state::Components;
-use state::Global;
-use state::Labels;
-use state::Order;
-use state::Range;
-use state::Ranking;
-use state::Reply;
-use state::Tour;
-use state::Tree;
+use spec_state::Aux;
+use spec_state::Clock;
+use spec_state::Components;
+use spec_state::Global;
+use spec_state::Labels;
+use spec_state::Order;
+use spec_state::Range;
+use spec_state::Ranking;
+use spec_state::Reply;
+use spec_state::Tour;
+use spec_state::Tree;
 ghost use mathlib.Core.Path.{_≡_};
 ghost use mathlib.Core.Bool.{true, not};
 ghost use mathlib.Core.List.{[], _∷_};
 ghost use lib.Dec.{eqb};
 ghost use Rattle.table.specs.Refusals.{firstOf};
-ghost use Rattle.machine.specs.WellFormed.{wellFormed};
-ghost use Rattle.machine.specs.Run.{ran};
-ghost use Rattle.machine.specs.Calls.{roundAnswer, runAnswer};
+ghost use Rattle.spec_machine.specs.WellFormed.{wellFormed};
+ghost use Rattle.spec_machine.specs.Run.{ran};
+ghost use Rattle.spec_machine.specs.Calls.{roundAnswer, runAnswer};
 ghost use Rattle.survey.specs.View.{of, answerOf};
 
 impl Survey {
@@ -48,7 +48,7 @@ impl Survey {
         ensures { λ r. ⌜ answerOf r ≡ runAnswer budget (of self) ⌝ }
     {
         // The tables are lent where they stand: `well_formed` would copy the state.
-        let well = well_formed::kept(
+        let well = value_kept::kept(
             self.table.units,
             self.table.links,
             self.clock,
@@ -108,7 +108,14 @@ impl Survey {
             match stage {
                 1 => {
                     let color = self.components.color;
-                    let r = components::run(units, links, left, &self.table.ends, clock, color);
+                    let r = stage01_components::run(
+                        units,
+                        links,
+                        left,
+                        &self.table.ends,
+                        clock,
+                        color,
+                    );
                     let after = r.clock;
                     let new_color = r.color;
                     let new = Components { color: new_color };
@@ -121,7 +128,7 @@ impl Survey {
                     let parent = self.tree.parent;
                     let dist = self.tree.dist;
                     let given = self.plan.given;
-                    let r = tree::run(
+                    let r = stage02_tree::run(
                         units,
                         links,
                         left,
@@ -151,7 +158,16 @@ impl Survey {
                     let pred = self.tour.pred;
                     let jump = self.ranking.jump;
                     let sum = self.ranking.sum;
-                    let r = tour::run(units, left, &self.tree.parent, clock, next, pred, jump, sum);
+                    let r = stage03_tour::run(
+                        units,
+                        left,
+                        &self.tree.parent,
+                        clock,
+                        next,
+                        pred,
+                        jump,
+                        sum,
+                    );
                     let after = r.clock;
                     let new_next = r.next;
                     let new_pred = r.pred;
@@ -174,7 +190,7 @@ impl Survey {
                 4 => {
                     let jump = self.ranking.jump;
                     let sum = self.ranking.sum;
-                    let r = ranking::run(units, left, clock, jump, sum);
+                    let r = stage04_ranking::run(units, left, clock, jump, sum);
                     let after = r.clock;
                     let new_jump = r.jump;
                     let new_sum = r.sum;
@@ -193,7 +209,7 @@ impl Survey {
                     let pre = self.order.pre;
                     let jump = self.ranking.jump;
                     let sum = self.ranking.sum;
-                    let r = marks::run(
+                    let r = stage05_marks::run(
                         units,
                         left,
                         &self.components.color,
@@ -231,7 +247,7 @@ impl Survey {
                     let pre = self.order.pre;
                     let jump = self.ranking.jump;
                     let sum = self.ranking.sum;
-                    let r = places::run(
+                    let r = stage06_places::run(
                         units,
                         left,
                         &self.components.color,
@@ -267,7 +283,7 @@ impl Survey {
                     let big = self.range.big;
                     let least = self.global.low;
                     let greatest = self.global.high;
-                    let r = range::run(
+                    let r = stage07_range::run(
                         units,
                         links,
                         left,
@@ -310,7 +326,7 @@ impl Survey {
                     let parents = self.aux.parents;
                     let across = self.aux.links;
                     let color = self.aux.color;
-                    let r = joins::run(
+                    let r = stage08_joins::run(
                         units,
                         links,
                         left,
@@ -341,7 +357,7 @@ impl Survey {
                     let parents = self.aux.parents;
                     let across = self.aux.links;
                     let color = self.aux.color;
-                    let r = classes::run(
+                    let r = stage09_classes::run(
                         units,
                         links,
                         left,
@@ -367,7 +383,7 @@ impl Survey {
                 10 => {
                     let class = self.labels.class;
                     let label = self.labels.label;
-                    let r = labels::run(
+                    let r = stage10_labels::run(
                         units,
                         links,
                         left,

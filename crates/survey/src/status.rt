@@ -1,9 +1,9 @@
 // Status: 10.
 use super::answer::Answer;
 use super::whole::Survey;
-use state::Reply;
+use spec_state::Reply;
 ghost use mathlib.Core.Path.{_≡_};
-ghost use Rattle.machine.specs.Calls.{statusAnswer};
+ghost use Rattle.spec_machine.specs.Calls.{statusAnswer};
 ghost use Rattle.survey.specs.View.{of, answerOf};
 
 impl Survey {
@@ -21,7 +21,7 @@ impl Survey {
             survey: self,
             reply: Reply::Status {
                 stage: c.stage,
-                countdown: clock::countdown(self.table.units, c.stage, c.made),
+                countdown: stage_clock::countdown(self.table.units, c.stage, c.made),
                 rounds: c.rounds,
                 requests: c.requests,
             },

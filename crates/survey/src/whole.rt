@@ -1,18 +1,18 @@
 // The state of a survey by value: document 01's struct, its limits, and its constructor.
-use state::Aux;
-use state::Clock;
-use state::Components;
-use state::Global;
-use state::Labels;
-use state::Order;
-use state::Plan;
-use state::Range;
-use state::Ranking;
-use state::Table;
-use state::Tour;
-use state::Tree;
+use spec_state::Aux;
+use spec_state::Clock;
+use spec_state::Components;
+use spec_state::Global;
+use spec_state::Labels;
+use spec_state::Order;
+use spec_state::Plan;
+use spec_state::Range;
+use spec_state::Ranking;
+use spec_state::Table;
+use spec_state::Tour;
+use spec_state::Tree;
 ghost use mathlib.Core.Path.{_≡_};
-ghost use Rattle.machine.specs.Load.{begun};
+ghost use Rattle.spec_machine.specs.Load.{begun};
 ghost use Rattle.survey.specs.View.{of};
 
 pub struct Survey {
@@ -40,17 +40,17 @@ impl Survey {
     pub fn begun(table: Table) -> Survey
         ensures { λ r. ⌜ of r ≡ begun table ⌝ }
     {
-        let clock = begin::clock();
-        let components = begin::components();
-        let plan = begin::unplanned();
-        let tree = begin::tree();
-        let tour = begin::tour();
-        let ranking = begin::ranking();
-        let order = begin::order();
-        let range = begin::range();
-        let global = begin::global();
-        let aux = begin::aux();
-        let labels = begin::labels();
+        let clock = load_begin::clock();
+        let components = load_begin::components();
+        let plan = load_begin::unplanned();
+        let tree = load_begin::tree();
+        let tour = load_begin::tour();
+        let ranking = load_begin::ranking();
+        let order = load_begin::order();
+        let range = load_begin::range();
+        let global = load_begin::global();
+        let aux = load_begin::aux();
+        let labels = load_begin::labels();
         Survey {
             table,
             clock,

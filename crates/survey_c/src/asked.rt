@@ -1,14 +1,14 @@
 // What the change requests ask, for callers in C: rings, doubtful links, the lifting order, one-way links.
-use words::STATE_WORDS;
+use words_layout::STATE_WORDS;
 ghost use mathlib.Core.Path.{_≡_};
 ghost use lib.ListN.{length};
-ghost use Rattle.words.specs.Layout.{stateOf};
-ghost use Rattle.lent.specs.FileFace.{wordSaid};
-ghost use Rattle.min_label.specs.MinLabel.{minLabel};
+ghost use Rattle.words_layout.specs.Layout.{stateOf};
+ghost use Rattle.words_calls.specs.FileFace.{wordSaid};
+ghost use Rattle.theory_min_label.specs.MinLabel.{minLabel};
 ghost use Rattle.one_way.specs.Numbering.{strongRefusal, strongNumbers};
-ghost use Rattle.lifting.specs.Lifting.{numberOf, liftingAnswer, lifted};
-ghost use Rattle.asked_on_words.specs.RingSaid.{RingSaid};
-ghost use Rattle.asked_on_words.specs.DoubtSaid.{DoubtSaid};
+ghost use Rattle.value_lifting.specs.Lifting.{numberOf, liftingAnswer, lifted};
+ghost use Rattle.words_requests.specs.RingSaid.{RingSaid};
+ghost use Rattle.words_requests.specs.DoubtSaid.{DoubtSaid};
 
 // A ring through two links (T-04): 10, 12, 13, 14. Its units go to the front of `out`, their number to `count`, 0 where there is none.
 #[no_mangle]
@@ -21,7 +21,7 @@ pub extern "C" fn link_survey_ring(
 ) -> u32
     ensures { λ r. ⌜ RingSaid first second (stateOf (now (state .entry))) (now (out .entry)) (now (count .entry)) (now (out .exit)) (now (count .exit)) r ⌝ }
 {
-    asked_on_words::ring(state, first, second, out, count)
+    words_requests::ring(state, first, second, out, count)
 }
 
 // The lifting order at the front of `out` (T-07): 10, 12, 14, 19, 20.
@@ -34,7 +34,7 @@ pub extern "C" fn link_survey_lifting_order<'a>(
     ensures number { λ r. ⌜ r ≡ numberOf (liftingAnswer (now (pairs .entry)) (length (now (out .entry))) (stateOf (now (state .entry))) .reply) ⌝ }
     ensures order { λ _. ⌜ now (out .exit) ≡ lifted (now (pairs .entry)) (stateOf (now (state .entry))) (now (out .entry)) ⌝ }
 {
-    asked_on_words::lift(state, pairs, out)
+    words_requests::lift(state, pairs, out)
 }
 
 // Doubtful links (T-08): 10, 12, 13, 15. The verdict, 2 always, 1 perhaps, 0 never, goes to `verdict`.
@@ -48,7 +48,7 @@ pub extern "C" fn link_survey_doubtful<'a>(
 ) -> u32
     ensures { λ r. ⌜ DoubtSaid first second (now (marks .entry)) (stateOf (now (state .entry))) (now (verdict .entry)) (now (verdict .exit)) r ⌝ }
 {
-    asked_on_words::doubt(state, first, second, marks, verdict)
+    words_requests::doubt(state, first, second, marks, verdict)
 }
 
 // No state: one-way links (T-11): 4 to 9 of ordered pairs, 14. The numbers go to the front of `numbers`, the passes to `passes`.
@@ -64,5 +64,5 @@ pub extern "C" fn link_survey_one_way(
     ensures passes { λ _. ⌜ now (passes .exit)
         ≡ wordSaid (strongRefusal units (now (table .entry)) (length (now (numbers .entry)))) (minLabel units (now (table .entry)) (now (numbers .entry)) .1) (now (passes .entry)) ⌝ }
 {
-    asked_on_words::strong(units, table, numbers, passes)
+    words_requests::strong(units, table, numbers, passes)
 }

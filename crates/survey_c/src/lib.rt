@@ -1,22 +1,22 @@
-// The survey for callers in C: the state is an array of words that the caller lends (words/specs/Layout.antt), a reply an array of its fixed size. A
+// The survey for callers in C: the state is an array of words that the caller lends (words_layout/specs/Layout.antt), a reply an array of its fixed size. A
 // number that comes back is document 01's number of the refusal, 0 where the call was not refused; on a refusal nothing lent is altered.
 mod asked;
 mod live_tables;
 
-use words::STATE_WORDS;
+use words_layout::STATE_WORDS;
 ghost use mathlib.Core.Path.{_≡_};
 ghost use Prim.Native.Nat.{ℕ};
 ghost use lib.ListN.{length};
-ghost use Rattle.machine.specs.Calls.{numberOf, loadAnswer, storedLoadAnswer, plannedLoadAnswer};
-ghost use Rattle.words.specs.Layout.{stateOf};
-ghost use Rattle.files.specs.File.{linesOf, unitsIn, linkFrames, readRefusal, readWords, readLevels, writeRefusal, writtenFile};
-ghost use Rattle.lent.specs.FileFace.{wordSaid};
-ghost use Rattle.claim.specs.Play;
-ghost use Rattle.claim_on_words.specs.Exchange.{numberTo, stateAfter, lentAfter, madeAfter};
-ghost use Rattle.printed.specs.Printed.{printed, laidOver, laidCount};
-ghost use Rattle.status_lines.specs.Lines.{foremanAnswer, foremanShown, serviceAnswer, serviceShown};
-ghost use Rattle.office.specs.Office.{tickRefusal, tick, seatRefusal, loadSeat};
-ghost use Rattle.seats.specs.Lent.{officeOf};
+ghost use Rattle.spec_machine.specs.Calls.{numberOf, loadAnswer, storedLoadAnswer, plannedLoadAnswer};
+ghost use Rattle.words_layout.specs.Layout.{stateOf};
+ghost use Rattle.file_spec.specs.File.{linesOf, unitsIn, linkFrames, readRefusal, readWords, readLevels, writeRefusal, writtenFile};
+ghost use Rattle.words_calls.specs.FileFace.{wordSaid};
+ghost use Rattle.spec_claim.specs.Play;
+ghost use Rattle.words_claim.specs.Exchange.{numberTo, stateAfter, lentAfter, madeAfter};
+ghost use Rattle.report_program.specs.Printed.{printed, laidOver, laidCount};
+ghost use Rattle.handset_lines.specs.Lines.{foremanAnswer, foremanShown, serviceAnswer, serviceShown};
+ghost use Rattle.spec_channel.specs.Office.{tickRefusal, tick, seatRefusal, loadSeat};
+ghost use Rattle.words_seats.specs.Lent.{officeOf};
 
 // No state: what the program prints for the bytes of a file, at the front of `out`, and the number of bytes; nothing and 0 where `out` is too short.
 #[no_mangle]
@@ -24,7 +24,7 @@ pub extern "C" fn link_survey_report(input: &[u8], out: &mut [u8]) -> u32
     ensures count { λ r. ⌜ r ≡ laidCount (printed (now (input .entry))) (length (now (out .entry))) ⌝ }
     ensures bytes { λ _. ⌜ now (out .exit) ≡ laidOver (printed (now (input .entry))) (now (out .entry)) ⌝ }
 {
-    reporter_on_words::report(input, out)
+    words_report::report(input, out)
 }
 
 // Load, of a fresh table: 4 to 6, 15, 16, 7 to 9, 22.
@@ -38,7 +38,7 @@ pub extern "C" fn link_survey_load(
     ensures number { λ r. ⌜ r ≡ numberOf (loadAnswer (record { units = units; words = now (table .entry); levels = now (levels .entry) }) (stateOf (now (state .entry))) .reply) ⌝ }
     ensures words { λ _. ⌜ stateOf (now (state .exit)) ≡ loadAnswer (record { units = units; words = now (table .entry); levels = now (levels .entry) }) (stateOf (now (state .entry))) .state ⌝ }
 {
-    lent::load(state, units, table, levels)
+    words_calls::load(state, units, table, levels)
 }
 
 // Load of a stored table: 4 to 6, 15, 16, 7 to 9.
@@ -52,7 +52,7 @@ pub extern "C" fn link_survey_load_stored(
     ensures number { λ r. ⌜ r ≡ numberOf (storedLoadAnswer (record { units = units; words = now (table .entry); levels = now (levels .entry) }) (stateOf (now (state .entry))) .reply) ⌝ }
     ensures words { λ _. ⌜ stateOf (now (state .exit)) ≡ storedLoadAnswer (record { units = units; words = now (table .entry); levels = now (levels .entry) }) (stateOf (now (state .entry))) .state ⌝ }
 {
-    lent::load_stored(state, units, table, levels)
+    words_calls::load_stored(state, units, table, levels)
 }
 
 // Load with a table of parents drawn by the planner: 4 to 6, 15, 16, 7 to 9, 17, 18, 22.
@@ -67,7 +67,7 @@ pub extern "C" fn link_survey_load_planned(
     ensures number { λ r. ⌜ r ≡ numberOf (plannedLoadAnswer (record { units = units; words = now (table .entry); levels = now (levels .entry) }) (now (parents .entry)) (stateOf (now (state .entry))) .reply) ⌝ }
     ensures words { λ _. ⌜ stateOf (now (state .exit)) ≡ plannedLoadAnswer (record { units = units; words = now (table .entry); levels = now (levels .entry) }) (now (parents .entry)) (stateOf (now (state .entry))) .state ⌝ }
 {
-    lent::load_planned(state, units, table, levels, parents)
+    words_calls::load_planned(state, units, table, levels, parents)
 }
 
 // One round: 10, 11.
@@ -76,7 +76,7 @@ pub extern "C" fn link_survey_round(state: &mut [u16; STATE_WORDS]) -> u32
     ensures number { λ r. ⌜ r ≡ numberTo Play.round (now (state .entry)) ⌝ }
     ensures words { λ _. ⌜ stateOf (now (state .exit)) ≡ stateAfter Play.round (now (state .entry)) ⌝ }
 {
-    lent::round(state)
+    words_calls::round(state)
 }
 
 // At most `budget` rounds: 10, 11. The rounds made go to `made`.
@@ -90,7 +90,7 @@ pub extern "C" fn link_survey_run(
     ensures words { λ _. ⌜ stateOf (now (state .exit)) ≡ stateAfter (Play.run budget) (now (state .entry)) ⌝ }
     ensures made { λ _. ⌜ now (made .exit) ≡ madeAfter budget (now (state .entry)) (now (made .entry)) ⌝ }
 {
-    lent::run(state, budget, made)
+    words_calls::run(state, budget, made)
 }
 
 // Status: 10. The reply is stage, countdown, all rounds, requests.
@@ -99,7 +99,7 @@ pub extern "C" fn link_survey_status(state: &[u16; STATE_WORDS], reply: &mut [u1
     ensures number { λ r. ⌜ r ≡ numberTo Play.status (now (state .entry)) ⌝ }
     ensures said { λ _. ⌜ now (reply .exit) ≡ lentAfter Play.status (now (state .entry)) (now (reply .entry)) ⌝ }
 {
-    lent::status(state, reply)
+    words_calls::status(state, reply)
 }
 
 // A unit: 10, 12, 13. The reply is unit, colour, parent, place, single.
@@ -112,7 +112,7 @@ pub extern "C" fn link_survey_unit(
     ensures number { λ r. ⌜ r ≡ numberTo (Play.unit unit) (now (state .entry)) ⌝ }
     ensures said { λ _. ⌜ now (reply .exit) ≡ lentAfter (Play.unit unit) (now (state .entry)) (now (reply .entry)) ⌝ }
 {
-    lent::unit(state, unit, reply)
+    words_calls::unit(state, unit, reply)
 }
 
 // A link: 10, 12, 13. The reply is position, label, lone.
@@ -125,7 +125,7 @@ pub extern "C" fn link_survey_link(
     ensures number { λ r. ⌜ r ≡ numberTo (Play.link position) (now (state .entry)) ⌝ }
     ensures said { λ _. ⌜ now (reply .exit) ≡ lentAfter (Play.link position) (now (state .entry)) (now (reply .entry)) ⌝ }
 {
-    lent::link(state, position, reply)
+    words_calls::link(state, position, reply)
 }
 
 // The report of a finished survey at the front of `out`: 10, 12, 14.
@@ -134,7 +134,7 @@ pub extern "C" fn link_survey_state_report(state: &[u16; STATE_WORDS], out: &mut
     ensures number { λ r. ⌜ r ≡ numberTo (Play.report (now (out .entry))) (now (state .entry)) ⌝ }
     ensures bytes { λ _. ⌜ now (out .exit) ≡ lentAfter (Play.report (now (out .entry))) (now (state .entry)) (now (out .entry)) ⌝ }
 {
-    lent::report(state, out)
+    words_calls::report(state, out)
 }
 
 // The foreman's line at the front of `out`, at every stage (T-06): 10, 14.
@@ -143,7 +143,7 @@ pub extern "C" fn link_survey_foreman_line(state: &[u16; STATE_WORDS], out: &mut
     ensures number { λ r. ⌜ r ≡ numberOf (foremanAnswer (length (now (out .entry))) (stateOf (now (state .entry))) .reply) ⌝ }
     ensures bytes { λ _. ⌜ now (out .exit) ≡ foremanShown (stateOf (now (state .entry))) (now (out .entry)) ⌝ }
 {
-    handsets_on_words::foreman_line(state, out)
+    words_handsets::foreman_line(state, out)
 }
 
 // The service line, in the same way: 10, 14.
@@ -152,7 +152,7 @@ pub extern "C" fn link_survey_service_line(state: &[u16; STATE_WORDS], out: &mut
     ensures number { λ r. ⌜ r ≡ numberOf (serviceAnswer (length (now (out .entry))) (stateOf (now (state .entry))) .reply) ⌝ }
     ensures bytes { λ _. ⌜ now (out .exit) ≡ serviceShown (stateOf (now (state .entry))) (now (out .entry)) ⌝ }
 {
-    handsets_on_words::service_line(state, out)
+    words_handsets::service_line(state, out)
 }
 
 // No state: the ends of a file to the front of `table` and its levels to the front of `levels`, its unit count and its number of links: 1, 2, 3, 6, 16, 14.
@@ -172,7 +172,7 @@ pub extern "C" fn link_survey_read(
     ensures links { λ _. ⌜ now (links .exit)
         ≡ wordSaid (readRefusal (linesOf (now (input .entry))) (length (now (table .entry))) (length (now (levels .entry)))) (linkFrames (linesOf (now (input .entry)))) (now (links .entry)) ⌝ }
 {
-    lent::read(input, table, levels, units, links)
+    words_calls::read(input, table, levels, units, links)
 }
 
 // No state: the file of a unit count, a table and its levels at the front of `out`: 4 to 6, 15, 16, 7 to 9, 22, 14.
@@ -186,7 +186,7 @@ pub extern "C" fn link_survey_write(
     ensures number { λ r. ⌜ r ≡ writeRefusal units (now (table .entry)) (now (levels .entry)) (length (now (out .entry))) ⌝ }
     ensures bytes { λ _. ⌜ now (out .exit) ≡ writtenFile units (now (table .entry)) (now (levels .entry)) (now (out .entry)) ⌝ }
 {
-    lent::write(units, table, levels, out)
+    words_calls::write(units, table, levels, out)
 }
 
 // A load of a seat (T-12): 23, then 4 to 6, 15, 16, 7 to 9, 22. The other seats and the turn stay.
@@ -202,7 +202,7 @@ pub extern "C" fn link_survey_seat_load(
     ensures seats { λ _. ⌜ ((last : ℕ) → officeOf last (now (seats .exit))
         ≡ loadSeat seat (record { units = units; words = now (table .entry); levels = now (levels .entry) }) (officeOf last (now (seats .entry)))) ⌝ }
 {
-    seats::load(seats, seat, units, table, levels)
+    words_seats::load(seats, seat, units, table, levels)
 }
 
 // A tick (T-12): 10, 11. One round to the seat whose turn it is, whose number goes to `last`.
@@ -211,7 +211,7 @@ pub extern "C" fn link_survey_tick(last: &mut u16, seats: &mut [[u16; STATE_WORD
     ensures number { λ r. ⌜ r ≡ tickRefusal (officeOf (now (last .entry)) (now (seats .entry))) ⌝ }
     ensures office { λ _. ⌜ officeOf (now (last .exit)) (now (seats .exit)) ≡ tick (officeOf (now (last .entry)) (now (seats .entry))) ⌝ }
 {
-    let r = seats::serve(*last, seats);
+    let r = words_seats::serve(*last, seats);
     *last = r.last;
     r.number
 }

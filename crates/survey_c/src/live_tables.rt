@@ -1,8 +1,8 @@
-// Live tables (T-09) for callers in C: an array of words that the caller lends (live_on_words/specs/LiveLayout.antt).
-use live_on_words::LIVE_WORDS;
+// Live tables (T-09) for callers in C: an array of words that the caller lends (words_live/specs/LiveLayout.antt).
+use words_live::LIVE_WORDS;
 ghost use mathlib.Core.Path.{_≡_};
 ghost use Rattle.live_table.specs.LiveCalls.{openAnswer, addAnswer, withdrawAnswer};
-ghost use Rattle.live_on_words.specs.LiveLayout.{liveIn, wordsLeft, liveLeft};
+ghost use Rattle.words_live.specs.LiveLayout.{liveIn, wordsLeft, liveLeft};
 
 // From load's tables: 4, 5, 6, 15, 16, 7, 8, 9.
 #[no_mangle]
@@ -16,7 +16,7 @@ pub extern "C" fn link_survey_live_open(
     ensures words { λ _. ⌜ now (live .exit) ≡ wordsLeft (openAnswer (record { units = units; words = now (table .entry); levels = now (levels .entry) })) (now (live .entry)) ⌝ }
     ensures live { λ _. ⌜ liveIn (now (live .exit)) ≡ liveLeft (openAnswer (record { units = units; words = now (table .entry); levels = now (levels .entry) })) (liveIn (now (live .entry))) ⌝ }
 {
-    live_on_words::opened(live, units, table, levels)
+    words_live::opened(live, units, table, levels)
 }
 
 // A link at the end: 4, 6, 16, 7, 8, 9, 10 of the table; 6, 16, 7, 8, 9 of the link.
@@ -31,7 +31,7 @@ pub extern "C" fn link_survey_live_add(
     ensures words { λ _. ⌜ now (live .exit) ≡ wordsLeft (addAnswer a b level (liveIn (now (live .entry)))) (now (live .entry)) ⌝ }
     ensures live { λ _. ⌜ liveIn (now (live .exit)) ≡ addAnswer a b level (liveIn (now (live .entry))) .live ⌝ }
 {
-    live_on_words::add(live, a, b, level)
+    words_live::add(live, a, b, level)
 }
 
 // The link that joins two units, named in either order: 4, 6, 16, 7, 8, 9, 10 of the table; 7, 8, 21 of the units.
@@ -41,5 +41,5 @@ pub extern "C" fn link_survey_live_withdraw(live: &mut [u16; LIVE_WORDS], a: u16
     ensures words { λ _. ⌜ now (live .exit) ≡ wordsLeft (withdrawAnswer a b (liveIn (now (live .entry)))) (now (live .entry)) ⌝ }
     ensures live { λ _. ⌜ liveIn (now (live .exit)) ≡ withdrawAnswer a b (liveIn (now (live .entry))) .live ⌝ }
 {
-    live_on_words::withdraw(live, a, b)
+    words_live::withdraw(live, a, b)
 }

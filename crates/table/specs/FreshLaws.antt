@@ -11,7 +11,7 @@ use lib.Dec.{leb, eqb}
 use lib.ListN.{length, getD}
 use lib.IntN.{ℤ}
 use borrow.Author.Tests.{leb-true, le-leb, eqb-true, eq-eqb, not-true}
-use Rattle.lists.specs.Tests.{or-cases, or-left, or-right, and-left, and-right, and-true, not-both, refuted}
+use Rattle.base_lists.specs.Tests.{or-cases, or-left, or-right, and-left, and-right, and-true, not-both, refuted}
 use Rattle.table.specs.Refusals.{firstOf}
 use Rattle.table.specs.RefusalLaws.{Reason, FirstCause, SomeCause, first-cause, some-cause, tests, first-some, first-none, passed-test}
 use Rattle.table.specs.TableLaws.{endA-later, endB-later}

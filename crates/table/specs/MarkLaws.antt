@@ -12,8 +12,8 @@ use lib.Dec.{eqb, leb}
 use lib.ListN.{length, getD, drop, replicate, length-drop, length-set, length-replicate}
 use lib.Seq.{getD-set-same, getD-set-other}
 use borrow.Author.Tests.{leb-false}
-use Rattle.lists.specs.Tests.{either, not-both, or-false-left, or-false-right, or-swap}
-use Rattle.lists.specs.Rests.{rest-two}
+use Rattle.base_lists.specs.Tests.{either, not-both, or-false-left, or-false-right, or-swap}
+use Rattle.base_lists.specs.Rests.{rest-two}
 use Rattle.table.specs.BitLaws.{bit, set-same, set-other}
 use Rattle.table.specs.Table.{endMissing, sameEnds, samePair, joinedIn, repeatedBy, repeatedLink, repeatedPair, repeatedAs}
 use Rattle.table.specs.TableCauses.{SameEnds, sameEnds-exact, samePair-exact}

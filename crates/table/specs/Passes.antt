@@ -10,8 +10,8 @@ use lib.Dec.{eqb}
 use lib.ListN.{length, getD}
 use lib.IntN.{ℤ}
 use borrow.Author.Tests.{eqb-true, not-false}
-use Rattle.lists.specs.Folds.{every}
-use Rattle.levels.specs.Level.{inRange}
+use Rattle.base_lists.specs.Folds.{every}
+use Rattle.table_levels.specs.Level.{inRange}
 use Rattle.table.specs.Table.{maxUnits, maxLinks, linkCount, endA, endB, levelsDiffer, levelOutside, countTests, levelTests, endTests, countRefusal, levelRefusal, endRefusal, bareRefusal, storedRefusal}
 use Rattle.table.specs.RefusalLaws.{SomeCause, passed-test, first-none}
 use Rattle.table.specs.TableLaws.{table-counts, table-levels, table-ends}

@@ -10,7 +10,7 @@ use lib.Dec.{eqb, leb}
 use lib.ListN.{length, getD, set, drop, replicate, length-drop, length-set, length-replicate}
 use lib.Seq.{getD-set-same, getD-set-other}
 use borrow.Author.Tests.{eq-eqb, ne-eqb, lt-leb, le-leb}
-use Rattle.lists.specs.Rests.{rest-two}
+use Rattle.base_lists.specs.Rests.{rest-two}
 use Rattle.table.specs.Table.{isEnd, unlinkedBelow, unlinkedUnit}
 use Rattle.table.specs.Seen.{endsSeen, someBlank}
 

@@ -6,8 +6,8 @@ use Prim.Native.Nat.{ℕ, zero, suc, _+_, _*_, _/_, _%_}
 use lib.Dec.{leb, ltb, eqb}
 use lib.ListN.{length, getD}
 use lib.IntN.{ℤ}
-use Rattle.lists.specs.Folds.{every}
-use Rattle.levels.specs.Level.{inRange}
+use Rattle.base_lists.specs.Folds.{every}
+use Rattle.table_levels.specs.Level.{inRange}
 use Rattle.table.specs.Refusals.{firstOf}
 
 -- the limits of a site

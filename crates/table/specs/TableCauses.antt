@@ -11,11 +11,11 @@ use lib.Dec.{leb, ltb, eqb}
 use lib.ListN.{length, getD}
 use borrow.Author.Tests.{leb-true, le-leb, ltb-true, lt-ltb, eqb-true, eqb-false, eq-eqb, ne-eqb, not-true}
 use lib.IntN.{ℤ}
-use Rattle.lists.specs.Folds.{every}
-use Rattle.lists.specs.All.{every-at}
-use Rattle.lists.specs.Tests.{either, or-cases, or-left, or-right, and-left, and-right, and-true, not-both, refuted}
-use Rattle.levels.specs.Level.{HIGHEST, inRange}
-use Rattle.levels.specs.LevelLaws.{InRange, range-exact}
+use Rattle.base_lists.specs.Folds.{every}
+use Rattle.base_lists.specs.All.{every-at}
+use Rattle.base_lists.specs.Tests.{either, or-cases, or-left, or-right, and-left, and-right, and-true, not-both, refuted}
+use Rattle.table_levels.specs.Level.{HIGHEST, inRange}
+use Rattle.table_levels.specs.LevelLaws.{InRange, range-exact}
 use Rattle.table.specs.Refusals.{firstOf}
 use Rattle.table.specs.RefusalLaws.{Reason, FirstCause, SomeCause, first-cause, some-cause, tests}
 use Rattle.table.specs.TableLaws.{endA-later, endB-later}

@@ -10,10 +10,10 @@ use lib.Dec.{leb, eqb}
 use lib.IntN.{ℤ}
 use lib.ListN.{length, getD, drop, drop-of-length-le, length-drop}
 use borrow.Author.Tests.{lt-leb, leb-false, lt-ltb, le-ltb, eq-eqb, ne-eqb}
-use Rattle.lists.specs.Rests.{rest-one, rest-two}
-use Rattle.lists.specs.Tests.{or-false-left, or-false-right}
-use Rattle.lists.specs.Folds.{every}
-use Rattle.levels.specs.Level.{inRange}
+use Rattle.base_lists.specs.Rests.{rest-one, rest-two}
+use Rattle.base_lists.specs.Tests.{or-false-left, or-false-right}
+use Rattle.base_lists.specs.Folds.{every}
+use Rattle.table_levels.specs.Level.{inRange}
 use Rattle.table.specs.Table.{maxUnits, endA, endB, badUnitCount, oddWords, tooManyLinks, levelsDiffer, endMissing, equalEnds, repeatedLink, repeatedPair, repeatedAs}
 use Rattle.table.specs.Table.{countTests, levelTests, endTests, countRefusal, levelRefusal, endRefusal, bareRefusal, storedRefusal, endTestsBy, pairRefusal, unlevelledAs}
 use Rattle.table.specs.RefusalLaws.{first-some, first-none}

@@ -95,7 +95,11 @@ fn levelled(table: &[u16], levels: &[i16]) -> u8
     if levels.len() != table.len() / 2 {
         return 15;
     }
-    if levels::all_in_range(levels) { 0 } else { 16 }
+    if table_levels::all_in_range(levels) {
+        0
+    } else {
+        16
+    }
 }
 
 // 7, 8, 9, of at most 256 units.

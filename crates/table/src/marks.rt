@@ -28,15 +28,15 @@ fn place(ordered: bool, a: u16, b: u16) -> usize
 fn is_marked(marks: &[u8], p: usize) -> bool
     ensures { λ r. ⌜ r ≡ marked (now (marks .entry)) p ⌝ }
 {
-    (slices::byte(marks, p / 8) >> ((p % 8) as u8)) & 1 != 0
+    (base_slices::byte(marks, p / 8) >> ((p % 8) as u8)) & 1 != 0
 }
 
 // Marks the pair at `p`.
 fn set_mark(marks: &mut [u8], p: usize)
     ensures { λ _. ⌜ now (marks .exit) ≡ mark (now (marks .entry)) p ⌝ }
 {
-    let old = slices::byte(marks, p / 8);
-    slices::put_byte(marks, p / 8, old | (1u8 << ((p % 8) as u8)));
+    let old = base_slices::byte(marks, p / 8);
+    base_slices::put_byte(marks, p / 8, old | (1u8 << ((p % 8) as u8)));
 }
 
 // Whether some link is marked when its turn comes; leaves at the first.

@@ -8,10 +8,10 @@ pub(crate) fn mark_ends(table: &[u16], marks: &mut [u8])
 {
     let mut i = 0;
     while i + 1 < table.len() {
-        let a = slices::word(table, i) as usize;
-        let b = slices::word(table, i + 1) as usize;
-        slices::put_byte(marks, a, 1);
-        slices::put_byte(marks, b, 1);
+        let a = base_slices::word(table, i) as usize;
+        let b = base_slices::word(table, i + 1) as usize;
+        base_slices::put_byte(marks, a, 1);
+        base_slices::put_byte(marks, b, 1);
         i += 2;
     }
 }
@@ -23,7 +23,7 @@ pub(crate) fn some_blank(units: u16, marks: &[u8]) -> bool
     let mut blank = false;
     let mut v = 0;
     while v < units {
-        blank = super::either(blank, slices::byte(marks, v as usize) == 0);
+        blank = super::either(blank, base_slices::byte(marks, v as usize) == 0);
         v += 1;
     }
     blank

@@ -6,7 +6,7 @@
 use plain::sites::Site;
 use std::path::{Path, PathBuf};
 
-/// A family of vectors: the streams of `crates/FAMILY_check` and what that program prints; or, where SURVEY_REQUESTS names a folder,
+/// A family of vectors: the streams of `crates/check_FAMILY` and what that program prints; or, where SURVEY_REQUESTS names a folder,
 /// the files FAMILY/NAME.in there and, beside each, NAME.out.
 pub struct Vectors {
     pub streams: Vec<(String, Numbers)>,
@@ -29,7 +29,7 @@ pub fn vectors(family: &str) -> Vectors {
             (inputs, expected)
         }
         None => {
-            let folder = Path::new(env!("CARGO_MANIFEST_DIR")).join(format!("../crates/{family}_check"));
+            let folder = Path::new(env!("CARGO_MANIFEST_DIR")).join(format!("../crates/check_{family}"));
             let args = text(&folder.join("args"));
             let names = args.lines().filter(|name| name.ends_with(".in"));
             (names.map(|name| folder.join("data").join(name)).collect(), text(&folder.join("stdout")))

@@ -3,8 +3,8 @@ use mathlib.Core.Path.{_≡_, refl, _∙_}
 use mathlib.Core.Bool.{not}
 use Prim.Native.Nat.{_-_, _≤_}
 use lib.Dec.{eqb}
-use Rattle.lists.specs.Folds.{some}
-use Rattle.lists.specs.Some.{some-more}
+use Rattle.base_lists.specs.Folds.{some}
+use Rattle.base_lists.specs.Some.{some-more}
 use Rattle.live_table.specs.Counts.{countedAt}
 use Rattle.live_table.specs.CountLaws.{wrongAt, counts-at, miscounted-all}
 use borrow.Author.Needs.{needs}

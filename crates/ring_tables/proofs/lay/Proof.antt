@@ -1,8 +1,8 @@
 -- Unit by unit.
 use mathlib.Core.Path.{_≡_, refl, sym, _∙_}
 use lib.ListN.{length}
-use Rattle.ring.specs.Steps.{laid, onward, climb}
-use Rattle.ring.specs.Weaving.{laid-turn, laid-end}
+use Rattle.theory_ears.specs.Steps.{laid, onward, climb}
+use Rattle.theory_ears.specs.Weaving.{laid-turn, laid-end}
 use borrow.Author.Needs.{needs}
 use Rattle.ring_tables.proofs.lay.Statement.{statement}
 use Rattle.ring_tables.proofs.lay.Tie as tie

@@ -1,5 +1,5 @@
 -- One mark, and none past it.
-use Rattle.ring.specs.Present.{one-sure}
+use Rattle.theory_ears.specs.Present.{one-sure}
 use Rattle.ring_tables.proofs.unmarked.Statement.{statement}
 use Rattle.ring_tables.proofs.unmarked.Tie as tie
 

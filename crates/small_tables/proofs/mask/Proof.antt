@@ -5,7 +5,7 @@ use Prim.Native.Nat.{ℕ, suc, _+_, _-_, _^_, _≤_, _<_}
 use native.Mathlib.Numerals.{add-one}
 use native.Mathlib.Omega.{arith}
 use lib.ListN.{getD}
-use Rattle.lists.specs.Folds.{sum}
+use Rattle.base_lists.specs.Folds.{sum}
 use Rattle.small_tables.specs.Small.{maskOf}
 use Rattle.small_tables.specs.SmallLaws.{bit-small, mask-more}
 use borrow.Author.Needs.{needs}

@@ -2,7 +2,7 @@
 use mathlib.Core.Path.{_≡_}
 use mathlib.Core.Bool.{cond}
 use Prim.Native.Nat.{ℕ, _-_, _≤_}
-use Rattle.lists.specs.Folds as folds
+use Rattle.base_lists.specs.Folds as folds
 use Rattle.lifting_order.specs.Standing.{ready, next-more}
 use borrow.Author.Needs.{needs}
 use Rattle.lifting_order.proofs.growth.next_up.Statement.{statement}

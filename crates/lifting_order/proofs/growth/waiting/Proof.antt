@@ -3,7 +3,7 @@ use mathlib.Core.Path.{_≡_}
 use Prim.Native.Nat.{ℕ, _-_, _≤_, _<_}
 use lib.ListN.{length, getD}
 use lib.Dec.{eqb}
-use Rattle.lists.specs.Folds.{count}
+use Rattle.base_lists.specs.Folds.{count}
 use Rattle.table.specs.Table.{linkCount, endA}
 use Rattle.lifting_order.specs.Standing.{waiting-more}
 use borrow.Author.Needs.{needs}

@@ -4,8 +4,8 @@ use mathlib.Core.Bool.{Bool, _||_, or-false}
 use Prim.Native.Nat.{_+_, _-_, _≤_}
 use native.Mathlib.Omega.{arith}
 use lib.ListN.{length, drop}
-use Rattle.min_label.specs.Hands.{falls}
-use Rattle.min_label.specs.HandLaws.{falls-next, links-end}
+use Rattle.theory_min_label.specs.Hands.{falls}
+use Rattle.theory_min_label.specs.HandLaws.{falls-next, links-end}
 use borrow.Author.Needs.{needs}
 use Rattle.one_way.proofs.labels.falls.Statement.{statement}
 use Rattle.one_way.proofs.labels.falls.Tie as tie

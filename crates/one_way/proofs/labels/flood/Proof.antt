@@ -3,9 +3,9 @@ use mathlib.Core.Path.{_≡_, _∙_}
 use Prim.Native.Nat.{_-_, _≤_}
 use native.Mathlib.Omega.{arith}
 use lib.ListN.{length}
-use Rattle.min_label.specs.MinLabelLaws.{Hears}
-use Rattle.min_label.specs.Hands.{Live, Spread}
-use Rattle.min_label.specs.HandLaws.{spread-refl, spread-trans}
+use Rattle.theory_min_label.specs.MinLabelLaws.{Hears}
+use Rattle.theory_min_label.specs.Hands.{Live, Spread}
+use Rattle.theory_min_label.specs.HandLaws.{spread-refl, spread-trans}
 use borrow.Author.Needs.{needs}
 use Rattle.one_way.proofs.labels.flood.Statement.{statement}
 use Rattle.one_way.proofs.labels.flood.Tie as tie

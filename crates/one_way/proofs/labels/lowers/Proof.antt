@@ -1,6 +1,6 @@
 -- The ends have their entries.
 use native.Mathlib.Omega.{arith}
-use Rattle.min_label.specs.HandLaws.{giver-below}
+use Rattle.theory_min_label.specs.HandLaws.{giver-below}
 use mathlib.Core.Path.{refl}
 use borrow.Author.Needs.{needs}
 use Rattle.one_way.proofs.labels.lowers.Statement.{statement}

@@ -2,9 +2,9 @@
 use mathlib.Core.Path.{_≡_, refl, _∙_}
 use Prim.Native.Nat.{_-_, _≤_}
 use lib.ListN.{length}
-use Rattle.min_label.specs.MinLabelLaws.{Hears}
-use Rattle.min_label.specs.Hands.{Live, Spread}
-use Rattle.min_label.specs.HandLaws.{spread-refl, spread-trans, relaxed}
+use Rattle.theory_min_label.specs.MinLabelLaws.{Hears}
+use Rattle.theory_min_label.specs.Hands.{Live, Spread}
+use Rattle.theory_min_label.specs.HandLaws.{spread-refl, spread-trans, relaxed}
 use borrow.Author.Needs.{needs}
 use Rattle.one_way.proofs.labels.relax.Statement.{statement}
 use Rattle.one_way.proofs.labels.relax.Tie as tie

@@ -2,9 +2,9 @@
 use mathlib.Core.Path.{_≡_, sym, _∙_}
 use Prim.Native.Nat.{_-_}
 use lib.ListN.{length}
-use Rattle.min_label.specs.MinLabelLaws.{Hears}
-use Rattle.min_label.specs.Hands.{Live, Spread, total}
-use Rattle.min_label.specs.HandLaws.{spread-refl, spread-trans, sweep-spread, sweep-less, still-settled}
+use Rattle.theory_min_label.specs.MinLabelLaws.{Hears}
+use Rattle.theory_min_label.specs.Hands.{Live, Spread, total}
+use Rattle.theory_min_label.specs.HandLaws.{spread-refl, spread-trans, sweep-spread, sweep-less, still-settled}
 use borrow.Author.Needs.{needs}
 use Rattle.one_way.proofs.labels.settle.Statement.{statement}
 use Rattle.one_way.proofs.labels.settle.Tie as tie

@@ -2,8 +2,8 @@
 use mathlib.Core.Path.{_≡_, refl, sym, _∙_}
 use Prim.Native.Nat.{_-_, _≤_}
 use lib.ListN.{length, drop}
-use Rattle.min_label.specs.Hands.{swept}
-use Rattle.min_label.specs.HandLaws.{swept-next, links-end}
+use Rattle.theory_min_label.specs.Hands.{swept}
+use Rattle.theory_min_label.specs.HandLaws.{swept-next, links-end}
 use borrow.Author.Needs.{needs}
 use Rattle.one_way.proofs.labels.sweep.Statement.{statement}
 use Rattle.one_way.proofs.labels.sweep.Tie as tie

@@ -1,5 +1,5 @@
 -- From no numbers.
-use Rattle.min_label.specs.MinLabel.{minLabel}
+use Rattle.theory_min_label.specs.MinLabel.{minLabel}
 use borrow.Author.Needs.{needs}
 use Rattle.one_way.proofs.pass.all.Statement.{statement}
 use Rattle.one_way.proofs.pass.all.Tie as tie

@@ -1,7 +1,7 @@
 -- The labels settle from those of the sources.
 use mathlib.Core.Bool.{false}
-use Rattle.min_label.specs.MinLabel.{source}
-use Rattle.min_label.specs.HandLaws.{site-room, labels-least}
+use Rattle.theory_min_label.specs.MinLabel.{source}
+use Rattle.theory_min_label.specs.HandLaws.{site-room, labels-least}
 use borrow.Author.Needs.{needs}
 use Rattle.one_way.proofs.pass.backward.Statement.{statement}
 use Rattle.one_way.proofs.pass.backward.Tie as tie

@@ -1,7 +1,7 @@
 -- The labels settle from each unit its own.
 use mathlib.Core.Bool.{true}
 use Prim.Native.Nat.{ℕ, _-_}
-use Rattle.min_label.specs.HandLaws.{site-room, labels-least}
+use Rattle.theory_min_label.specs.HandLaws.{site-room, labels-least}
 use borrow.Author.Needs.{needs}
 use Rattle.one_way.proofs.pass.forward.Statement.{statement}
 use Rattle.one_way.proofs.pass.forward.Tie as tie

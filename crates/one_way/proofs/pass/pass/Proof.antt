@@ -1,7 +1,7 @@
 -- By its steps.
 use native.Mathlib.Omega.{arith}
-use Rattle.min_label.specs.HandLaws.{ends-within}
-use Rattle.min_label.specs.Keys.{passed}
+use Rattle.theory_min_label.specs.HandLaws.{ends-within}
+use Rattle.theory_min_label.specs.Keys.{passed}
 use borrow.Author.Needs.{needs}
 use Rattle.one_way.proofs.pass.pass.Statement.{statement}
 use Rattle.one_way.proofs.pass.pass.Tie as tie

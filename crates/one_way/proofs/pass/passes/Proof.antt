@@ -4,7 +4,7 @@ use Prim.Native.Nat.{_-_, _≤_}
 use native.Mathlib.Omega.{arith}
 use lib.ListN.{length, getD-replicate}
 use borrow.Author.Tests.{not-true, not-false}
-use Rattle.min_label.specs.Going.{Going, going-begun, going-on, going-stop, going-end}
+use Rattle.theory_min_label.specs.Going.{Going, going-begun, going-on, going-stop, going-end}
 use borrow.Author.Needs.{needs}
 use Rattle.one_way.proofs.pass.passes.Statement.{statement}
 use Rattle.one_way.proofs.pass.passes.Tie as tie

@@ -2,9 +2,9 @@
 use mathlib.Core.Path.{_≡_, refl, _∙_}
 use Prim.Native.Nat.{_-_, _≤_}
 use lib.ListN.{length}
-use Rattle.lists.specs.Tables.{over}
-use Rattle.lists.specs.Rounds.{over-more, over-all}
-use Rattle.min_label.specs.Hands.{keyOf}
+use Rattle.base_lists.specs.Tables.{over}
+use Rattle.base_lists.specs.Rounds.{over-more, over-all}
+use Rattle.theory_min_label.specs.Hands.{keyOf}
 use borrow.Author.Needs.{needs}
 use Rattle.one_way.proofs.pass.rekey.Statement.{statement}
 use Rattle.one_way.proofs.pass.rekey.Tie as tie

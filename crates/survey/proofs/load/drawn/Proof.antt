@@ -5,11 +5,11 @@ use Prim.Native.Nat.{ℕ, _≤_}
 use native.Mathlib.Omega.{arith}
 use lib.ListN.{length}
 use lib.Seq.{take-all}
-use Rattle.state.specs.declared.groups.Plan.{Plan}
+use Rattle.spec_state.specs.declared.groups.Plan.{Plan}
 use Rattle.table.specs.Passes.{passes, table-alone}
-use Rattle.machine.specs.State.{withPlan}
-use Rattle.machine.specs.Load.{Input, planOf, plannedLoadRefusal, plannedLoaded}
-use Rattle.machine.specs.PlannedLoad.{PlanAccepted, plan-accepted}
+use Rattle.spec_machine.specs.State.{withPlan}
+use Rattle.spec_machine.specs.Load.{Input, planOf, plannedLoadRefusal, plannedLoaded}
+use Rattle.spec_machine.specs.PlannedLoad.{PlanAccepted, plan-accepted}
 use borrow.Author.Needs.{needs}
 use Rattle.survey.specs.View.{of}
 use Rattle.survey.proofs.load.drawn.Statement.{statement}

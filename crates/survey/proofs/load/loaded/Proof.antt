@@ -1,8 +1,8 @@
 -- The constructor over the table's words.
 use mathlib.Core.Path.{refl}
 use lib.Seq.{take-all}
-use Rattle.machine.specs.Load.{loaded}
-use Rattle.machine.specs.LoadLaws.{passed-fits}
+use Rattle.spec_machine.specs.Load.{loaded}
+use Rattle.spec_machine.specs.LoadLaws.{passed-fits}
 use borrow.Author.Needs.{needs}
 use Rattle.survey.proofs.load.loaded.Statement.{statement}
 use Rattle.survey.proofs.load.loaded.Tie as tie

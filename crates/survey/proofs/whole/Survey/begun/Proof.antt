@@ -1,6 +1,6 @@
 -- Group by group.
 use mathlib.Core.Path.{refl}
-use Rattle.machine.specs.Load.{begun}
+use Rattle.spec_machine.specs.Load.{begun}
 use borrow.Author.Needs.{needs}
 use Rattle.survey.proofs.whole.Survey.begun.Statement.{statement}
 use Rattle.survey.proofs.whole.Survey.begun.Tie as tie

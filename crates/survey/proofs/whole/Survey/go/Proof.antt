@@ -4,23 +4,23 @@ use mathlib.Core.Bool.{Bool, _&&_}
 use Prim.Native.Nat.{ℕ, _+_, _-_, _≤_}
 use native.Mathlib.Omega.{arith}
 use borrow.Author.Needs.{needs}
-use Rattle.machine.specs.State.{State}
-use Rattle.machine.specs.Kept.{kept-exact}
-use Rattle.machine.specs.Going.{Going, begins, above, spent, ended}
-use Rattle.state.specs.declared.groups.Clock.{Clock}
-use Rattle.machine.specs.InStage.{inStage}
-use Rattle.machine.specs.StageRun.{stageRun}
-use Rattle.machine.specs.StageSteps.{Stage, arm}
-use Rattle.components.specs.Rounds as Components
-use Rattle.tree.specs.Rounds as Tree
-use Rattle.tour.specs.Rounds as Tour
-use Rattle.ranking.specs.Rounds as Ranking
-use Rattle.marks.specs.Rounds as Marks
-use Rattle.places.specs.Rounds as Places
-use Rattle.range.specs.Rounds as Range
-use Rattle.joins.specs.Rounds as Joins
-use Rattle.classes.specs.Rounds as Classes
-use Rattle.labels.specs.Rounds as Labels
+use Rattle.spec_machine.specs.State.{State}
+use Rattle.spec_machine.specs.Kept.{kept-exact}
+use Rattle.spec_machine.specs.Going.{Going, begins, above, spent, ended}
+use Rattle.spec_state.specs.declared.groups.Clock.{Clock}
+use Rattle.spec_machine.specs.InStage.{inStage}
+use Rattle.spec_machine.specs.StageRun.{stageRun}
+use Rattle.spec_machine.specs.StageSteps.{Stage, arm}
+use Rattle.stage01_components.specs.Rounds as Components
+use Rattle.stage02_tree.specs.Rounds as Tree
+use Rattle.stage03_tour.specs.Rounds as Tour
+use Rattle.stage04_ranking.specs.Rounds as Ranking
+use Rattle.stage05_marks.specs.Rounds as Marks
+use Rattle.stage06_places.specs.Rounds as Places
+use Rattle.stage07_range.specs.Rounds as Range
+use Rattle.stage08_joins.specs.Rounds as Joins
+use Rattle.stage09_classes.specs.Rounds as Classes
+use Rattle.stage10_labels.specs.Rounds as Labels
 use Rattle.survey.specs.View.{of}
 use Rattle.survey.proofs.whole.Survey.go.Statement.{statement}
 use Rattle.survey.proofs.whole.Survey.go.Tie as tie

@@ -1,6 +1,6 @@
 -- As `load_as` answers.
 use borrow.Author.Needs.{needs}
-use Rattle.machine.specs.Calls.{loadAnswer}
+use Rattle.spec_machine.specs.Calls.{loadAnswer}
 use Rattle.survey.proofs.whole.Survey.load.Statement.{statement}
 use Rattle.survey.proofs.whole.Survey.load.Tie as tie
 

@@ -3,7 +3,7 @@ use mathlib.Core.Path.{sym, _∙_}
 use borrow.Author.Needs.{needs}
 use Rattle.table.specs.Table.{refusalAs}
 use Rattle.table.specs.FreshLaws.{as-accepted}
-use Rattle.machine.specs.AnswerLaws.{answered-refused, answered-made}
+use Rattle.spec_machine.specs.AnswerLaws.{answered-refused, answered-made}
 use Rattle.survey.specs.View.{of}
 use Rattle.survey.proofs.whole.Survey.load_as.Statement.{statement}
 use Rattle.survey.proofs.whole.Survey.load_as.Tie as tie

@@ -1,9 +1,9 @@
 -- By whether the table and the parents pass.
 use mathlib.Core.Path.{sym, _∙_}
 use borrow.Author.Needs.{needs}
-use Rattle.machine.specs.Load.{plannedLoadRefusal}
-use Rattle.machine.specs.Calls.{plannedLoadAnswer}
-use Rattle.machine.specs.AnswerLaws.{answered-refused, answered-made}
+use Rattle.spec_machine.specs.Load.{plannedLoadRefusal}
+use Rattle.spec_machine.specs.Calls.{plannedLoadAnswer}
+use Rattle.spec_machine.specs.AnswerLaws.{answered-refused, answered-made}
 use Rattle.survey.specs.View.{of}
 use Rattle.survey.proofs.whole.Survey.load_planned.Statement.{statement}
 use Rattle.survey.proofs.whole.Survey.load_planned.Tie as tie

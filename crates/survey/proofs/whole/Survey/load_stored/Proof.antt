@@ -1,6 +1,6 @@
 -- As `load_as` answers.
 use borrow.Author.Needs.{needs}
-use Rattle.machine.specs.Calls.{storedLoadAnswer}
+use Rattle.spec_machine.specs.Calls.{storedLoadAnswer}
 use Rattle.survey.proofs.whole.Survey.load_stored.Statement.{statement}
 use Rattle.survey.proofs.whole.Survey.load_stored.Tie as tie
 

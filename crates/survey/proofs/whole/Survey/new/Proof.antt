@@ -1,6 +1,6 @@
 -- The constructor over no unit and no link.
 use mathlib.Core.Path.{refl}
-use Rattle.machine.specs.Load.{unloaded}
+use Rattle.spec_machine.specs.Load.{unloaded}
 use borrow.Author.Needs.{needs}
 use Rattle.survey.proofs.whole.Survey.new.Statement.{statement}
 use Rattle.survey.proofs.whole.Survey.new.Tie as tie

@@ -1,11 +1,11 @@
 -- By whether the call is refused.
 use mathlib.Core.Path.{_≡_, refl, sym, ap, _∙_}
 use borrow.Author.Needs.{needs}
-use Rattle.machine.specs.State.{State}
-use Rattle.machine.specs.Calls.{roundRefusal, roundAnswer}
-use Rattle.machine.specs.AnswerLaws.{answered-refused, answered-made}
-use Rattle.machine.specs.RunAnswers.{refusal-told, accepted}
-use Rattle.machine.specs.Going.{ran-one}
+use Rattle.spec_machine.specs.State.{State}
+use Rattle.spec_machine.specs.Calls.{roundRefusal, roundAnswer}
+use Rattle.spec_machine.specs.AnswerLaws.{answered-refused, answered-made}
+use Rattle.spec_machine.specs.RunAnswers.{refusal-told, accepted}
+use Rattle.spec_machine.specs.Going.{ran-one}
 use Rattle.survey.specs.View.{of}
 use Rattle.survey.proofs.whole.Survey.round.Statement.{statement}
 use Rattle.survey.proofs.whole.Survey.round.Tie as tie

@@ -1,10 +1,10 @@
 -- By whether the call is refused.
 use mathlib.Core.Path.{_≡_, refl, sym, _∙_}
 use borrow.Author.Needs.{needs}
-use Rattle.machine.specs.State.{State}
-use Rattle.machine.specs.Calls.{roundRefusal, runAnswer}
-use Rattle.machine.specs.AnswerLaws.{answered-refused, answered-made}
-use Rattle.machine.specs.RunAnswers.{refusal-told, accepted}
+use Rattle.spec_machine.specs.State.{State}
+use Rattle.spec_machine.specs.Calls.{roundRefusal, runAnswer}
+use Rattle.spec_machine.specs.AnswerLaws.{answered-refused, answered-made}
+use Rattle.spec_machine.specs.RunAnswers.{refusal-told, accepted}
 use Rattle.survey.specs.View.{of}
 use Rattle.survey.proofs.whole.Survey.run.Statement.{statement}
 use Rattle.survey.proofs.whole.Survey.run.Tie as tie

@@ -2,8 +2,8 @@
 use mathlib.Core.Path.{sym, ap, _∙_}
 use borrow.Author.Tests.{not-true, not-false}
 use borrow.Author.Needs.{needs}
-use Rattle.machine.specs.KeptLaws.{kept-countdown}
-use Rattle.machine.specs.AnswerLaws.{status-refused, status-made}
+use Rattle.spec_machine.specs.KeptLaws.{kept-countdown}
+use Rattle.spec_machine.specs.AnswerLaws.{status-refused, status-made}
 use Rattle.survey.specs.View.{of}
 use Rattle.survey.proofs.whole.Survey.status.Statement.{statement}
 use Rattle.survey.proofs.whole.Survey.status.Tie as tie

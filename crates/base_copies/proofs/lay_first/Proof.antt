@@ -1,0 +1,58 @@
+-- Word by word.
+use mathlib.Core.Path.{_≡_, refl, _∙_}
+use Prim.Native.Nat.{ℕ, _≤_, _-_}
+use lib.ListN.{length, getD}
+use Rattle.base_lists.specs.Rounds.{over-more, over-all}
+use Rattle.base_lists.specs.Tables.{over}
+use borrow.Author.Needs.{needs}
+use Rattle.base_copies.proofs.lay_first.Statement.{statement}
+use Rattle.base_copies.proofs.lay_first.Tie as tie
+
+abbrev Inv-loop : tie.InvT-loop
+Inv-loop count table words₀ v₀ words v = (v ≤ count) × (length words ≡ length words₀) × (words ≡ over v (λ (i : ℕ). getD table i 0) words₀)
+
+abbrev μ-loop : tie.MeasureT-loop
+μ-loop count table words₀ v₀ words v = count - v
+
+loop-holds : tie.Need-loop-holds Inv-loop μ-loop
+loop-holds c = (search needs, refl, refl)
+
+cast-i : tie.Need-cast-i Inv-loop μ-loop
+cast-i c = search needs
+
+word-requires : tie.Need-word-requires Inv-loop μ-loop
+word-requires c κs = search needs
+
+put-requires : tie.Need-put-requires Inv-loop μ-loop
+put-requires c κs = search needs
+
+add-v : tie.Need-add-v Inv-loop μ-loop
+add-v c = search needs
+
+loop-less : tie.Need-loop-less Inv-loop μ-loop
+loop-less c = search needs
+
+loop-again : tie.Need-loop-again Inv-loop μ-loop
+loop-again c = (search needs, search needs, over-more _ (λ (i : ℕ). getD (c .before .before .before .before .before .before .before .before .before .args .table .now) i 0) _ _ _ _ (c .before .before .before .before .before .before .loop .inv .2) (c .before .before .before .word .ensures) (c .before .before .put .ensures))
+
+same-length : tie.Need-same-length Inv-loop μ-loop
+same-length c = search needs
+
+returns : tie.Need-returns Inv-loop μ-loop
+returns c = c .before .loop .inv .2 ∙ over-all _ _ _ _ (c .before .loop .inv .0) (c .loop-test .left)
+
+pub lay-first-spec : {M : Type 1} → statement M
+lay-first-spec =
+    tie.close
+    (tie.spec
+    Inv-loop
+    μ-loop
+    loop-holds
+    cast-i
+    word-requires
+    put-requires
+    add-v
+    loop-less
+    loop-again
+    same-length
+    returns)

@@ -1,0 +1,17 @@
+-- By what is copied over zeros.
+use borrow.Author.Needs.{needs}
+use Rattle.base_copies.specs.CopyLaws.{levels-or}
+use Rattle.base_copies.proofs.levels_at.Statement.{statement}
+use Rattle.base_copies.proofs.levels_at.Tie as tie
+
+slice-aggregate-copy-levels : tie.Need-slice-aggregate-copy-levels
+slice-aggregate-copy-levels c = search needs
+
+copy-levels-requires : tie.Need-copy-levels-requires
+copy-levels-requires c κs = tt
+
+returns : tie.Need-returns
+returns c = levels-or 1024 _ _ (c .before .copy-levels .ensures)
+
+pub levels-at-spec : {M : Type 1} → statement M
+levels-at-spec = tie.close (tie.spec slice-aggregate-copy-levels copy-levels-requires returns)

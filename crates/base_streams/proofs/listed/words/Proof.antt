@@ -1,0 +1,28 @@
+-- The count, then so many.
+use mathlib.Core.Path.{refl}
+use Rattle.base_streams.specs.Listed.{wordsAt}
+use borrow.Author.Needs.{needs}
+use Rattle.base_streams.proofs.listed.words.Statement.{statement}
+use Rattle.base_streams.proofs.listed.words.Tie as tie
+
+next-number-requires : tie.Need-next-number-requires
+next-number-requires c κs = tt
+
+words-requires : tie.Need-words-requires
+words-requires c κs = tt
+
+cast-t8 : tie.Need-cast-t8
+cast-t8 c = search needs
+
+same-length : tie.Need-same-length
+same-length c = search needs
+
+returns : tie.Need-returns
+unfolding wordsAt
+returns c =
+    let l = c .before .before .before in
+    let n = l .before .before .next-number .ensures in
+    (rw (l .words .ensures .0, n) refl, rw n at (l .words .ensures .1))
+
+pub words-spec : {M : Type 1} → statement M
+words-spec = tie.close (tie.spec next-number-requires words-requires cast-t8 same-length returns)

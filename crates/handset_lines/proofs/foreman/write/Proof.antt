@@ -1,0 +1,51 @@
+-- By whether the line fits.
+use mathlib.Core.Path.{refl, _∙_}
+use Rattle.handset_lines.specs.Lines.{FOREMAN-LINE, foremanBody}
+use Rattle.handset_lines.specs.LineLaws.{line-short, line-fits}
+use native.Mathlib.Omega.{arith}
+use borrow.Author.Needs.{needs}
+use Rattle.handset_lines.proofs.foreman.write.Statement.{statement}
+use Rattle.handset_lines.proofs.foreman.write.Tie as tie
+
+returns : tie.Need-returns
+returns c = let a = c .before .before .args in line-short FOREMAN-LINE (foremanBody (a .status)) (a .out .now) (omega (arith, c .if1 .taken))
+
+low-byte-requires : tie.Need-low-byte-requires
+low-byte-requires c κs = search needs
+
+high-byte-requires : tie.Need-high-byte-requires
+high-byte-requires c κs = search needs
+
+low-byte-requires-2 : tie.Need-low-byte-requires-2
+low-byte-requires-2 c κs = search needs
+
+slice-aggregate-write : tie.Need-slice-aggregate-write
+slice-aggregate-write c = search needs
+
+write-requires : tie.Need-write-requires
+write-requires c κs = search needs
+
+same-length : tie.Need-same-length
+same-length c = search needs
+
+returns-2 : tie.Need-returns-2
+returns-2 c =
+    let w = c .before .before in
+    let d = w .before .before .before in
+    let e = d .before .before .before in
+    let a = e .before .before .args in
+    let fits = line-fits FOREMAN-LINE (foremanBody (a .status)) (a .out .now) refl (omega (arith, e .if1 .left)) in
+    (fits .0, rw (d .low-byte2 .ensures, d .before .high-byte .ensures, d .before .before .low-byte .ensures) at (w .write .ensures) ∙ fits .1)
+
+pub write-spec : {M : Type 1} → statement M
+write-spec =
+    tie.close
+    (tie.spec
+    returns
+    low-byte-requires
+    high-byte-requires
+    low-byte-requires-2
+    slice-aggregate-write
+    write-requires
+    same-length
+    returns-2)

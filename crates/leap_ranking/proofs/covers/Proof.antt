@@ -1,0 +1,65 @@
+-- Test by test.
+use mathlib.Core.Path.{_≡_}
+use Prim.Native.Nat.{_+_, _*_, _-_}
+use mathlib.Core.Bool.{false≢true}
+use borrow.Author.Tests.{leb-true}
+use Rattle.base_log2.specs.Lg.{lg}
+use borrow.Author.Needs.{needs}
+use Rattle.leap_ranking.proofs.covers.Statement.{statement}
+use Rattle.leap_ranking.proofs.covers.Tie as tie
+
+returns : tie.Need-returns
+returns c = λ e. absurd (false≢true e)
+
+returns-2 : tie.Need-returns-2
+returns-2 c = λ e. absurd (false≢true e)
+
+mul-less : tie.Need-mul-less
+mul-less c = search needs
+
+less-requires : tie.Need-less-requires
+less-requires c κs = search needs
+
+lg-requires : tie.Need-lg-requires
+lg-requires c κs = search needs
+
+cast-most : tie.Need-cast-most
+cast-most c = search needs
+
+add-most : tie.Need-add-most
+add-most c = search needs
+
+cast-result : tie.Need-cast-result
+cast-result c = search needs
+
+add-result : tie.Need-add-result
+add-result c = search needs
+
+add-result-2 : tie.Need-add-result-2
+add-result-2 c = search needs
+
+returns-3 : tie.Need-returns-3
+returns-3 c =
+    let l = c .before in
+    let f = l .before in
+    let a = f .before .before .before .before .args in
+    let most : l .lg .result ≡ lg (2 * a .units - 2) = rw (f .less .ensures) at (l .lg .ensures) in
+    λ e.
+    let below = leb-true (a .clock .made + (a .rounds + 1)) (l .lg .result + 1) e in
+    (search needs, search needs, rw most at below)
+
+pub covers-spec : {M : Type 1} → statement M
+covers-spec =
+    tie.close
+    (tie.spec
+    returns
+    returns-2
+    mul-less
+    less-requires
+    lg-requires
+    cast-most
+    add-most
+    cast-result
+    add-result
+    add-result-2
+    returns-3)

@@ -1,0 +1,73 @@
+-- All tests hold.
+use native.Mathlib.Omega.{arith}
+use Rattle.leap_ranking.specs.Keys.{found-by}
+use borrow.Author.Needs.{needs}
+use Rattle.leap_ranking.proofs.found.Statement.{statement}
+use Rattle.leap_ranking.proofs.found.Tie as tie
+
+walk-requires : tie.Need-walk-requires
+walk-requires c κs = search needs
+
+sums-requires : tie.Need-sums-requires
+sums-requires c κs = search needs
+
+ranks-requires : tie.Need-ranks-requires
+ranks-requires c κs = search needs
+
+asked-requires : tie.Need-asked-requires
+asked-requires c κs = search needs
+
+slice-aggregate-numbers-ok : tie.Need-slice-aggregate-numbers-ok
+slice-aggregate-numbers-ok c = search needs
+
+numbers-ok-requires : tie.Need-numbers-ok-requires
+numbers-ok-requires c κs = search needs
+
+slice-aggregate-numbers-ok-2 : tie.Need-slice-aggregate-numbers-ok-2
+slice-aggregate-numbers-ok-2 c = search needs
+
+numbers-ok-requires-2 : tie.Need-numbers-ok-requires-2
+numbers-ok-requires-2 c κs = search needs
+
+both-requires : tie.Need-both-requires
+both-requires c κs = search needs
+
+keys-right-requires : tie.Need-keys-right-requires
+keys-right-requires c κs = search needs
+
+both-requires-2 : tie.Need-both-requires-2
+both-requires-2 c κs = search needs
+
+returns : tie.Need-returns
+returns c =
+    let k = c .before in
+    let b = k .before .before .before .before in
+    let whole = b .before in
+    let own = whole .before .before in
+    let q = own .before .before in
+    let r = q .before .before in
+    let s = r .before .before in
+    let start = s .before .before .before .before .before in
+    let a = start .args in (
+      found-by (a .arcs) (a .t2) (a .t3) _ _ _ _ _ _ _ _ _ _ (start .pre) (omega (arith, start .pre, start .good .1 .0)) (omega (arith, start .pre, start .good .1 .1 .0))
+          (s .sums .ensures) (r .ranks .ensures) (own .numbers-ok .ensures) (whole .numbers-ok2 .ensures) (k .keys-right .ensures) (q .asked .ensures .0) (q .asked .ensures .1 .0)
+          (b .both .ensures) (c .both2 .ensures),
+      q .asked .ensures .1 .1,
+    )
+
+pub found-spec : {M : Type 1} → statement M
+found-spec =
+    tie.close
+    (tie.spec
+    walk-requires
+    sums-requires
+    ranks-requires
+    asked-requires
+    slice-aggregate-numbers-ok
+    numbers-ok-requires
+    slice-aggregate-numbers-ok-2
+    numbers-ok-requires-2
+    both-requires
+    keys-right-requires
+    both-requires-2
+    returns)

@@ -1,0 +1,12 @@
+-- The lists that the definition gives.
+use mathlib.Core.Path.{refl}
+use Rattle.spec_machine.specs.Load.{absents, zeros}
+use Rattle.load_begin.proofs.tree.Statement.{statement}
+use Rattle.load_begin.proofs.tree.Tie as tie
+
+returns : tie.Need-returns
+unfolding absents zeros
+returns c = refl
+
+pub tree-spec : {M : Type 1} → statement M
+tree-spec = tie.close (tie.spec returns)

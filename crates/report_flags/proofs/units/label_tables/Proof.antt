@@ -1,0 +1,67 @@
+-- One link more at a time.
+use mathlib.Core.Path.{_≡_}
+use mathlib.Core.Bool.{true, false}
+use Prim.Native.Nat.{_≤_, _-_}
+use native.Mathlib.Omega.{arith}
+use Rattle.report_flags.specs.LabelBits.{BitTable, bits-more}
+use borrow.Author.Needs.{needs}
+use Rattle.report_flags.proofs.units.label_tables.Statement.{statement}
+use Rattle.report_flags.proofs.units.label_tables.Tie as tie
+
+abbrev Inv-loop : tie.InvT-loop
+Inv-loop links ends label low₀ high₀ j₀ low high j = (j ≤ links) × BitTable false j ends label low × BitTable true j ends label high
+
+abbrev μ-loop : tie.MeasureT-loop
+μ-loop links ends label low₀ high₀ j₀ low high j = links - j
+
+loop-holds : tie.Need-loop-holds Inv-loop μ-loop
+loop-holds c = search needs
+
+take-link-requires : tie.Need-take-link-requires Inv-loop μ-loop
+take-link-requires c κs = search needs
+
+take-link-requires-2 : tie.Need-take-link-requires-2 Inv-loop μ-loop
+take-link-requires-2 c κs = search needs
+
+add-j : tie.Need-add-j Inv-loop μ-loop
+add-j c = search needs
+
+loop-less : tie.Need-loop-less Inv-loop μ-loop
+loop-less c = search needs
+
+loop-again : tie.Need-loop-again Inv-loop μ-loop
+loop-again c =
+    let s = c .before .before .before .before .before .before .before .before .before in
+    let a = s .before .before .before .before .before .args in (
+      search needs,
+      rw (c .before .before .before .before .before .before .take-link .ensures) (bits-more false (s .loop .j) (a .ends .now) (a .label .now) (s .loop .low) (s .loop .inv .1)),
+      rw (c .before .before .take-link2 .ensures) (bits-more true (s .loop .j) (a .ends .now) (a .label .now) (s .loop .high) (s .loop .inv .2)),
+    )
+
+same-length : tie.Need-same-length Inv-loop μ-loop
+same-length c = search needs
+
+same-length-2 : tie.Need-same-length-2 Inv-loop μ-loop
+same-length-2 c = search needs
+
+returns : tie.Need-returns Inv-loop μ-loop
+returns c =
+    let s = c .before in
+    let e : s .loop .j ≡ s .before .before .before .before .before .args .links = omega arith in
+    (rw e at (s .loop .inv .1), rw e at (s .loop .inv .2))
+
+pub label-tables-spec : {M : Type 1} → statement M
+label-tables-spec =
+    tie.close
+    (tie.spec
+    Inv-loop
+    μ-loop
+    loop-holds
+    take-link-requires
+    take-link-requires-2
+    add-j
+    loop-less
+    loop-again
+    same-length
+    same-length-2
+    returns)

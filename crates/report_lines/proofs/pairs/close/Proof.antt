@@ -1,0 +1,39 @@
+-- The wrapping difference is the byte that brings the sum to 0.
+use mathlib.Core.Path.{_≡_}
+use Prim.Native.Nat.{_-_, _%_}
+use native.Mathlib.Omega.{arith}
+use borrow.Author.Needs.{needs}
+use Rattle.report_lines.proofs.pairs.close.Statement.{statement}
+use Rattle.report_lines.proofs.pairs.close.Tie as tie
+
+wrapping-sub-u8-requires : tie.Need-wrapping-sub-u8-requires
+wrapping-sub-u8-requires c κs = search needs
+
+put-requires : tie.Need-put-requires
+put-requires c κs = search needs
+
+add-out : tie.Need-add-out
+add-out c = search needs
+
+slice-write-out : tie.Need-slice-write-out
+slice-write-out c = search needs
+
+same-length : tie.Need-same-length
+same-length c = search needs
+
+returns : tie.Need-returns
+returns c =
+    let a = c .before .before .before .before .before .before .before .args in
+    let e : c .before .before .before .before .wrapping-sub-u8 .result ≡ (256 - a .sum) % 256 = omega arith in
+    rw (c .before .before .put .ensures, e)
+
+pub close-spec : {M : Type 1} → statement M
+close-spec =
+    tie.close
+    (tie.spec
+    wrapping-sub-u8-requires
+    put-requires
+    add-out
+    slice-write-out
+    same-length
+    returns)

@@ -1,0 +1,58 @@
+-- Each part past those before it.
+use Rattle.report_lines.specs.Pairs.{label-laid}
+use borrow.Author.Needs.{needs}
+use Rattle.report_lines.proofs.rows.label_row.Statement.{statement}
+use Rattle.report_lines.proofs.rows.label_row.Tie as tie
+
+label-sum-requires : tie.Need-label-sum-requires
+label-sum-requires c κs = search needs
+
+put-requires : tie.Need-put-requires
+put-requires c κs = search needs
+
+put-word-requires : tie.Need-put-word-requires
+put-word-requires c κs = search needs
+
+put-word-requires-2 : tie.Need-put-word-requires-2
+put-word-requires-2 c κs = search needs
+
+put-requires-2 : tie.Need-put-requires-2
+put-requires-2 c κs = search needs
+
+close-requires : tie.Need-close-requires
+close-requires c κs = search needs
+
+same-length : tie.Need-same-length
+same-length c = search needs
+
+returns : tie.Need-returns
+returns c =
+    let closed = c .before .before in
+    let flag = closed .before .before .before .before in
+    let second = flag .before .before .before .before in
+    let first = second .before .before .before .before in
+    let kind = first .before .before .before .before in
+    let sum = kind .before .before in
+    let s = sum .before .before .before in
+    let a = s .args in
+    rw (
+      closed .close .ensures,
+      flag .put2 .ensures,
+      second .put-word2 .ensures,
+      first .put-word .ensures,
+      kind .put .ensures,
+      sum .label-sum .ensures,
+    ) (label-laid (a .position) (a .label) (a .lone) (a .out .now) (s .pre .1))
+
+pub label-row-spec : {M : Type 1} → statement M
+label-row-spec =
+    tie.close
+    (tie.spec
+    label-sum-requires
+    put-requires
+    put-word-requires
+    put-word-requires-2
+    put-requires-2
+    close-requires
+    same-length
+    returns)

@@ -1,0 +1,34 @@
+-- The line, as far as there is room for it.
+use mathlib.Core.Path.{_∙_}
+use lib.ListN.{length}
+use borrow.Author.Needs.{needs}
+use Rattle.report_program.specs.LaidLaws.{refusal-line, refusal-short, refusal-long}
+use Rattle.report_program.proofs.refusal.Statement.{statement}
+use Rattle.report_program.proofs.refusal.Tie as tie
+
+slice-aggregate-write : tie.Need-slice-aggregate-write
+slice-aggregate-write c = search needs
+
+write-requires : tie.Need-write-requires
+write-requires c κs = search needs
+
+same-length : tie.Need-same-length
+same-length c = search needs
+
+returns : tie.Need-returns
+returns c =
+    let a = c .before .before .before .before .before .before .before .args in
+    (refusal-short (a .number) (length (a .out .now)) (search needs), c .before .before .before .write .ensures ∙ refusal-line (a .number) (a .out .now))
+
+same-length-2 : tie.Need-same-length-2
+same-length-2 c = search needs
+
+returns-2 : tie.Need-returns-2
+returns-2 c =
+    let a = c .before .before .before .before .before .before .before .args in
+    (refusal-long (a .number) (length (a .out .now)) (search needs), c .before .before .before .write .ensures ∙ refusal-line (a .number) (a .out .now))
+
+pub refusal-spec : {M : Type 1} → statement M
+refusal-spec =
+    tie.close
+    (tie.spec slice-aggregate-write write-requires same-length returns same-length-2 returns-2)

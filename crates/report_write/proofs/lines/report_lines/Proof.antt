@@ -1,0 +1,60 @@
+-- The tests in their order, then the parts.
+use mathlib.Core.Path.{_∙_}
+use Rattle.report_write.specs.ReportWritten.{parts-units, parts-links, parts-short, parts-fit}
+use borrow.Author.Needs.{needs}
+use Rattle.report_write.proofs.lines.report_lines.Statement.{statement}
+use Rattle.report_write.proofs.lines.report_lines.Tie as tie
+
+returns : tie.Need-returns
+returns c =
+    let a = c .before .before .before .before .before .before .before .args in
+    parts-units (a .units) (a .links) (a .rounds) (a .requests) (a .ends .now) (a .label .now) (a .color .now) (a .parent .now) (a .place .now) (a .out .now) (c .if1 .taken)
+
+returns-2 : tie.Need-returns-2
+returns-2 c =
+    let a = c .before .before .before .before .before .before .before .before .args in
+    parts-links (a .units) (a .links) (a .rounds) (a .requests) (a .ends .now) (a .label .now) (a .color .now) (a .parent .now) (a .place .now) (a .out .now) (c .before .if1 .left) (c .if2 .taken)
+
+mul-if3 : tie.Need-mul-if3
+mul-if3 c = search needs
+
+add-if3 : tie.Need-add-if3
+add-if3 c = search needs
+
+mul-if3-2 : tie.Need-mul-if3-2
+mul-if3-2 c = search needs
+
+add-if3-2 : tie.Need-add-if3-2
+add-if3-2 c = search needs
+
+returns-3 : tie.Need-returns-3
+returns-3 c =
+    let a = c .before .before .before .before .before .before .before .before .before .args in
+    parts-short (a .units) (a .links) (a .rounds) (a .requests) (a .ends .now) (a .label .now) (a .color .now) (a .parent .now) (a .place .now) (a .out .now) (c .before .before .if1 .left) (c .before .if2 .left) (c .if3 .taken)
+
+all-requires : tie.Need-all-requires
+all-requires c κs = search needs
+
+same-length : tie.Need-same-length
+same-length c = search needs
+
+returns-4 : tie.Need-returns-4
+returns-4 c =
+    let a = c .before .before .before .before .before .before .before .before .before .before .before .before .before .args in
+    c .before .before .all .ensures
+    ∙ parts-fit (a .units) (a .links) (a .rounds) (a .requests) (a .ends .now) (a .label .now) (a .color .now) (a .parent .now) (a .place .now) (a .out .now) (c .before .before .before .before .before .before .if1 .left) (c .before .before .before .before .before .if2 .left) (c .before .before .before .before .if3 .left)
+
+pub report-lines-spec : {M : Type 1} → statement M
+report-lines-spec =
+    tie.close
+    (tie.spec
+    returns
+    returns-2
+    mul-if3
+    add-if3
+    mul-if3-2
+    add-if3-2
+    returns-3
+    all-requires
+    same-length
+    returns-4)

@@ -1,0 +1,77 @@
+-- Unit by unit.
+use mathlib.Core.Path.{_≡_, _∙_}
+use Prim.Native.Nat.{_-_, _≤_}
+use lib.ListN.{length}
+use Rattle.theory_ears.specs.Weaving.{holding, holding-begun, holding-more, holding-all}
+use borrow.Author.Needs.{needs}
+use Rattle.ring_ears.proofs.hold.Statement.{statement}
+use Rattle.ring_ears.proofs.hold.Tie as tie
+
+abbrev Inv-loop : tie.InvT-loop
+Inv-loop count parent seq pos held₀ i₀ held i = (i ≤ count) × (length held ≡ length held₀) × (held ≡ holding parent seq pos i held₀)
+
+abbrev μ-loop : tie.MeasureT-loop
+μ-loop count parent seq pos held₀ i₀ held i = count - i
+
+loop-holds : tie.Need-loop-holds Inv-loop μ-loop
+loop-holds c =
+    let a = c .before .before .before .before .args in
+    (search needs, search needs, holding-begun (a .parent .now) (a .seq .now) (a .pos .now) (a .held .now))
+
+at-requires : tie.Need-at-requires Inv-loop μ-loop
+at-requires c κs = search needs
+
+at-requires-2 : tie.Need-at-requires-2 Inv-loop μ-loop
+at-requires-2 c κs = search needs
+
+at-requires-3 : tie.Need-at-requires-3 Inv-loop μ-loop
+at-requires-3 c κs = search needs
+
+on-requires : tie.Need-on-requires Inv-loop μ-loop
+on-requires c κs = search needs
+
+choose-requires : tie.Need-choose-requires Inv-loop μ-loop
+choose-requires c κs = search needs
+
+store-requires : tie.Need-store-requires Inv-loop μ-loop
+store-requires c κs = search needs
+
+add-i : tie.Need-add-i Inv-loop μ-loop
+add-i c = search needs
+
+loop-less : tie.Need-loop-less Inv-loop μ-loop
+loop-less c = search needs
+
+loop-again : tie.Need-loop-again Inv-loop μ-loop
+loop-again c =
+    let s = c .before .before .before .before .before .before .before .before .before .before .before .loop in
+    let a = c .before .before .before .before .before .before .before .before .before .before .before .before .before .before .before .before .args in
+    (search needs, c .before .before .store .kept .0 ∙ s .inv .1, holding-more (a .parent .now) (a .seq .now) (a .pos .now) (a .held .now) (s .held) (c .before .before .store .last .0) (s .i) (c .before .before .before .before .before .before .before .before .before .at .result) (c .before .before .before .before .before .before .before .at2 .result) (c .before .before .before .before .before .before .at3 .result) (c .before .before .before .before .choose .result) (c .before .before .before .before .before .on .result) (s .inv .2) (c .before .before .before .before .before .before .before .before .before .at .ensures) (c .before .before .before .before .before .before .before .at2 .ensures) (c .before .before .before .before .before .before .at3 .ensures) (c .before .before .before .before .before .on .ensures) (c .before .before .before .before .choose .ensures) (c .before .before .store .ensures))
+
+same-length : tie.Need-same-length Inv-loop μ-loop
+same-length c = search needs
+
+returns : tie.Need-returns Inv-loop μ-loop
+returns c =
+    let s = c .before .loop in
+    let a = c .before .before .before .before .before .before .args in
+    holding-all (a .parent .now) (a .seq .now) (a .pos .now) (a .held .now) (s .held) (s .i) (a .count) (s .inv .0) (c .loop-test .left) (s .inv .2)
+
+pub hold-spec : {M : Type 1} → statement M
+hold-spec =
+    tie.close
+    (tie.spec
+    Inv-loop
+    μ-loop
+    loop-holds
+    at-requires
+    at-requires-2
+    at-requires-3
+    on-requires
+    choose-requires
+    store-requires
+    add-i
+    loop-less
+    loop-again
+    same-length
+    returns)

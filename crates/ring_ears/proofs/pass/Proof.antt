@@ -1,0 +1,68 @@
+-- Link by link.
+use mathlib.Core.Path.{_≡_, subst, _∙_}
+use Prim.Native.Nat.{ℕ, _-_, _≤_}
+use native.Mathlib.Omega.{arith}
+use lib.ListN.{length}
+use Rattle.theory_ears.specs.Present.{sure}
+use Rattle.theory_ears.specs.Weaving.{Passed, passed-begun, passed-more}
+use borrow.Author.Needs.{needs}
+use Rattle.ring_ears.proofs.pass.Statement.{statement}
+use Rattle.ring_ears.proofs.pass.Tie as tie
+
+abbrev Inv-loop : tie.InvT-loop
+Inv-loop marks units links ends count parent seq pos₀ held₀ j₀ pos held j =
+    (j ≤ links) × (length pos ≡ length pos₀) × (length held ≡ length held₀) × Passed (sure marks) units links ends count parent seq j pos₀ held₀ pos held
+
+abbrev μ-loop : tie.MeasureT-loop
+μ-loop marks units links ends count parent seq pos₀ held₀ j₀ pos held j = links - j
+
+loop-holds : tie.Need-loop-holds Inv-loop μ-loop
+loop-holds c =
+    let a = c .before .before .before .before .before .before .args in
+    (search needs, search needs, search needs, passed-begun (sure (a .marks .now)) (a .units) (a .links) (a .ends .now) (a .count) (a .parent .now) (a .seq .now) (a .pos .now) (a .held .now))
+
+visit-requires : tie.Need-visit-requires Inv-loop μ-loop
+visit-requires c κs = search needs
+
+add-j : tie.Need-add-j Inv-loop μ-loop
+add-j c = search needs
+
+loop-less : tie.Need-loop-less Inv-loop μ-loop
+loop-less c = search needs
+
+loop-again : tie.Need-loop-again Inv-loop μ-loop
+loop-again c =
+    let s = c .before .before .before .before .before .before .before .before .loop in
+    let a = c .before .before .before .before .before .before .before .before .before .before .before .before .before .before .before .args in (
+      search needs,
+      c .before .before .before .before .visit .kept .1 .1 .1 .1 .1 .1 .1 .1 .0 ∙ s .inv .1,
+      c .before .before .before .before .visit .kept .1 .1 .1 .1 .1 .1 .1 .1 .1 .0 ∙ s .inv .2,
+      passed-more (sure (a .marks .now)) (a .units) (a .links) (a .ends .now) (a .count) (a .parent .now) (a .seq .now) (s .j) (a .pos .now) (a .held .now) (s .pos) (s .held) (c .before .before .before .before .visit .last .1 .1 .1 .1 .1 .1 .1 .1 .0) (c .before .before .before .before .visit .last .1 .1 .1 .1 .1 .1 .1 .1 .1 .0) (c .before .before .before .before .before .before .before .loop-test .taken) (s .inv .3) (c .before .before .before .before .visit .ensures),
+    )
+
+same-length : tie.Need-same-length Inv-loop μ-loop
+same-length c = search needs
+
+same-length-2 : tie.Need-same-length-2 Inv-loop μ-loop
+same-length-2 c = search needs
+
+returns : tie.Need-returns Inv-loop μ-loop
+returns c =
+    let s = c .before .loop in
+    let a = c .before .before .before .before .before .before .before .before .args in
+    let e : s .j ≡ a .links = omega (arith, s .inv .0, c .loop-test .left) in subst (λ (z : ℕ). Passed (sure (a .marks .now)) (a .units) (a .links) (a .ends .now) (a .count) (a .parent .now) (a .seq .now) z (a .pos .now) (a .held .now) (s .pos) (s .held)) e (s .inv .3)
+
+pub pass-spec : {M : Type 1} → statement M
+pass-spec =
+    tie.close
+    (tie.spec
+    Inv-loop
+    μ-loop
+    loop-holds
+    visit-requires
+    add-j
+    loop-less
+    loop-again
+    same-length
+    same-length-2
+    returns)

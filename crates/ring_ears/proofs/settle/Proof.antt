@@ -1,0 +1,90 @@
+-- Pass by pass; each that is not the last makes the order longer.
+use mathlib.Core.Path.{_≡_, _∙_}
+use Prim.Native.Nat.{_-_, _≤_}
+use lib.ListN.{length}
+use Rattle.theory_ears.specs.Present.{sure}
+use Rattle.theory_ears.specs.Weaving.{Lengthened, lengthened-begun, lengthened-more, settling-same, settling-full}
+use borrow.Author.Needs.{needs}
+use Rattle.ring_ears.proofs.settle.Statement.{statement}
+use Rattle.ring_ears.proofs.settle.Tie as tie
+
+abbrev Inv-loop : tie.InvT-loop
+Inv-loop marks units links ends b count parent seq pos₀ held₀ k₀ pos held k =
+    (k ≤ 257) × (length pos ≡ length pos₀) × (length held ≡ length held₀) × Lengthened (sure marks) units links ends b count parent seq pos₀ held₀ k pos held
+
+abbrev μ-loop : tie.MeasureT-loop
+μ-loop marks units links ends b count parent seq pos₀ held₀ k₀ pos held k = 257 - k
+
+loop-holds : tie.Need-loop-holds Inv-loop μ-loop
+loop-holds c =
+    let a = c .before .before .before .before .before .before .args in
+    (search needs, search needs, search needs, lengthened-begun (sure (a .marks .now)) (a .units) (a .links) (a .ends .now) (a .count) (a .parent .now) (a .seq .now) (a .b) (a .pos .now) (a .held .now))
+
+at-requires : tie.Need-at-requires Inv-loop μ-loop
+at-requires c κs = search needs
+
+pass-requires : tie.Need-pass-requires Inv-loop μ-loop
+pass-requires c κs = search needs
+
+at-requires-2 : tie.Need-at-requires-2 Inv-loop μ-loop
+at-requires-2 c κs = search needs
+
+same-length : tie.Need-same-length Inv-loop μ-loop
+same-length c = search needs
+
+same-length-2 : tie.Need-same-length-2 Inv-loop μ-loop
+same-length-2 c = search needs
+
+returns : tie.Need-returns Inv-loop μ-loop
+returns c =
+    let s = c .before .before .before .before .before .before .before .before .before .before .before .before .before .loop in
+    let a = c .before .before .before .before .before .before .before .before .before .before .before .before .before .before .before .before .before .before .before .before .args in
+    settling-same (sure (a .marks .now)) (a .units) (a .links) (a .ends .now) (a .count) (a .parent .now) (a .seq .now) (a .b) (a .pos .now) (a .held .now) (s .k) (s .pos) (s .held) (s .inv .3) (c .before .before .before .before .before .before .before .pass .last .1 .1 .1 .1 .1 .1 .1 .0) (c .before .before .before .before .before .before .before .pass .last .1 .1 .1 .1 .1 .1 .1 .1 .0) (c .before .before .before .before .before .before .before .before .before .before .at .result) (c .before .at2 .result) (c .before .before .before .before .before .before .before .before .before .before .at .ensures) (c .before .before .before .before .before .before .before .pass .ensures) (c .before .at2 .ensures) (c .if1 .taken)
+
+add-k : tie.Need-add-k Inv-loop μ-loop
+add-k c = search needs
+
+loop-less : tie.Need-loop-less Inv-loop μ-loop
+loop-less c = search needs
+
+loop-again : tie.Need-loop-again Inv-loop μ-loop
+loop-again c =
+    let s = c .before .before .before .before .before .before .before .before .before .before .before .before .before .loop in
+    let a = c .before .before .before .before .before .before .before .before .before .before .before .before .before .before .before .before .before .before .before .before .args in (
+      search needs,
+      c .before .before .before .before .before .before .before .pass .kept .1 .1 .1 .1 .1 .1 .1 .0 ∙ s .inv .1,
+      c .before .before .before .before .before .before .before .pass .kept .1 .1 .1 .1 .1 .1 .1 .1 .0 ∙ s .inv .2,
+      lengthened-more (sure (a .marks .now)) (a .units) (a .links) (a .ends .now) (a .count) (a .parent .now) (a .seq .now) (a .b) (a .pos .now) (a .held .now) (s .k) (s .pos) (s .held) (s .inv .3) (c .before .before .before .before .before .before .before .pass .last .1 .1 .1 .1 .1 .1 .1 .0) (c .before .before .before .before .before .before .before .pass .last .1 .1 .1 .1 .1 .1 .1 .1 .0) (c .before .before .before .before .before .before .before .before .before .before .at .result) (c .before .at2 .result) (c .before .before .before .before .before .before .before .before .before .before .at .ensures) (c .before .before .before .before .before .before .before .pass .ensures) (c .before .at2 .ensures) (c .if1 .left),
+    )
+
+same-length-3 : tie.Need-same-length-3 Inv-loop μ-loop
+same-length-3 c = search needs
+
+same-length-4 : tie.Need-same-length-4 Inv-loop μ-loop
+same-length-4 c = search needs
+
+returns-2 : tie.Need-returns-2 Inv-loop μ-loop
+returns-2 c =
+    let s = c .before .loop in
+    let a = c .before .before .before .before .before .before .before .before .args in
+    settling-full (sure (a .marks .now)) (a .units) (a .links) (a .ends .now) (a .count) (a .parent .now) (a .seq .now) (a .b) (a .pos .now) (a .held .now) (s .k) (s .pos) (s .held) (s .inv .3) (c .loop-test .left)
+
+pub settle-spec : {M : Type 1} → statement M
+settle-spec =
+    tie.close
+    (tie.spec
+    Inv-loop
+    μ-loop
+    loop-holds
+    at-requires
+    pass-requires
+    at-requires-2
+    same-length
+    same-length-2
+    returns
+    add-k
+    loop-less
+    loop-again
+    same-length-3
+    same-length-4
+    returns-2)

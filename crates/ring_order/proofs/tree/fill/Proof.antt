@@ -1,0 +1,82 @@
+-- Sweep by sweep; each that is not the last adds a unit.
+use mathlib.Core.Path.{_≡_, _∙_}
+use Prim.Native.Nat.{_-_, _≤_}
+use lib.ListN.{length}
+use Rattle.theory_ears.specs.Present.{sure}
+use Rattle.theory_ears.specs.Reaching.{Filling, filling-begun, filling-more, filled-same, filled-full}
+use borrow.Author.Needs.{needs}
+use Rattle.ring_order.proofs.tree.fill.Statement.{statement}
+use Rattle.ring_order.proofs.tree.fill.Tie as tie
+
+abbrev Inv-loop : tie.InvT-loop
+Inv-loop marks links ends count parent₀ seq₀ c₀ k₀ parent seq c k =
+    (k ≤ 257) × (length parent ≡ length parent₀) × (length seq ≡ length seq₀) × Filling (sure marks) links ends parent₀ seq₀ count k parent seq c
+
+abbrev μ-loop : tie.MeasureT-loop
+μ-loop marks links ends count parent₀ seq₀ c₀ k₀ parent seq c k = 257 - k
+
+loop-holds : tie.Need-loop-holds Inv-loop μ-loop
+loop-holds c =
+    let a = c .before .before .before .before .args in
+    (search needs, search needs, search needs, filling-begun (sure (a .marks .now)) (a .links) (a .ends .now) (a .parent .now) (a .seq .now) (a .count))
+
+sweep-requires : tie.Need-sweep-requires Inv-loop μ-loop
+sweep-requires c κs = search needs
+
+same-length : tie.Need-same-length Inv-loop μ-loop
+same-length c = search needs
+
+same-length-2 : tie.Need-same-length-2 Inv-loop μ-loop
+same-length-2 c = search needs
+
+returns : tie.Need-returns Inv-loop μ-loop
+returns c =
+    let s = c .before .before .before .before .before .before .before .before .before .loop in
+    let a = c .before .before .before .before .before .before .before .before .before .before .before .before .before .before .args in
+    filled-same (sure (a .marks .now)) (a .links) (a .ends .now) (a .parent .now) (a .seq .now) (a .count) (s .k) (s .parent) (s .seq) (s .c) (s .inv .3) (c .before .before .before .before .before .sweep .last .1 .1 .1 .1 .0) (c .before .before .before .before .before .sweep .last .1 .1 .1 .1 .1 .0) (c .before .before .before .before .before .sweep .result) (c .before .before .before .before .before .sweep .ensures) (c .if1 .taken)
+
+add-k : tie.Need-add-k Inv-loop μ-loop
+add-k c = search needs
+
+loop-less : tie.Need-loop-less Inv-loop μ-loop
+loop-less c = search needs
+
+loop-again : tie.Need-loop-again Inv-loop μ-loop
+loop-again c =
+    let s = c .before .before .before .before .before .before .before .before .before .loop in
+    let a = c .before .before .before .before .before .before .before .before .before .before .before .before .before .before .args in (
+      search needs,
+      c .before .before .before .before .before .sweep .kept .1 .1 .1 .1 .0 ∙ s .inv .1,
+      c .before .before .before .before .before .sweep .kept .1 .1 .1 .1 .1 .0 ∙ s .inv .2,
+      filling-more (sure (a .marks .now)) (a .links) (a .ends .now) (a .parent .now) (a .seq .now) (a .count) (s .k) (s .parent) (s .seq) (s .c) (s .inv .3) (c .before .before .before .before .before .sweep .last .1 .1 .1 .1 .0) (c .before .before .before .before .before .sweep .last .1 .1 .1 .1 .1 .0) (c .before .before .before .before .before .sweep .result) (c .before .before .before .before .before .sweep .ensures) (c .if1 .left),
+    )
+
+same-length-3 : tie.Need-same-length-3 Inv-loop μ-loop
+same-length-3 c = search needs
+
+same-length-4 : tie.Need-same-length-4 Inv-loop μ-loop
+same-length-4 c = search needs
+
+returns-2 : tie.Need-returns-2 Inv-loop μ-loop
+returns-2 c =
+    let s = c .before .loop in
+    let a = c .before .before .before .before .before .before .args in
+    filled-full (sure (a .marks .now)) (a .links) (a .ends .now) (a .parent .now) (a .seq .now) (a .count) (s .k) (s .parent) (s .seq) (s .c) (s .inv .3) (c .loop-test .left)
+
+pub fill-spec : {M : Type 1} → statement M
+fill-spec =
+    tie.close
+    (tie.spec
+    Inv-loop
+    μ-loop
+    loop-holds
+    sweep-requires
+    same-length
+    same-length-2
+    returns
+    add-k
+    loop-less
+    loop-again
+    same-length-3
+    same-length-4
+    returns-2)

@@ -1,0 +1,68 @@
+-- Link by link.
+use mathlib.Core.Path.{_≡_, subst, _∙_}
+use Prim.Native.Nat.{ℕ, _-_, _≤_}
+use native.Mathlib.Omega.{arith}
+use lib.ListN.{length}
+use Rattle.theory_ears.specs.Present.{sure}
+use Rattle.theory_ears.specs.Reaching.{Swept, swept-begun, swept-more}
+use borrow.Author.Needs.{needs}
+use Rattle.ring_order.proofs.tree.sweep.Statement.{statement}
+use Rattle.ring_order.proofs.tree.sweep.Tie as tie
+
+abbrev Inv-loop : tie.InvT-loop
+Inv-loop marks links ends count parent₀ seq₀ c₀ j₀ parent seq c j =
+    (j ≤ links) × (length parent ≡ length parent₀) × (length seq ≡ length seq₀) × Swept (sure marks) links ends j parent₀ seq₀ count parent seq c
+
+abbrev μ-loop : tie.MeasureT-loop
+μ-loop marks links ends count parent₀ seq₀ c₀ j₀ parent seq c j = links - j
+
+loop-holds : tie.Need-loop-holds Inv-loop μ-loop
+loop-holds c =
+    let a = c .before .before .before .before .args in
+    (search needs, search needs, search needs, swept-begun (sure (a .marks .now)) (a .links) (a .ends .now) (a .parent .now) (a .seq .now) (a .count))
+
+reach-requires : tie.Need-reach-requires Inv-loop μ-loop
+reach-requires c κs = search needs
+
+add-j : tie.Need-add-j Inv-loop μ-loop
+add-j c = search needs
+
+loop-less : tie.Need-loop-less Inv-loop μ-loop
+loop-less c = search needs
+
+loop-again : tie.Need-loop-again Inv-loop μ-loop
+loop-again c =
+    let s = c .before .before .before .before .before .before .before .before .loop in
+    let a = c .before .before .before .before .before .before .before .before .before .before .before .before .before .args in (
+      search needs,
+      c .before .before .before .before .reach .kept .1 .1 .1 .1 .1 .0 ∙ s .inv .1,
+      c .before .before .before .before .reach .kept .1 .1 .1 .1 .1 .1 .0 ∙ s .inv .2,
+      swept-more (sure (a .marks .now)) (a .links) (a .ends .now) (s .j) (a .parent .now) (a .seq .now) (a .count) (s .parent) (s .seq) (s .c) (c .before .before .before .before .reach .last .1 .1 .1 .1 .1 .0) (c .before .before .before .before .reach .last .1 .1 .1 .1 .1 .1 .0) (c .before .before .before .before .reach .result) (c .before .before .before .before .before .before .before .loop-test .taken) (s .inv .3) (c .before .before .before .before .reach .ensures),
+    )
+
+same-length : tie.Need-same-length Inv-loop μ-loop
+same-length c = search needs
+
+same-length-2 : tie.Need-same-length-2 Inv-loop μ-loop
+same-length-2 c = search needs
+
+returns : tie.Need-returns Inv-loop μ-loop
+returns c =
+    let s = c .before .loop in
+    let a = c .before .before .before .before .before .before .args in
+    let e : s .j ≡ a .links = omega (arith, s .inv .0, c .loop-test .left) in subst (λ (z : ℕ). Swept (sure (a .marks .now)) (a .links) (a .ends .now) z (a .parent .now) (a .seq .now) (a .count) (s .parent) (s .seq) (s .c)) e (s .inv .3)
+
+pub sweep-spec : {M : Type 1} → statement M
+sweep-spec =
+    tie.close
+    (tie.spec
+    Inv-loop
+    μ-loop
+    loop-holds
+    reach-requires
+    add-j
+    loop-less
+    loop-again
+    same-length
+    same-length-2
+    returns)

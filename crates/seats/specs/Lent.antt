@@ -1,8 +1,0 @@
--- Eight states in words that a caller lends, and a number for the turn, seen as an office (T-12).
-use mathlib.Core.List.{List, map}
-use Prim.Native.Nat.{ℕ}
-use Rattle.words.specs.Layout.{stateOf}
-use Rattle.office.specs.Office.{Office}
-
-unfoldable pub officeOf : ℕ → List (List ℕ) → Office
-officeOf last words = record { seats = map stateOf words; last = last }

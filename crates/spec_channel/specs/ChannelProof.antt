@@ -1,0 +1,126 @@
+-- The proof of what T-12 asks.
+use mathlib.Core.Path.{_≡_, refl, sym, ap, _∙_}
+use mathlib.Core.Bool.{true, false}
+use mathlib.Core.Logic.{_⊎_, inl, inr}
+use mathlib.Core.List.{List, [], _∷_}
+use Prim.Native.Nat.{ℕ, zero, suc, _+_, _<_}
+use native.Mathlib.Omega.{arith}
+use lib.ListN.{replicate}
+use Rattle.base_lists.specs.Tests.{not-both}
+use Rattle.spec_state.specs.declared.reply.Reply.the-variants.{Done}
+use Rattle.spec_machine.specs.State.{State, finished}
+use Rattle.spec_machine.specs.Load.{Input, loadRefusal, loaded}
+use Rattle.spec_machine.specs.LoadLaws.{load-accepted}
+use Rattle.spec_machine.specs.WellFormed.{wellFormed}
+use Rattle.spec_machine.specs.Step.{step}
+use Rattle.spec_machine.specs.StepLaws.{loaded-wellFormed, step-wellFormed}
+use Rattle.spec_machine.specs.Calls.{Answer, roundAnswer, roundRefusal, loadAnswer}
+use Rattle.spec_claim.specs.Play.{Call, round, play, usedBy, used}
+use Rattle.spec_claim.specs.Claim.{Claim, fresh}
+use Rattle.spec_claim.specs.ClaimProof.{claim}
+use Rattle.spec_channel.specs.Office
+use Rattle.spec_channel.specs.OfficeLaws.{Rounds, none, one, waiting-parts, rounds-made}
+use Rattle.spec_channel.specs.OfficeLaws
+use Rattle.spec_channel.specs.Fairness.{InOrder, round-soon, play-order, tick-goes, tick-rests}
+use Rattle.spec_channel.specs.TickCauses.{tick-first-cause, tick-some-cause}
+use Rattle.spec_channel.specs.Channel.{Gives, Channel, OneChannel}
+
+-- ---- rounds of a seat are round calls
+
+round-made : (s : State) → wellFormed s ≡ true → finished s ≡ false → roundAnswer s ≡ record { state = step s; reply = Done }
+unfolding roundAnswer roundRefusal
+round-made s w f = rw (w, f) refl
+
+-- one call, then the others
+call-first : (cs : List Call) (s : State)
+    → (play (round ∷ cs) s .last ≡ play cs (roundAnswer s .state) .last)
+    × (used (round ∷ cs) (play (round ∷ cs) s .replies) ≡ usedBy round (roundAnswer s .reply) + used cs (play cs (roundAnswer s .state) .replies))
+unfolding play used
+call-first cs s = (refl, refl)
+
+no-call : (s : State) → (play [] s .last ≡ s) × (used [] (play [] s .replies) ≡ 0)
+unfolding play used
+no-call s = (refl, refl)
+
+rounds-played : (k : ℕ) (s e : State) → wellFormed s ≡ true → Rounds k s e
+    → (play (replicate k round) s .last ≡ e) × (used (replicate k round) (play (replicate k round) s .replies) ≡ k)
+rounds-played zero s e w none = no-call s
+rounds-played (suc k) s e w (one due r) =
+    let cs = replicate k round in
+    let f = waiting-parts s due .1 in
+    let (p, q) = rounds-played k (step s) e (step-wellFormed s w f) r in
+    let (a, b) = call-first cs s in
+    let m = round-made s w f in
+    let more : 1 + k ≡ suc k = omega arith in
+    (a ∙ (ap (λ (x : Answer). play cs (x .state) .last) m ∙ p), b ∙ (ap (λ (x : Answer). usedBy round (x .reply) + used cs (play cs (x .state) .replies)) m ∙ (ap (λ (n : ℕ). 1 + n) q ∙ more)))
+
+load-done : (input : Input) (s : State) → loadRefusal input ≡ 0 → loadAnswer input s ≡ record { state = loaded input; reply = Done }
+unfolding loadAnswer
+load-done input s e = rw e refl
+
+-- demand 3 of a survey after rounds of its own
+rounds-claim : (input : Input) (k : ℕ) (e : State) → loadRefusal input ≡ 0 → Rounds k (loaded input) e
+    → Claim input (loaded input) (replicate k round) e k
+rounds-claim input k e a r =
+    let (p, q) = rounds-played k (loaded input) e (loaded-wellFormed input (load-accepted input a)) r in
+    let c = claim input (loaded input) (fresh (loaded input) (load-done input (loaded input) a)) (replicate k round) in
+    rw (p, q) at c
+
+-- ---- a seat that does not wait
+
+rests-still : (k : ℕ) (s e : State) → Office.waiting s ≡ false → Rounds k s e → e ≡ s
+rests-still zero s e w none = refl
+rests-still (suc k) s e w (one due r) = absurd (not-both (Office.waiting s) due w)
+
+-- ---- an office in order
+
+module _ (o : Office.Office) (I : InOrder o) where
+  gives : Office.tickRefusal o ≡ 0 → Gives o (Office.tick o)
+  gives e =
+      let turned : Office.tick o .last ≡ Office.served o = rw (OfficeLaws.tick-made o e) refl in
+      record {
+        next = rw turned (OfficeLaws.served-next o e);
+        round = rw turned (OfficeLaws.tick-same o (I .eight) e);
+        others = λ j h. OfficeLaws.tick-other o j (λ _ q. h (turned ∙ q));
+      }
+
+  sound : Office.tickRefusal o ≡ 10 → ⊥
+  sound e = go (either-waits)
+    where
+      either-waits : ((i : ℕ) × (i < 8) × (Office.waits o i ≡ true)) ⊎ ((i : ℕ) → i < 8 → Office.waits o i ≡ false)
+      either-waits = OfficeLaws.some-or-none (Office.waits o)
+
+      go : ((i : ℕ) × (i < 8) × (Office.waits o i ≡ true)) ⊎ ((i : ℕ) → i < 8 → Office.waits o i ≡ false) → ⊥
+      go (inl (i, h, w)) = let z : _≡_ {A = ℕ} 10 0 = sym e ∙ tick-goes o I i h w in omega arith
+      go (inr h) = let z : _≡_ {A = ℕ} 10 11 = sym e ∙ tick-rests o I h in omega arith
+
+  channel : Channel o
+  channel =
+      record {
+        cause = tick-first-cause o;
+        refused = tick-some-cause o;
+        sound = sound;
+        gives = gives;
+        unmoved = OfficeLaws.tick-refused o;
+        missing = OfficeLaws.seat-missing;
+        own = OfficeLaws.seat-there;
+        takes = λ i input e. record {
+          survey = OfficeLaws.load-same i input o (I .eight) e;
+          others = λ j h. OfficeLaws.load-other i input o j (λ q _. h q);
+          turn = OfficeLaws.load-turn i input o;
+        };
+        left = λ i input h. OfficeLaws.load-refused i input o h;
+        soon = λ i h w es l t. round-soon es o i I h w l t;
+        rests = λ i w es l. rests-still _ (Office.seat i o) (Office.seat i (Office.play es o)) w (rounds-made i es o (I .eight) l);
+        alone = λ i input e es l. alone i input e es l;
+      }
+    where
+      alone : (i : ℕ) (input : Input) → Office.seatRefusal i input ≡ 0 → (es : List Office.Event) → Office.NotAgain i es
+          → Claim input (loaded input) (replicate (Office.roundsOf i es (Office.loadSeat i input o)) round) (Office.seat i (Office.play es (Office.loadSeat i input o))) (Office.roundsOf i es (Office.loadSeat i input o))
+      alone i input e es l =
+          let r = rounds-made i es (Office.loadSeat i input o) (OfficeLaws.load-length i input o ∙ I .eight) l in
+          rounds-claim input (Office.roundsOf i es (Office.loadSeat i input o)) (Office.seat i (Office.play es (Office.loadSeat i input o)))
+          (OfficeLaws.seat-accepted i input e .1) (rw (OfficeLaws.load-same i input o (I .eight) e) at r)
+
+pub one-channel : OneChannel
+one-channel start b es = channel (Office.play es start) (play-order es start (record { eight = b .eight; turn = rw (b .turn) (omega arith); sound = λ i h. inl (b .empty i h) }))

@@ -1,0 +1,36 @@
+// The rest of stage 2's rounds at once: a search finds distances ahead of them, and tests say whether these are right. The search is proved to end and to stay
+// within its tables, no more.
+use stage02_distances::Leap;
+ghost use mathlib.Core.Path.{_≡_};
+ghost use mathlib.Core.Bool.{true};
+ghost use Rattle.stage02_distances.specs.Goal.{Leapt};
+
+mod ahead;
+
+// From the round after `made` rounds on.
+pub fn leap<'a>(
+    units: u16,
+    links: u16,
+    made: u16,
+    ends: &'a [u16; 2048],
+    levels: &'a [i16; 1024],
+    parent: [u16; 256],
+    dist: [u16; 256],
+) -> Leap
+    ensures { λ r. ⌜ (r .right ≡ true → Leapt units links made (r .last) (now (ends .entry)) (now (levels .entry)) parent dist (r .parent) (r .dist)) ⌝ }
+{
+    let count = table_values::least_of(units, 256);
+    let most = table_values::least_of(links, 1024);
+    let found = ahead::distances(count, most, made, ends, dist);
+    stage02_distances::tested(
+        units,
+        links,
+        made,
+        ends,
+        levels,
+        &found.far,
+        found.tip,
+        parent,
+        dist,
+    )
+}

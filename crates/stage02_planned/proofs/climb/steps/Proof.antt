@@ -1,0 +1,61 @@
+-- Step by step, until the colour unit is met, the chain ends, or it has gone on for all units.
+use mathlib.Core.Path.{sym, _∙_}
+use Prim.Native.Nat.{_-_, _<_}
+use Rattle.stage02_planned.specs.Climb.{Climbing, climb-begins, climb-arrives, climb-ends, climb-on, climb-over}
+use borrow.Author.Needs.{needs}
+use Rattle.stage02_planned.proofs.climb.steps.Statement.{statement}
+use Rattle.stage02_planned.proofs.climb.steps.Tie as tie
+
+abbrev Inv-loop : tie.InvT-loop
+Inv-loop plan c units v w₀ far₀ w far = (w < 65536) × Climbing plan c units v far w
+
+abbrev μ-loop : tie.MeasureT-loop
+μ-loop plan c units v w₀ far₀ w far = units - far
+
+loop-holds : tie.Need-loop-holds Inv-loop μ-loop
+loop-holds c = (search needs, climb-begins _ _ _ _)
+
+returns : tie.Need-returns Inv-loop μ-loop
+returns c = climb-arrives _ _ _ _ _ _ (c .before .before .loop .inv .1) (c .before .loop-test .taken) (c .if1 .taken)
+
+cast-word : tie.Need-cast-word Inv-loop μ-loop
+cast-word c = search needs
+
+word-requires : tie.Need-word-requires Inv-loop μ-loop
+word-requires c κs = search needs
+
+returns-2 : tie.Need-returns-2 Inv-loop μ-loop
+returns-2 c =
+    let e = c .before .before in
+    climb-ends _ _ _ _ _ _ (e .before .before .loop .inv .1) (e .before .loop-test .taken) (e .if1 .left) (sym (c .before .word .ensures) ∙ c .if2 .taken)
+
+add-far : tie.Need-add-far Inv-loop μ-loop
+add-far c = search needs
+
+loop-less : tie.Need-loop-less Inv-loop μ-loop
+loop-less c = search needs
+
+loop-again : tie.Need-loop-again Inv-loop μ-loop
+loop-again c =
+    let w = c .before in
+    let e = w .before in
+    (search needs, rw (w .word .ensures) (climb-on _ _ _ _ _ _ (e .before .before .loop .inv .1) (search needs) (e .before .loop-test .taken) (e .if1 .left) (λ q. c .if2 .left (w .word .ensures ∙ q))))
+
+returns-3 : tie.Need-returns-3 Inv-loop μ-loop
+returns-3 c = climb-over _ _ _ _ _ _ (c .before .loop .inv .1) (c .loop-test .left)
+
+pub steps-spec : {M : Type 1} → statement M
+steps-spec =
+    tie.close
+    (tie.spec
+    Inv-loop
+    μ-loop
+    loop-holds
+    returns
+    cast-word
+    word-requires
+    returns-2
+    add-far
+    loop-less
+    loop-again
+    returns-3)

@@ -1,0 +1,118 @@
+-- Unit by unit.
+use mathlib.Core.Path.{_≡_, refl, _∙_}
+use mathlib.Core.Bool.{cond}
+use mathlib.Core.List.{List}
+use Prim.Native.Nat.{ℕ, _≤_, _<_, _-_, min}
+use native.Mathlib.Decide.{decLt}
+use native.Mathlib.Omega.{arith}
+use lib.Dec.{ltb}
+use lib.ListN.{length, getD}
+use borrow.Author.Tests.{lt-ltb, le-ltb}
+use Rattle.base_lists.specs.Tables.{over, getD-over, getD-over-past}
+use Rattle.base_lists.specs.Rounds.{over-more}
+use Rattle.spec_rules.specs.Basics.{ABSENT}
+use Rattle.stage09_heads.specs.Heads.{headOf}
+use borrow.Author.Needs.{needs}
+use Rattle.stage09_heads.proofs.of.Statement.{statement}
+use Rattle.stage09_heads.proofs.of.Tie as tie
+
+-- a head, or what was there
+head-at : (n : ℕ) (f : ℕ → ℕ) (old new : List ℕ) (u : ℕ) → length old ≡ 256 → new ≡ over n f old → u < 256 → getD old u 0 ≡ ABSENT → Dec (u < n)
+    → getD new u 0 ≡ cond (ltb u n) (f u) ABSENT
+head-at n f old new u full is h was (yes l) = rw (is, lt-ltb u n l) (getD-over n f old u 0 l (omega (arith, h, full)))
+head-at n f old new u full is h was (no l) = rw (is, le-ltb u n (omega (arith, l))) (getD-over-past n f old u 0 (omega (arith, l)) ∙ was)
+
+abbrev Inv-loop : tie.InvT-loop
+Inv-loop units parent parents count new₀ u₀ new u = (u ≤ count) × (length new₀ ≡ 256) × (length new ≡ 256) × (new ≡ over u (headOf parent parents) new₀)
+
+abbrev μ-loop : tie.MeasureT-loop
+μ-loop units parent parents count new₀ u₀ new u = count - u
+
+least-of-requires : tie.Need-least-of-requires Inv-loop μ-loop
+least-of-requires c κs = search needs
+
+blank-requires : tie.Need-blank-requires Inv-loop μ-loop
+blank-requires c κs = search needs
+
+loop-holds : tie.Need-loop-holds Inv-loop μ-loop
+loop-holds c = search needs
+
+cast-at : tie.Need-cast-at Inv-loop μ-loop
+cast-at c = search needs
+
+mul-either : tie.Need-mul-either Inv-loop μ-loop
+mul-either c = search needs
+
+element-copy-out-either : tie.Need-element-copy-out-either Inv-loop μ-loop
+element-copy-out-either c = search needs
+
+mul-either-2 : tie.Need-mul-either-2 Inv-loop μ-loop
+mul-either-2 c = search needs
+
+element-copy-out-either-2 : tie.Need-element-copy-out-either-2 Inv-loop μ-loop
+element-copy-out-either-2 c = search needs
+
+either-requires : tie.Need-either-requires Inv-loop μ-loop
+either-requires c κs = search needs
+
+mul-choose : tie.Need-mul-choose Inv-loop μ-loop
+mul-choose c = search needs
+
+element-copy-out-choose : tie.Need-element-copy-out-choose Inv-loop μ-loop
+element-copy-out-choose c = search needs
+
+choose-requires : tie.Need-choose-requires Inv-loop μ-loop
+choose-requires c κs = search needs
+
+mul-new : tie.Need-mul-new Inv-loop μ-loop
+mul-new c = search needs
+
+array-write-new : tie.Need-array-write-new Inv-loop μ-loop
+array-write-new c = search needs
+
+add-u : tie.Need-add-u Inv-loop μ-loop
+add-u c = search needs
+
+loop-less : tie.Need-loop-less Inv-loop μ-loop
+loop-less c = search needs
+
+loop-again : tie.Need-loop-again Inv-loop μ-loop
+loop-again c =
+    let s = c .before .before .before .before .before .before in
+    let a = s .before .before .before .args in
+    let is : c .choose .result ≡ headOf (a .parent .now) (a .parents .now) (s .loop .u) = cc in
+    (search needs, search needs, search needs, over-more _ _ _ _ _ _ (s .loop .inv .3) is refl)
+
+returns : tie.Need-returns Inv-loop μ-loop
+returns c =
+    let s = c .before in
+    let blank = s .before in
+    let few = blank .before in
+    let a = few .before .args in
+    let all : s .loop .u ≡ min (a .units) 256 = omega (arith, s .loop .inv .0, c .loop-test .left, few .least-of .ensures) in
+    λ u h. head-at (min (a .units) 256) (headOf (a .parent .now) (a .parents .now)) (blank .blank .result) (s .loop .new) u (s .loop .inv .1) (rw all at (s .loop .inv .3)) h (blank .blank .ensures u h) (decLt u (min (a .units) 256))
+
+pub of-spec : {M : Type 1} → statement M
+of-spec =
+    tie.close
+    (tie.spec
+    Inv-loop
+    μ-loop
+    least-of-requires
+    blank-requires
+    loop-holds
+    cast-at
+    mul-either
+    element-copy-out-either
+    mul-either-2
+    element-copy-out-either-2
+    either-requires
+    mul-choose
+    element-copy-out-choose
+    choose-requires
+    mul-new
+    array-write-new
+    add-u
+    loop-less
+    loop-again
+    returns)

@@ -1,0 +1,30 @@
+-- Links, then parents.
+use native.Mathlib.Omega.{arith}
+use borrow.Author.Needs.{needs}
+use Rattle.stage09_pairs.proofs.joins.Statement.{statement}
+use Rattle.stage09_pairs.proofs.joins.Tie as tie
+
+least-of-requires : tie.Need-least-of-requires
+least-of-requires c κs = search needs
+
+least-of-requires-2 : tie.Need-least-of-requires-2
+least-of-requires-2 c κs = search needs
+
+of-links-requires : tie.Need-of-links-requires
+of-links-requires c κs = search needs
+
+of-parents-requires : tie.Need-of-parents-requires
+of-parents-requires c κs = search needs
+
+returns : tie.Need-returns
+returns c =
+    let l = c .before .before in
+    let two = l .before .before in
+    let one = two .before in
+    let a = one .before .args in
+    (rw (← two .least-of2 .ensures, ← one .least-of .ensures) (c .of-parents .ensures (one .least-of .result) (a .ends .now) (a .linked .now) (l .of-links .ensures .1)), omega (arith, c .of-parents .kept, c .before .of-parents-arg .given .0))
+
+pub joins-spec : {M : Type 1} → statement M
+joins-spec =
+    tie.close
+    (tie.spec least-of-requires least-of-requires-2 of-links-requires of-parents-requires returns)

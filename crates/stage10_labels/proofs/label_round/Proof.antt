@@ -1,0 +1,84 @@
+-- Link by link, from the buckets.
+use mathlib.Core.Path.{_≡_, refl, _∙_}
+use Prim.Native.Nat.{_≤_, _-_}
+use lib.ListN.{length}
+use Rattle.base_lists.specs.Tables.{over}
+use Rattle.base_lists.specs.Rounds.{over-more, over-all, over-least}
+use Rattle.spec_rules.specs.LabelsLaws.{labelBy, label-round}
+use borrow.Author.Needs.{needs}
+use Rattle.stage10_labels.proofs.label_round.Statement.{statement}
+use Rattle.stage10_labels.proofs.label_round.Tie as tie
+
+abbrev Inv-loop : tie.InvT-loop
+Inv-loop links class first absent new₀ j₀ new j = (j ≤ links) × (length new ≡ 1024) × (new ≡ over j (labelBy links class first absent) new₀)
+
+abbrev μ-loop : tie.MeasureT-loop
+μ-loop links class first absent new₀ j₀ new j = links - j
+
+firsts-requires : tie.Need-firsts-requires Inv-loop μ-loop
+firsts-requires c κs = search needs
+
+first-at-requires : tie.Need-first-at-requires Inv-loop μ-loop
+first-at-requires c κs = search needs
+
+loop-holds : tie.Need-loop-holds Inv-loop μ-loop
+loop-holds c = search needs
+
+cast-at : tie.Need-cast-at Inv-loop μ-loop
+cast-at c = search needs
+
+slice-aggregate-first-by : tie.Need-slice-aggregate-first-by Inv-loop μ-loop
+slice-aggregate-first-by c = search needs
+
+mul-first-by : tie.Need-mul-first-by Inv-loop μ-loop
+mul-first-by c = search needs
+
+element-copy-out-first-by : tie.Need-element-copy-out-first-by Inv-loop μ-loop
+element-copy-out-first-by c = search needs
+
+first-by-requires : tie.Need-first-by-requires Inv-loop μ-loop
+first-by-requires c κs = search needs
+
+mul-new : tie.Need-mul-new Inv-loop μ-loop
+mul-new c = search needs
+
+array-write-new : tie.Need-array-write-new Inv-loop μ-loop
+array-write-new c = search needs
+
+add-j : tie.Need-add-j Inv-loop μ-loop
+add-j c = search needs
+
+loop-less : tie.Need-loop-less Inv-loop μ-loop
+loop-less c = search needs
+
+loop-again : tie.Need-loop-again Inv-loop μ-loop
+loop-again c = (search needs, search needs, over-more _ _ _ _ _ _ (c .before .before .before .before .before .loop .inv .2) (c .first-by .ensures) refl)
+
+returns : tie.Need-returns Inv-loop μ-loop
+returns c =
+    let s = c .before in
+    let g = s .before .first-at in
+    let f = s .before .before .before .firsts in
+    let a = s .before .before .before .before .before .args in
+    s .loop .inv .2 ∙ over-all _ _ _ _ (s .loop .inv .0) (c .loop-test .left) ∙ label-round (a .links) (a .class .now) (f .result) (g .result) (a .label) (f .ensures) (g .ensures)
+
+pub label-round-spec : {M : Type 1} → statement M
+label-round-spec =
+    tie.close
+    (tie.spec
+    Inv-loop
+    μ-loop
+    firsts-requires
+    first-at-requires
+    loop-holds
+    cast-at
+    slice-aggregate-first-by
+    mul-first-by
+    element-copy-out-first-by
+    first-by-requires
+    mul-new
+    array-write-new
+    add-j
+    loop-less
+    loop-again
+    returns)

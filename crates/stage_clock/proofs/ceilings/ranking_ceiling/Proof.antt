@@ -1,0 +1,24 @@
+-- lg of at most 2 * 256 - 2 is at most 9.
+use native.Mathlib.Omega.{arith}
+use borrow.Author.Needs.{needs}
+use Rattle.base_log2.specs.LgLaws.{lg-least}
+use Rattle.stage_clock.proofs.ceilings.ranking_ceiling.Statement.{statement}
+use Rattle.stage_clock.proofs.ceilings.ranking_ceiling.Tie as tie
+
+mul-less : tie.Need-mul-less
+mul-less c = search needs
+
+less-requires : tie.Need-less-requires
+less-requires c κs = search needs
+
+lg-requires : tie.Need-lg-requires
+lg-requires c κs = search needs
+
+add-result : tie.Need-add-result
+add-result c = omega (arith, lg-least (c .before .less .result) 9 (omega arith))
+
+returns : tie.Need-returns
+returns c = rw (c .lg .ensures, c .before .less .ensures)
+
+pub ranking-ceiling-spec : {M : Type 1} → statement M
+ranking-ceiling-spec = tie.close (tie.spec mul-less less-requires lg-requires add-result returns)

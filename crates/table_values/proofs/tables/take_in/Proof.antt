@@ -1,0 +1,32 @@
+-- By the test of the target.
+use borrow.Author.Tests.{lt-ltb, le-ltb}
+use Rattle.base_lists.specs.Scatter.{takesIn}
+use borrow.Author.Needs.{needs}
+use Rattle.table_values.proofs.tables.take_in.Statement.{statement}
+use Rattle.table_values.proofs.tables.take_in.Tie as tie
+
+at-requires : tie.Need-at-requires
+at-requires c κs = search needs
+
+op-of-requires : tie.Need-op-of-requires
+op-of-requires c κs = search needs
+
+store-requires : tie.Need-store-requires
+store-requires c κs = search needs
+
+same-length : tie.Need-same-length
+same-length c = search needs
+
+returns : tie.Need-returns
+unfolding takesIn
+returns c =
+    let s = c .before .before .before .before .before .before .before .before .before in
+    rw (lt-ltb (s .args .a) (s .args .n) (c .before .before .before .before .before .before .before .if1 .taken)) (cc)
+
+returns-2 : tie.Need-returns-2
+unfolding takesIn
+returns-2 c = rw (le-ltb (c .before .before .args .a) (c .before .before .args .n) (c .if1 .left))
+
+pub take-in-spec : {M : Type 1} → statement M
+take-in-spec =
+    tie.close (tie.spec at-requires op-of-requires store-requires same-length returns returns-2)

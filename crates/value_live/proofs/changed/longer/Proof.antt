@@ -1,0 +1,76 @@
+-- The lists with one link more, and the table of them.
+use mathlib.Core.Path.{_≡_, sym, _∙_}
+use Prim.Native.Nat.{_+_, _*_}
+use native.Mathlib.Omega.{arith}
+use lib.ListN.{length, length-take}
+use lib.Seq.{length-take-le}
+use mir.Syntax.{w16}
+use mir.ValLaws.{toZ-ofZ}
+use Rattle.value_live.specs.ChangedLaws.{lists-of}
+use borrow.Author.Needs.{needs}
+use Rattle.value_live.proofs.changed.longer.Statement.{statement}
+use Rattle.value_live.proofs.changed.longer.Tie as tie
+
+cast-m : tie.Need-cast-m
+cast-m c = search needs
+
+longer-ends-requires : tie.Need-longer-ends-requires
+longer-ends-requires c κs = search needs
+
+longer-levels-requires : tie.Need-longer-levels-requires
+longer-levels-requires c κs = search needs
+
+mul-words : tie.Need-mul-words
+mul-words c = search needs
+
+add-words : tie.Need-add-words
+add-words c = search needs
+
+array-share-prefix-words : tie.Need-array-share-prefix-words
+array-share-prefix-words c = search needs
+
+slice-aggregate-made : tie.Need-slice-aggregate-made
+slice-aggregate-made c = sym (length-take-le _ _ (search needs))
+
+add-heard : tie.Need-add-heard
+add-heard c = search needs
+
+array-share-prefix-heard : tie.Need-array-share-prefix-heard
+array-share-prefix-heard c = search needs
+
+slice-aggregate-made-2 : tie.Need-slice-aggregate-made-2
+slice-aggregate-made-2 c = sym (length-take-le _ _ (search needs))
+
+made-requires : tie.Need-made-requires
+made-requires c κs =
+    let w = c .before .before .before .longer-ends .result in
+    let h = c .before .before .longer-levels .result in
+    let full : length w ≡ 2048 = search needs in
+    let heard : length h ≡ 1024 = search needs in
+    let m = c .before .before .before .before .before .before .args .live .links in
+    (omega (arith, full, length-take (2 * m + 2) w), omega (arith, heard, length-take (m + 1) h))
+
+returns : tie.Need-returns
+returns c =
+    let h = c .before .before .before in
+    let w = h .before in
+    let s = w .before .before .before in
+    let levels = rw (toZ-ofZ w16 (s .args .level) (s .fits .level)) at (h .longer-levels .ensures) in
+    c .made .ensures ∙ lists-of (s .args .live .units) _ _ _ _ (w .longer-ends .ensures) levels
+
+pub longer-spec : {M : Type 1} → statement M
+longer-spec =
+    tie.close
+    (tie.spec
+    cast-m
+    longer-ends-requires
+    longer-levels-requires
+    mul-words
+    add-words
+    array-share-prefix-words
+    slice-aggregate-made
+    add-heard
+    array-share-prefix-heard
+    slice-aggregate-made-2
+    made-requires
+    returns)

@@ -1,0 +1,81 @@
+-- The lists without the link, and the table of them.
+use mathlib.Core.Path.{_≡_, sym, _∙_}
+use Prim.Native.Nat.{_-_, _*_}
+use native.Mathlib.Omega.{arith}
+use lib.ListN.{length, length-take}
+use lib.Seq.{length-take-le}
+use borrow.Author.Needs.{needs}
+use Rattle.value_live.specs.ChangedLaws.{lists-of}
+use Rattle.value_live.proofs.changed.shorter.Statement.{statement}
+use Rattle.value_live.proofs.changed.shorter.Tie as tie
+
+cast-m : tie.Need-cast-m
+cast-m c = search needs
+
+mul-closed-ends : tie.Need-mul-closed-ends
+mul-closed-ends c = search needs
+
+mul-closed-ends-2 : tie.Need-mul-closed-ends-2
+mul-closed-ends-2 c = search needs
+
+closed-ends-requires : tie.Need-closed-ends-requires
+closed-ends-requires c κs = search needs
+
+closed-levels-requires : tie.Need-closed-levels-requires
+closed-levels-requires c κs = search needs
+
+mul-words : tie.Need-mul-words
+mul-words c = search needs
+
+sub-words : tie.Need-sub-words
+sub-words c = search needs
+
+array-share-prefix-words : tie.Need-array-share-prefix-words
+array-share-prefix-words c = search needs
+
+slice-aggregate-made : tie.Need-slice-aggregate-made
+slice-aggregate-made c = sym (length-take-le _ _ (search needs))
+
+sub-heard : tie.Need-sub-heard
+sub-heard c = search needs
+
+array-share-prefix-heard : tie.Need-array-share-prefix-heard
+array-share-prefix-heard c = search needs
+
+slice-aggregate-made-2 : tie.Need-slice-aggregate-made-2
+slice-aggregate-made-2 c = sym (length-take-le _ _ (search needs))
+
+made-requires : tie.Need-made-requires
+made-requires c κs =
+    let w = c .before .before .before .closed-ends .result in
+    let h = c .before .before .closed-levels .result in
+    let full : length w ≡ 2048 = search needs in
+    let heard : length h ≡ 1024 = search needs in
+    let m = c .before .before .before .before .before .before .args .live .links in
+    (omega (arith, full, length-take (2 * m - 2) w), omega (arith, heard, length-take (m - 1) h))
+
+returns : tie.Need-returns
+returns c =
+    let h = c .before .before .before in
+    let w = h .before in
+    let s = w .before .before .before in
+    c .made .ensures ∙ lists-of (s .args .live .units) _ _ _ _ (w .closed-ends .ensures) (h .closed-levels .ensures)
+
+pub shorter-spec : {M : Type 1} → statement M
+shorter-spec =
+    tie.close
+    (tie.spec
+    cast-m
+    mul-closed-ends
+    mul-closed-ends-2
+    closed-ends-requires
+    closed-levels-requires
+    mul-words
+    sub-words
+    array-share-prefix-words
+    slice-aggregate-made
+    sub-heard
+    array-share-prefix-heard
+    slice-aggregate-made-2
+    made-requires
+    returns)

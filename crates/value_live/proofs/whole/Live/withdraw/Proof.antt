@@ -1,0 +1,101 @@
+-- The given table, then the two units.
+use mathlib.Core.Path.{_≡_, refl, sym, ap, _∙_}
+use mathlib.Core.Bool.{not, _||_}
+use mathlib.Core.List.{[], _∷_}
+use native.Mathlib.Omega.{arith}
+use lib.Dec.{eqb, leb, ltb}
+use lib.ListN.{length}
+use Prim.Native.Nat.{_≤_}
+use Rattle.table.specs.Refusals.{firstOf}
+use Rattle.live_table.specs.Live.{held, liveOf, lessLink}
+use Rattle.live_table.specs.LiveCalls.{givenRefusal, withdrawRefusal, withdrawAnswer}
+use Rattle.live_table.specs.GivenLaws.{given-links}
+use Rattle.value_live.specs.View.{of}
+use Rattle.value_live.specs.CallLaws.{answer-refused, answer-made, withdraw-early, withdraw-late, pair-found}
+use borrow.Author.Needs.{needs}
+use Rattle.value_live.proofs.whole.Live.withdraw.Statement.{statement}
+use Rattle.value_live.proofs.whole.Live.withdraw.Tie as tie
+
+-- the arrays are full
+sized : (c : tie.After-refusal-arg6) → (length (c .before .before .before .before .before .before .before .args .t1 .ends) ≡ 2048) × (length (c .before .before .before .before .before .before .before .args .t1 .levels) ≡ 1024)
+sized c = search needs
+
+-- the given table passes
+passed : (c : tie.Else1) → givenRefusal (of (c .before .before .before .before .before .before .before .before .before .args .t1)) ≡ 0
+passed c = sym (c .before .refusal .ensures) ∙ c .if1 .left
+
+few : (c : tie.Else1) → c .before .before .before .before .before .before .before .before .before .args .t1 .links ≤ 1024
+few c = given-links (of (c .before .before .before .before .before .before .before .before .before .args .t1)) (passed c)
+
+-- what the checks of the two units said
+own : (c : tie.After-pair-refusal) → c .pair-refusal .result
+    ≡ firstOf
+    ((7, leb (c .before .before .before .before .before .before .before .before .before .before .before .before .before .before .args .t1 .units) (c .before .before .before .before .before .before .before .before .before .before .before .before .before .before .args .a) || leb (c .before .before .before .before .before .before .before .before .before .before .before .before .before .before .args .t1 .units) (c .before .before .before .before .before .before .before .before .before .before .before .before .before .before .args .b))
+    ∷ (8, eqb (c .before .before .before .before .before .before .before .before .before .before .before .before .before .before .args .a) (c .before .before .before .before .before .before .before .before .before .before .before .before .before .before .args .b))
+    ∷ (21, not (ltb (c .before .place-in .result) (c .before .before .before .before .before .before .before .before .before .before .before .before .before .before .args .t1 .links)))
+    ∷ [])
+own c = c .pair-refusal .ensures
+
+late : (c : tie.After-pair-refusal) → c .pair-refusal .result ≡ withdrawRefusal (c .before .before .before .before .before .before .before .before .before .before .before .before .before .before .args .a) (c .before .before .before .before .before .before .before .before .before .before .before .before .before .before .args .b) (of (c .before .before .before .before .before .before .before .before .before .before .before .before .before .before .args .t1))
+late c =
+    let e = c .before .before .before .before .before in
+    let a = e .before .before .before .before .before .before .before .before .before .args in
+    let full = sized (e .before .before) in
+    withdraw-late (of (a .t1)) (full .0) (full .1) (passed e) (a .a) (a .b) (c .before .place-in .result) (c .before .place-in .ensures) (c .pair-refusal .result) (own c)
+
+refusal-requires : tie.Need-refusal-requires
+refusal-requires c κs = search needs
+
+returns : tie.Need-returns
+unfolding withdrawAnswer
+returns c =
+    let r = c .before .refusal in
+    let a = c .before .before .before .before .before .before .before .before .before .args in
+    answer-refused (withdrawRefusal (a .a) (a .b) (of (a .t1))) (r .result) (of (a .t1)) _ (withdraw-early (of (a .t1)) (a .a) (a .b) (r .result) (r .ensures) (c .if1 .taken)) (c .if1 .taken)
+
+place-in-requires : tie.Need-place-in-requires
+place-in-requires c κs =
+    let e = c .before .before .before in
+    omega (arith, few e, sized (e .before .before) .0)
+
+cast-joined : tie.Need-cast-joined
+cast-joined c = search needs
+
+pair-refusal-requires : tie.Need-pair-refusal-requires
+pair-refusal-requires c κs = search needs
+
+returns-2 : tie.Need-returns-2
+unfolding withdrawAnswer
+returns-2 c =
+    let q = c .before in
+    let a = q .before .before .before .before .before .before .before .before .before .before .before .before .before .before .args in
+    answer-refused (withdrawRefusal (a .a) (a .b) (of (a .t1))) (q .pair-refusal .result) (of (a .t1)) _ (late q) (c .if2 .taken)
+
+shorter-requires : tie.Need-shorter-requires
+shorter-requires c κs =
+    let q = c .before in
+    let a = q .before .before .before .before .before .before .before .before .before .before .before .before .before .before .args in (
+      pair-found (q .before .place-in .result) (a .t1 .links) (q .pair-refusal .result) (leb (a .t1 .units) (a .a) || leb (a .t1 .units) (a .b)) (eqb (a .a) (a .b)) (own q) (c .if2 .left),
+      few (q .before .before .before .before .before),
+    )
+
+returns-3 : tie.Need-returns-3
+unfolding withdrawAnswer
+returns-3 c =
+    let q = c .before .before in
+    let a = q .before .before .before .before .before .before .before .before .before .before .before .before .before .before .args in
+    let made = c .shorter .ensures ∙ ap (λ j. liveOf (lessLink j (held (of (a .t1))))) (q .before .place-in .ensures) in
+    rw made (answer-made (withdrawRefusal (a .a) (a .b) (of (a .t1))) 0 (of (a .t1)) _ (sym (c .before .if2 .left) ∙ late q) refl)
+
+pub withdraw-spec : {M : Type 1} → statement M
+withdraw-spec =
+    tie.close
+    (tie.spec
+    refusal-requires
+    returns
+    place-in-requires
+    cast-joined
+    pair-refusal-requires
+    returns-2
+    shorter-requires
+    returns-3)

@@ -1,6 +1,0 @@
--- A table of links without its levels.
-use Rattle.state.specs.declared.groups.Table.{Table}
-use Rattle.words.specs.declared.take.BareTable.{BareTable}
-
-abbrev pub bareOf : Table → BareTable
-bareOf t = record { units = t .units; links = t .links; ends = t .ends }

@@ -1,0 +1,29 @@
+-- The number, and the state by it.
+use mathlib.Core.Path.{refl, sym, _∙_}
+use Rattle.spec_state.specs.declared.reply.Reply.the-variants.{Done}
+use Rattle.spec_machine.specs.Load.{Input, plannedLoadRefusal, plannedLoaded}
+use Rattle.spec_machine.specs.Calls.{plannedLoadAnswer}
+use Rattle.spec_machine.specs.AnswerLaws.{answered-number, answered-state}
+use Rattle.words_layout.specs.Layout.{stateOf}
+use borrow.Author.Needs.{needs}
+use Rattle.words_calls.proofs.load_planned.Statement.{statement}
+use Rattle.words_calls.proofs.load_planned.Tie as tie
+
+load-planned-requires : tie.Need-load-planned-requires
+load-planned-requires c κs = search needs
+
+cast-result : tie.Need-cast-result
+cast-result c = search needs
+
+returns : tie.Need-returns
+unfolding plannedLoadAnswer
+returns c =
+    let a = c .before .before .before .before .args in
+    let input : Input = record { units = a .units; words = a .table .now; levels = a .levels .now } in
+    let s = stateOf (a .state .now) in (
+      c .load-planned .ensures .0 ∙ sym (answered-number (plannedLoadRefusal input (a .parents .now)) s (plannedLoaded input (a .parents .now)) Done refl),
+      c .load-planned .ensures .1 ∙ sym (answered-state (plannedLoadRefusal input (a .parents .now)) s (plannedLoaded input (a .parents .now)) Done),
+    )
+
+pub load-planned-spec : {M : Type 1} → statement M
+load-planned-spec = tie.close (tie.spec load-planned-requires cast-result returns)

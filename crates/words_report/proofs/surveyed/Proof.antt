@@ -1,0 +1,135 @@
+-- Load, run, report on the words of a state, by whether the reading and the table pass.
+use mathlib.Core.Path.{_≡_, refl, sym, _∙_}
+use Prim.Native.Nat.{_≤_}
+use native.Mathlib.Omega.{arith}
+use lib.ListN.{length}
+use Rattle.spec_state.specs.declared.reply.Reply.the-variants.{Done}
+use Rattle.spec_machine.specs.Load.{Input, storedLoadRefusal, loaded}
+use Rattle.spec_machine.specs.LoadLaws.{passed-fits}
+use Rattle.spec_machine.specs.Calls.{storedLoadAnswer}
+use Rattle.words_layout.specs.Layout.{stateOf}
+use Rattle.spec_machine.specs.AnswerLaws.{answered-number}
+use Rattle.report_program.specs.Printed.{surveyed, printedTable, laidOver}
+use Rattle.report_program.specs.LaidLaws.{number-byte, table-refused, survey-left, report-laid, report-none, report-all, read-refused, read-taken}
+use borrow.Author.Needs.{needs}
+use Rattle.words_report.proofs.surveyed.Statement.{statement}
+use Rattle.words_report.proofs.surveyed.Tie as tie
+
+-- what is loaded
+abbrev taken : tie.After-load-stored → Input
+taken l =
+    let a = l .before .before .before .before .before .args in
+    record { units = a .units; words = a .table .now; levels = a .levels .now }
+
+-- the number of the load
+told : (l : tie.After-load-stored) → l .load-stored .result ≡ storedLoadRefusal (taken l)
+unfolding storedLoadAnswer
+told l = l .load-stored .ensures .0 ∙ answered-number (storedLoadRefusal (taken l)) _ (loaded (taken l)) Done refl
+
+accepted : (e : tie.Else2) → storedLoadRefusal (taken (e .before)) ≡ 0
+accepted e = sym (told (e .before)) ∙ e .if2 .left
+
+fits-in : (c : tie.Else3) → length (taken (c .before .before .before .before .before .before .before .before .before .before) .words) ≤ 2048
+fits-in c = passed-fits (taken (c .before .before .before .before .before .before .before .before .before .before) .units) _ _ (accepted (c .before .before .before .before .before .before .before .before .before)) .0
+
+-- the words after the run are the survey
+ended : (r : tie.After-run) → stateOf (r .run .last .0) ≡ surveyed (taken (r .before .before .before .before))
+ended r = survey-left (taken (r .before .before .before .before)) (accepted (r .before .before .before)) _ _ _ (r .before .before .before .before .load-stored .ensures .1) (r .run .ensures .1 .0)
+
+-- and their report is laid down
+laid : (r : tie.After-report) → r .report .last .1 .0 ≡ laidOver (printedTable (taken (r .before .before .before .before .before .before .before))) (r .before .before .before .before .before .before .before .before .before .before .before .before .args .out .now)
+laid r = rw (ended (r .before .before .before)) at (r .report .ensures .1) ∙ report-laid (taken (r .before .before .before .before .before .before .before)) (accepted (r .before .before .before .before .before .before)) _
+
+refusal-requires : tie.Need-refusal-requires
+refusal-requires c κs = search needs
+
+same-length : tie.Need-same-length
+same-length c = search needs
+
+returns : tie.Need-returns
+returns c =
+    let r = c .before .before .refusal in
+    rw (read-refused _ _ (c .before .before .before .before .if1 .taken)) (r .ensures .0, r .ensures .1)
+
+load-stored-requires : tie.Need-load-stored-requires
+load-stored-requires c κs = search needs
+
+cast-number : tie.Need-cast-number
+cast-number c = omega (arith, told (c .before), number-byte (taken (c .before)))
+
+refusal-requires-2 : tie.Need-refusal-requires-2
+refusal-requires-2 c κs = search needs
+
+same-length-2 : tie.Need-same-length-2
+same-length-2 c = search needs
+
+returns-2 : tie.Need-returns-2
+returns-2 c =
+    let l = c .before .before .before .before .before in
+    let r = c .before .before .refusal2 in
+    rw (read-taken _ (taken l) (l .before .before .if1 .left), table-refused (taken l) (λ z. c .before .before .before .before .if2 .taken (told l ∙ z)), sym (told l)) (r .ensures .0, r .ensures .1)
+
+run-requires : tie.Need-run-requires
+run-requires c κs = search needs
+
+report-requires : tie.Need-report-requires
+report-requires c κs = search needs
+
+same-length-3 : tie.Need-same-length-3
+same-length-3 c = search needs
+
+returns-3 : tie.Need-returns-3
+returns-3 c =
+    let e = c .before .before .before .before .before .before .before .before .before in
+    let told = rw (ended (c .before .before .before .before .before .before)) at (c .before .before .before .report .ensures .0) in
+    rw (read-taken _ (taken (e .before)) (e .before .before .before .if1 .left))
+    (report-none (taken (e .before)) (accepted e) _ (λ z. c .if3 .taken (told ∙ z)), laid (c .before .before .before))
+
+mul-result : tie.Need-mul-result
+mul-result c = search needs
+
+add-result : tie.Need-add-result
+add-result c = search needs
+
+cast-result : tie.Need-cast-result
+cast-result c = omega (arith, fits-in c)
+
+mul-result-2 : tie.Need-mul-result-2
+mul-result-2 c = omega (arith, fits-in c)
+
+add-result-2 : tie.Need-add-result-2
+add-result-2 c = omega (arith, fits-in c)
+
+same-length-4 : tie.Need-same-length-4
+same-length-4 c = search needs
+
+returns-4 : tie.Need-returns-4
+returns-4 c =
+    let e = c .before .before .before .before .before .before .before .before .before in
+    let told = rw (ended (c .before .before .before .before .before .before)) at (c .before .before .before .report .ensures .0) in
+    rw (read-taken _ (taken (e .before)) (e .before .before .before .if1 .left))
+    (report-all (taken (e .before)) (accepted e) _ (sym told ∙ c .if3 .left), laid (c .before .before .before))
+
+pub surveyed-spec : {M : Type 1} → statement M
+surveyed-spec =
+    tie.close
+    (tie.spec
+    refusal-requires
+    same-length
+    returns
+    load-stored-requires
+    cast-number
+    refusal-requires-2
+    same-length-2
+    returns-2
+    run-requires
+    report-requires
+    same-length-3
+    returns-3
+    mul-result
+    add-result
+    cast-result
+    mul-result-2
+    add-result-2
+    same-length-4
+    returns-4)

@@ -1,0 +1,51 @@
+-- The tables taken out, the rounds of the stage on them, and the tables laid down again.
+use mathlib.Core.Path.{refl}
+use Rattle.spec_machine.specs.StageSteps.{moved}
+use Rattle.words_layout.specs.Layout.{stateOf}
+use Rattle.stage09_classes.specs.Rounds as Rounds
+use borrow.Author.Needs.{needs}
+use Rattle.words_run.proofs.back.classes_stage.Statement.{statement}
+use Rattle.words_run.proofs.back.classes_stage.Tie as tie
+
+table-at-requires : tie.Need-table-at-requires
+table-at-requires c κs = search needs
+
+tree-at-requires : tie.Need-tree-at-requires
+tree-at-requires c κs = search needs
+
+aux-at-requires : tie.Need-aux-at-requires
+aux-at-requires c κs = search needs
+
+clock-at-requires : tie.Need-clock-at-requires
+clock-at-requires c κs = search needs
+
+run-requires : tie.Need-run-requires
+run-requires c κs = search needs
+
+lay-clock-requires : tie.Need-lay-clock-requires
+lay-clock-requires c κs = search needs
+
+lay-aux-requires : tie.Need-lay-aux-requires
+lay-aux-requires c κs = search needs
+
+returns : tie.Need-returns
+returns c =
+    let start = c .before .before .before .before .before .before .before .before .before .before .before .before .before .before .before .before .before .before .before .before .before .before .before .before .before .before .before in
+    let s = stateOf (start .args .words .now) in
+    let aux = c .before .before .before .before .before .before .before .before .before .before .before .before .before .before .before .before .before .before .before .before .before in
+    moved (Rounds.stage s) (start .args .budget) (record { color = s .aux .color; clock = s .clock; made = 0 }) _ s _ (start .pre) refl refl
+    (rw (c .before .before .before .before .before .before .before .before .before .before .clock-at .ensures, aux .aux-at .ensures, aux .before .before .tree-at .ensures, aux .before .before .before .before .table-at .ensures) at (c .before .before .before .before .before .before .before .before .before .run .ensures))
+    (rw (c .lay-aux .ensures, c .before .before .before .before .before .before .lay-clock .ensures, aux .aux-at .ensures) refl)
+
+pub classes-stage-spec : {M : Type 1} → statement M
+classes-stage-spec =
+    tie.close
+    (tie.spec
+    table-at-requires
+    tree-at-requires
+    aux-at-requires
+    clock-at-requires
+    run-requires
+    lay-clock-requires
+    lay-aux-requires
+    returns)

@@ -1,0 +1,62 @@
+-- The tables taken out, the rounds of the stage on them, and the tables laid down again.
+use mathlib.Core.Path.{refl}
+use Rattle.spec_machine.specs.StageSteps.{moved}
+use Rattle.words_layout.specs.Layout.{stateOf}
+use Rattle.stage07_range.specs.Rounds as Rounds
+use borrow.Author.Needs.{needs}
+use Rattle.words_run.proofs.back.range_stage.Statement.{statement}
+use Rattle.words_run.proofs.back.range_stage.Tie as tie
+
+table-at-requires : tie.Need-table-at-requires
+table-at-requires c κs = search needs
+
+tree-at-requires : tie.Need-tree-at-requires
+tree-at-requires c κs = search needs
+
+order-at-requires : tie.Need-order-at-requires
+order-at-requires c κs = search needs
+
+range-at-requires : tie.Need-range-at-requires
+range-at-requires c κs = search needs
+
+global-at-requires : tie.Need-global-at-requires
+global-at-requires c κs = search needs
+
+clock-at-requires : tie.Need-clock-at-requires
+clock-at-requires c κs = search needs
+
+run-requires : tie.Need-run-requires
+run-requires c κs = search needs
+
+lay-clock-requires : tie.Need-lay-clock-requires
+lay-clock-requires c κs = search needs
+
+lay-range-requires : tie.Need-lay-range-requires
+lay-range-requires c κs = search needs
+
+lay-global-requires : tie.Need-lay-global-requires
+lay-global-requires c κs = search needs
+
+returns : tie.Need-returns
+returns c =
+    let start = c .before .before .before .before .before .before .before .before .before .before .before .before .before .before .before .before .before .before .before .before .before .before .before .before .before .before .before .before .before .before .before .before .before .before .before .before .before .before .before .before .before in
+    let s = stateOf (start .args .words .now) in
+    moved (Rounds.stage s) (start .args .budget) (record { low = s .range .low; high = s .range .high; little = s .range .little; big = s .range .big; least = s .global .low; greatest = s .global .high; clock = s .clock; made = 0 }) _ s _ (start .pre) refl refl
+    (rw (c .before .before .before .before .before .before .before .before .before .before .before .before .before .before .before .before .clock-at .ensures, c .before .before .before .before .before .before .before .before .before .before .before .before .before .before .before .before .before .before .before .before .before .before .before .before .before .before .before .global-at .ensures, c .before .before .before .before .before .before .before .before .before .before .before .before .before .before .before .before .before .before .before .before .before .before .before .before .before .before .before .before .before .before .before .before .before .range-at .ensures, c .before .before .before .before .before .before .before .before .before .before .before .before .before .before .before .before .before .before .before .before .before .before .before .before .before .before .before .before .before .before .before .before .before .before .before .order-at .ensures, c .before .before .before .before .before .before .before .before .before .before .before .before .before .before .before .before .before .before .before .before .before .before .before .before .before .before .before .before .before .before .before .before .before .before .before .before .before .tree-at .ensures, c .before .before .before .before .before .before .before .before .before .before .before .before .before .before .before .before .before .before .before .before .before .before .before .before .before .before .before .before .before .before .before .before .before .before .before .before .before .before .before .table-at .ensures) at (c .before .before .before .before .before .before .before .before .before .before .before .before .before .before .before .run .ensures))
+    (rw (c .lay-global .ensures, c .before .before .before .before .before .lay-range .ensures, c .before .before .before .before .before .before .before .before .before .before .before .before .lay-clock .ensures) refl)
+
+pub range-stage-spec : {M : Type 1} → statement M
+range-stage-spec =
+    tie.close
+    (tie.spec
+    table-at-requires
+    tree-at-requires
+    order-at-requires
+    range-at-requires
+    global-at-requires
+    clock-at-requires
+    run-requires
+    lay-clock-requires
+    lay-range-requires
+    lay-global-requires
+    returns)

@@ -1,0 +1,46 @@
+-- The tables taken out, the rounds of the stage on them, and the tables laid down again.
+use mathlib.Core.Path.{refl}
+use Rattle.spec_machine.specs.StageSteps.{moved}
+use Rattle.words_layout.specs.Layout.{stateOf}
+use Rattle.stage01_components.specs.Rounds as Rounds
+use borrow.Author.Needs.{needs}
+use Rattle.words_run.proofs.front.components_stage.Statement.{statement}
+use Rattle.words_run.proofs.front.components_stage.Tie as tie
+
+table-at-requires : tie.Need-table-at-requires
+table-at-requires c κs = search needs
+
+components-at-requires : tie.Need-components-at-requires
+components-at-requires c κs = search needs
+
+clock-at-requires : tie.Need-clock-at-requires
+clock-at-requires c κs = search needs
+
+run-requires : tie.Need-run-requires
+run-requires c κs = search needs
+
+lay-clock-requires : tie.Need-lay-clock-requires
+lay-clock-requires c κs = search needs
+
+lay-components-requires : tie.Need-lay-components-requires
+lay-components-requires c κs = search needs
+
+returns : tie.Need-returns
+returns c =
+    let start = c .before .before .before .before .before .before .before .before .before .before .before .before .before .before .before .before .before in
+    let s = stateOf (start .args .words .now) in
+    moved (Rounds.stage s) (start .args .budget) (record { color = s .components .color; clock = s .clock; made = 0 }) _ s _ (start .pre) refl refl
+    (rw (c .before .before .before .before .before .before .before .before .clock-at .ensures, c .before .before .before .before .before .before .before .before .before .before .before .before .before .components-at .ensures, c .before .before .before .before .before .before .before .before .before .before .before .before .before .before .before .table-at .ensures) at (c .before .before .before .before .before .before .before .run .ensures))
+    (rw (c .lay-components .ensures, c .before .before .before .before .lay-clock .ensures) refl)
+
+pub components-stage-spec : {M : Type 1} → statement M
+components-stage-spec =
+    tie.close
+    (tie.spec
+    table-at-requires
+    components-at-requires
+    clock-at-requires
+    run-requires
+    lay-clock-requires
+    lay-components-requires
+    returns)

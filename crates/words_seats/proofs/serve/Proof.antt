@@ -1,0 +1,78 @@
+-- The turn, the other seats, whether some seat waits, and its round.
+use Rattle.words_seats.specs.ServeLaws.{Judged, told-high, seat-served, told-others, told-over, told-refused, told-given}
+use borrow.Author.Needs.{needs}
+use Rattle.words_seats.proofs.serve.Statement.{statement}
+use Rattle.words_seats.proofs.serve.Tie as tie
+
+returns : tie.Need-returns
+returns c = told-high (c .before .args .last) (c .before .args .seats .now) (c .if1 .taken)
+
+flags-requires : tie.Need-flags-requires
+flags-requires c κs = search needs
+
+pick-requires : tie.Need-pick-requires
+pick-requires c κs = search needs
+
+others-sound-requires : tie.Need-others-sound-requires
+others-sound-requires c κs = search needs
+
+abbrev start : tie.After-others-sound → tie.Start
+start os = os .before .before .before .before .before .before .before
+
+judged : (os : tie.After-others-sound) → Judged (start os .args .last) (start os .args .seats .now) (os .before .before .before .pick .result) (os .others-sound .result)
+judged os =
+    let p = os .before .before .before in
+    let eight = os .before .others-sound-arg2 .given .0 in
+    record {
+      eight = eight;
+      is = seat-served (start os .args .last) (start os .args .seats .now) eight (p .before .flags .result) (p .pick .result) (p .before .flags .ensures) (p .pick .ensures);
+      turn = p .before .before .before .if1 .left;
+      told = os .others-sound .ensures;
+    }
+
+returns-2 : tie.Need-returns-2
+returns-2 c = told-others _ _ _ _ (judged (c .before)) (c .if2 .taken)
+
+returns-3 : tie.Need-returns-3
+returns-3 c = told-over _ _ _ _ (judged (c .before .before)) (c .before .if2 .left) (c .if3 .taken)
+
+cast-round : tie.Need-cast-round
+cast-round c = search needs
+
+mul-round : tie.Need-mul-round
+mul-round c = search needs
+
+index-1-round : tie.Need-index-1-round
+index-1-round c = search needs
+
+round-requires : tie.Need-round-requires
+round-requires c κs = search needs
+
+returns-4 : tie.Need-returns-4
+returns-4 c =
+    let r = c .before in
+    let e3 = r .before .before in
+    told-refused _ _ _ _ (judged (e3 .before .before)) (e3 .before .if2 .left) (e3 .if3 .left) (r .round .result) _ (r .round .ensures .0) (r .round .ensures .1) (c .if4 .taken)
+
+returns-5 : tie.Need-returns-5
+returns-5 c =
+    let r = c .before in
+    let e3 = r .before .before in
+    told-given _ _ _ _ (judged (e3 .before .before)) (e3 .before .if2 .left) (e3 .if3 .left) (r .round .result) _ (r .round .ensures .0) (r .round .ensures .1) (c .if4 .left)
+
+pub serve-spec : {M : Type 1} → statement M
+serve-spec =
+    tie.close
+    (tie.spec
+    returns
+    flags-requires
+    pick-requires
+    others-sound-requires
+    returns-2
+    returns-3
+    cast-round
+    mul-round
+    index-1-round
+    round-requires
+    returns-4
+    returns-5)
