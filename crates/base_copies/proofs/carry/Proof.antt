@@ -22,39 +22,12 @@ loop-holds c =
     let a = c .args in
     (omega arith, refl, carry-begin (a .from .now) (a .words .now) (a .at) (a .count) (a .place) (c .pre .0))
 
-add-words : tie.Need-add-words Inv-loop μ-loop
-add-words c = search needs
-
-mul-words : tie.Need-mul-words Inv-loop μ-loop
-mul-words c = search needs
-
-shared-slice-read-words : tie.Need-shared-slice-read-words Inv-loop μ-loop
-shared-slice-read-words c = search needs
-
-add-words-2 : tie.Need-add-words-2 Inv-loop μ-loop
-add-words-2 c = search needs
-
-mul-words-2 : tie.Need-mul-words-2 Inv-loop μ-loop
-mul-words-2 c = search needs
-
-slice-write-words : tie.Need-slice-write-words Inv-loop μ-loop
-slice-write-words c = search needs
-
-add-i : tie.Need-add-i Inv-loop μ-loop
-add-i c = search needs
-
-loop-less : tie.Need-loop-less Inv-loop μ-loop
-loop-less c = search needs
-
 loop-again : tie.Need-loop-again Inv-loop μ-loop
 loop-again c =
     let l = c .before .before in
     let s = l .before in
     let a = s .args in
     (search needs, search needs, rw (l .loop .inv .2) (carry-next (a .from .now) (a .words .now) (a .at) (a .count) (a .place) (s .pre .0) (l .loop .i) (search needs) (s .pre .1)))
-
-same-length : tie.Need-same-length Inv-loop μ-loop
-same-length c = search needs
 
 returns : tie.Need-returns Inv-loop μ-loop
 returns c =
@@ -70,14 +43,14 @@ carry-spec =
     Inv-loop
     μ-loop
     loop-holds
-    add-words
-    mul-words
-    shared-slice-read-words
-    add-words-2
-    mul-words-2
-    slice-write-words
-    add-i
-    loop-less
+    (λ c. search needs)  -- add-words
+    (λ c. search needs)  -- mul-words
+    (λ c. search needs)  -- shared-slice-read-words
+    (λ c. search needs)  -- add-words-2
+    (λ c. search needs)  -- mul-words-2
+    (λ c. search needs)  -- slice-write-words
+    (λ c. search needs)  -- add-i
+    (λ c. search needs)  -- loop-less
     loop-again
-    same-length
+    (λ c. search needs)  -- same-length
     returns)

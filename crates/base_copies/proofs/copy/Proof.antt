@@ -6,9 +6,6 @@ use Rattle.base_copies.specs.CopyLaws.{copied-whole, copied-out}
 use Rattle.base_copies.proofs.copy.Statement.{statement}
 use Rattle.base_copies.proofs.copy.Tie as tie
 
-fits-requires : tie.Need-fits-requires
-fits-requires c κs = search needs
-
 returns : tie.Need-returns
 returns c = copied-out _ _ _ (sym (c .before .fits2 .ensures) ∙ not-true _ (c .if1 .taken))
 
@@ -17,9 +14,6 @@ carry-requires c κs =
     let there = leb-true _ _ (sym (c .before .before .fits2 .ensures) ∙ not-false _ (c .before .if1 .left)) in
     (there, search needs)
 
-same-length : tie.Need-same-length
-same-length c = search needs
-
 returns-2 : tie.Need-returns-2
 returns-2 c =
     let k = c .before .before in
@@ -27,4 +21,11 @@ returns-2 c =
     k .carry .ensures ∙ copied-whole _ _ _ (sym (e .before .fits2 .ensures) ∙ not-false _ (e .if1 .left))
 
 pub copy-spec : {M : Type 1} → statement M
-copy-spec = tie.close (tie.spec fits-requires returns carry-requires same-length returns-2)
+copy-spec =
+    tie.close
+    (tie.spec
+    (λ c κs. search needs)  -- fits-requires
+    returns
+    carry-requires
+    (λ c. search needs)  -- same-length
+    returns-2)

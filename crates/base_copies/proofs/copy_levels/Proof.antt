@@ -6,17 +6,11 @@ use Rattle.base_copies.specs.CopyLaws.{levels-whole, levels-out}
 use Rattle.base_copies.proofs.copy_levels.Statement.{statement}
 use Rattle.base_copies.proofs.copy_levels.Tie as tie
 
-fits-requires : tie.Need-fits-requires
-fits-requires c κs = search needs
-
 returns : tie.Need-returns
 returns c = levels-out _ _ _ (sym (c .before .fits2 .ensures) ∙ not-true _ (c .if1 .taken))
 
 levels-inside-requires : tie.Need-levels-inside-requires
 levels-inside-requires c κs = leb-true _ _ (sym (c .before .before .fits2 .ensures) ∙ not-false _ (c .before .if1 .left))
-
-same-length : tie.Need-same-length
-same-length c = search needs
 
 returns-2 : tie.Need-returns-2
 returns-2 c =
@@ -25,4 +19,9 @@ returns-2 c =
 
 pub copy-levels-spec : {M : Type 1} → statement M
 copy-levels-spec =
-    tie.close (tie.spec fits-requires returns levels-inside-requires same-length returns-2)
+    tie.close (tie.spec
+    (λ c κs. search needs)  -- fits-requires
+    returns
+    levels-inside-requires
+    (λ c. search needs)  -- same-length
+    returns-2)

@@ -23,9 +23,6 @@ Inv-loop x at count words₀ i₀ words i =
 abbrev μ-loop : tie.MeasureT-loop
 μ-loop x at count words₀ i₀ words i = count - i
 
-fits-requires : tie.Need-fits-requires Inv-loop μ-loop
-fits-requires c κs = search needs
-
 returns : tie.Need-returns Inv-loop μ-loop
 returns c =
     let a = c .before .before .before .args in
@@ -36,21 +33,6 @@ loop-holds : tie.Need-loop-holds Inv-loop μ-loop
 loop-holds c =
     let a = c .before .before .before .args in
     (omega arith, refl, leb-true _ _ (sym (c .before .fits2 .ensures) ∙ not-false _ (c .if1 .left)), paste-zero (a .words .now) (a .at) (replicate (a .count) (a .x)))
-
-add-words : tie.Need-add-words Inv-loop μ-loop
-add-words c = search needs
-
-mul-words : tie.Need-mul-words Inv-loop μ-loop
-mul-words c = search needs
-
-slice-write-words : tie.Need-slice-write-words Inv-loop μ-loop
-slice-write-words c = search needs
-
-add-i : tie.Need-add-i Inv-loop μ-loop
-add-i c = search needs
-
-loop-less : tie.Need-loop-less Inv-loop μ-loop
-loop-less c = search needs
 
 loop-again : tie.Need-loop-again Inv-loop μ-loop
 loop-again c =
@@ -63,9 +45,6 @@ loop-again c =
       rw (i .3) (paste-next (a .words .now) (replicate (a .count) (a .x)) (a .at) (l .loop .i) (a .x) (sym (getD-replicate (a .count) (l .loop .i) (a .x) 0 (c .loop-test .taken)))
           (omega (arith, many (a .count) (a .x), c .loop-test .taken)) (omega (arith, many (a .count) (a .x), i .2))),
     )
-
-same-length : tie.Need-same-length Inv-loop μ-loop
-same-length c = search needs
 
 returns-2 : tie.Need-returns-2 Inv-loop μ-loop
 returns-2 c =
@@ -80,14 +59,14 @@ fill-spec =
     (tie.spec
     Inv-loop
     μ-loop
-    fits-requires
+    (λ c κs. search needs)  -- fits-requires
     returns
     loop-holds
-    add-words
-    mul-words
-    slice-write-words
-    add-i
-    loop-less
+    (λ c. search needs)  -- add-words
+    (λ c. search needs)  -- mul-words
+    (λ c. search needs)  -- slice-write-words
+    (λ c. search needs)  -- add-i
+    (λ c. search needs)  -- loop-less
     loop-again
-    same-length
+    (λ c. search needs)  -- same-length
     returns-2)

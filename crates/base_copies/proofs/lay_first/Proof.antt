@@ -17,26 +17,8 @@ abbrev μ-loop : tie.MeasureT-loop
 loop-holds : tie.Need-loop-holds Inv-loop μ-loop
 loop-holds c = (search needs, refl, refl)
 
-cast-i : tie.Need-cast-i Inv-loop μ-loop
-cast-i c = search needs
-
-word-requires : tie.Need-word-requires Inv-loop μ-loop
-word-requires c κs = search needs
-
-put-requires : tie.Need-put-requires Inv-loop μ-loop
-put-requires c κs = search needs
-
-add-v : tie.Need-add-v Inv-loop μ-loop
-add-v c = search needs
-
-loop-less : tie.Need-loop-less Inv-loop μ-loop
-loop-less c = search needs
-
 loop-again : tie.Need-loop-again Inv-loop μ-loop
 loop-again c = (search needs, search needs, over-more _ (λ (i : ℕ). getD (c .before .before .before .before .before .before .before .before .before .args .table .now) i 0) _ _ _ _ (c .before .before .before .before .before .before .loop .inv .2) (c .before .before .before .word .ensures) (c .before .before .put .ensures))
-
-same-length : tie.Need-same-length Inv-loop μ-loop
-same-length c = search needs
 
 returns : tie.Need-returns Inv-loop μ-loop
 returns c = c .before .loop .inv .2 ∙ over-all _ _ _ _ (c .before .loop .inv .0) (c .loop-test .left)
@@ -48,11 +30,11 @@ lay-first-spec =
     Inv-loop
     μ-loop
     loop-holds
-    cast-i
-    word-requires
-    put-requires
-    add-v
-    loop-less
+    (λ c. search needs)  -- cast-i
+    (λ c κs. search needs)  -- word-requires
+    (λ c κs. search needs)  -- put-requires
+    (λ c. search needs)  -- add-v
+    (λ c. search needs)  -- loop-less
     loop-again
-    same-length
+    (λ c. search needs)  -- same-length
     returns)

@@ -29,9 +29,6 @@ Inv-loop levels at words₀ i₀ words i =
 abbrev μ-loop : tie.MeasureT-loop
 μ-loop levels at words₀ i₀ words i = length levels - i
 
-fits-requires : tie.Need-fits-requires Inv-loop μ-loop
-fits-requires c κs = search needs
-
 returns : tie.Need-returns Inv-loop μ-loop
 returns c =
     let a = c .before .before .before .args in
@@ -42,30 +39,6 @@ loop-holds : tie.Need-loop-holds Inv-loop μ-loop
 loop-holds c =
     let a = c .before .before .before .args in
     (omega arith, refl, leb-true _ _ (sym (c .before .fits2 .ensures) ∙ not-false _ (c .if1 .left)), paste-zero (a .words .now) (a .at) (toWords (a .levels .now)), back-none (a .levels .now))
-
-mul-level : tie.Need-mul-level Inv-loop μ-loop
-mul-level c = search needs
-
-shared-slice-copy-out-level : tie.Need-shared-slice-copy-out-level Inv-loop μ-loop
-shared-slice-copy-out-level c = search needs
-
-word-of-requires : tie.Need-word-of-requires Inv-loop μ-loop
-word-of-requires c κs = search needs
-
-add-words : tie.Need-add-words Inv-loop μ-loop
-add-words c = search needs
-
-mul-words : tie.Need-mul-words Inv-loop μ-loop
-mul-words c = search needs
-
-slice-write-words : tie.Need-slice-write-words Inv-loop μ-loop
-slice-write-words c = search needs
-
-add-i : tie.Need-add-i Inv-loop μ-loop
-add-i c = search needs
-
-loop-less : tie.Need-loop-less Inv-loop μ-loop
-loop-less c = search needs
 
 loop-again : tie.Need-loop-again Inv-loop μ-loop
 loop-again c =
@@ -84,9 +57,6 @@ loop-again c =
       back-next ls i h f (v .4),
     )
 
-same-length : tie.Need-same-length Inv-loop μ-loop
-same-length c = search needs
-
 returns-2 : tie.Need-returns-2 Inv-loop μ-loop
 returns-2 c =
     let l = c .before in
@@ -102,17 +72,17 @@ lay-levels-spec =
     (tie.spec
     Inv-loop
     μ-loop
-    fits-requires
+    (λ c κs. search needs)  -- fits-requires
     returns
     loop-holds
-    mul-level
-    shared-slice-copy-out-level
-    word-of-requires
-    add-words
-    mul-words
-    slice-write-words
-    add-i
-    loop-less
+    (λ c. search needs)  -- mul-level
+    (λ c. search needs)  -- shared-slice-copy-out-level
+    (λ c κs. search needs)  -- word-of-requires
+    (λ c. search needs)  -- add-words
+    (λ c. search needs)  -- mul-words
+    (λ c. search needs)  -- slice-write-words
+    (λ c. search needs)  -- add-i
+    (λ c. search needs)  -- loop-less
     loop-again
-    same-length
+    (λ c. search needs)  -- same-length
     returns-2)

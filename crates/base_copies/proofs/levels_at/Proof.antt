@@ -4,9 +4,6 @@ use Rattle.base_copies.specs.CopyLaws.{levels-or}
 use Rattle.base_copies.proofs.levels_at.Statement.{statement}
 use Rattle.base_copies.proofs.levels_at.Tie as tie
 
-slice-aggregate-copy-levels : tie.Need-slice-aggregate-copy-levels
-slice-aggregate-copy-levels c = search needs
-
 copy-levels-requires : tie.Need-copy-levels-requires
 copy-levels-requires c κs = tt
 
@@ -14,4 +11,9 @@ returns : tie.Need-returns
 returns c = levels-or 1024 _ _ (c .before .copy-levels .ensures)
 
 pub levels-at-spec : {M : Type 1} → statement M
-levels-at-spec = tie.close (tie.spec slice-aggregate-copy-levels copy-levels-requires returns)
+levels-at-spec =
+    tie.close
+    (tie.spec
+    (λ c. search needs)  -- slice-aggregate-copy-levels
+    copy-levels-requires
+    returns)

@@ -24,30 +24,6 @@ loop-holds c =
     let a = c .before .args in
     (omega arith, refl, levels-begin (a .words .now) (a .to .now) (a .at))
 
-add-of-word : tie.Need-add-of-word Inv-loop μ-loop
-add-of-word c = search needs
-
-mul-of-word : tie.Need-mul-of-word Inv-loop μ-loop
-mul-of-word c = search needs
-
-shared-slice-read-of-word : tie.Need-shared-slice-read-of-word Inv-loop μ-loop
-shared-slice-read-of-word c = search needs
-
-of-word-requires : tie.Need-of-word-requires Inv-loop μ-loop
-of-word-requires c κs = search needs
-
-mul-level : tie.Need-mul-level Inv-loop μ-loop
-mul-level c = search needs
-
-slice-set-from-level : tie.Need-slice-set-from-level Inv-loop μ-loop
-slice-set-from-level c = search needs
-
-add-i : tie.Need-add-i Inv-loop μ-loop
-add-i c = search needs
-
-loop-less : tie.Need-loop-less Inv-loop μ-loop
-loop-less c = search needs
-
 loop-again : tie.Need-loop-again Inv-loop μ-loop
 loop-again c =
     let l = c .before .before .before in
@@ -58,9 +34,6 @@ loop-again c =
       search needs,
       rw (c .of-word .ensures, toZ-ofZ w16 (wordLevel w) (record { sfits = level-small w }), l .loop .inv .2) (levels-next (a .words .now) (a .to .now) (a .at) (l .loop .i) (search needs) (start .pre)),
     )
-
-same-length : tie.Need-same-length Inv-loop μ-loop
-same-length c = search needs
 
 returns : tie.Need-returns Inv-loop μ-loop
 returns c =
@@ -75,14 +48,14 @@ levels-inside-spec =
     Inv-loop
     μ-loop
     loop-holds
-    add-of-word
-    mul-of-word
-    shared-slice-read-of-word
-    of-word-requires
-    mul-level
-    slice-set-from-level
-    add-i
-    loop-less
+    (λ c. search needs)  -- add-of-word
+    (λ c. search needs)  -- mul-of-word
+    (λ c. search needs)  -- shared-slice-read-of-word
+    (λ c κs. search needs)  -- of-word-requires
+    (λ c. search needs)  -- mul-level
+    (λ c. search needs)  -- slice-set-from-level
+    (λ c. search needs)  -- add-i
+    (λ c. search needs)  -- loop-less
     loop-again
-    same-length
+    (λ c. search needs)  -- same-length
     returns)

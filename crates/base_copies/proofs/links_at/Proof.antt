@@ -4,9 +4,6 @@ use Rattle.base_copies.specs.CopyLaws.{part-or}
 use Rattle.base_copies.proofs.links_at.Statement.{statement}
 use Rattle.base_copies.proofs.links_at.Tie as tie
 
-slice-aggregate-copy : tie.Need-slice-aggregate-copy
-slice-aggregate-copy c = search needs
-
 copy-requires : tie.Need-copy-requires
 copy-requires c κs = tt
 
@@ -14,4 +11,9 @@ returns : tie.Need-returns
 returns c = part-or 1024 _ _ (c .before .copy .ensures)
 
 pub links-at-spec : {M : Type 1} → statement M
-links-at-spec = tie.close (tie.spec slice-aggregate-copy copy-requires returns)
+links-at-spec =
+    tie.close
+    (tie.spec
+    (λ c. search needs)  -- slice-aggregate-copy
+    copy-requires
+    returns)

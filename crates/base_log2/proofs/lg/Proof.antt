@@ -7,9 +7,6 @@ use Rattle.base_log2.specs.LgLaws.{lg-small, lg-by-zeros}
 use Rattle.base_log2.proofs.lg.Statement.{statement}
 use Rattle.base_log2.proofs.lg.Tie as tie
 
-sub-result : tie.Need-sub-result
-sub-result c = search needs
-
 cast-result : tie.Need-cast-result
 cast-result c = omega (arith, leading-le 16 (c .before .args .x - 1))
 
@@ -23,4 +20,11 @@ returns-2 : tie.Need-returns-2
 returns-2 c = lg-by-zeros 16 (c .before .args .x) (c .if1 .left) (omega arith)
 
 pub lg-spec : {M : Type 1} → statement M
-lg-spec = tie.close (tie.spec sub-result cast-result sub-result-2 returns returns-2)
+lg-spec =
+    tie.close
+    (tie.spec
+    (λ c. search needs)  -- sub-result
+    cast-result
+    sub-result-2
+    returns
+    returns-2)

@@ -5,20 +5,15 @@ use borrow.Author.Needs.{needs}
 use Rattle.base_slices.proofs.put.Statement.{statement}
 use Rattle.base_slices.proofs.put.Tie as tie
 
-mul-t : tie.Need-mul-t
-mul-t c = search needs
-
-slice-write-t : tie.Need-slice-write-t
-slice-write-t c = search needs
-
-same-length : tie.Need-same-length
-same-length c = search needs
-
-returns : tie.Need-returns
-returns c = search needs
-
 returns-2 : tie.Need-returns-2
 returns-2 c = sym (set-out _ _ _ (c .if1 .left))
 
 pub put-spec : {M : Type 1} → statement M
-put-spec = tie.close (tie.spec mul-t slice-write-t same-length returns returns-2)
+put-spec =
+    tie.close
+    (tie.spec
+    (λ c. search needs)  -- mul-t
+    (λ c. search needs)  -- slice-write-t
+    (λ c. search needs)  -- same-length
+    (λ c. search needs)  -- returns
+    returns-2)

@@ -11,15 +11,6 @@ use borrow.Author.Needs.{needs}
 use Rattle.base_streams.proofs.next_level.Statement.{statement}
 use Rattle.base_streams.proofs.next_level.Tie as tie
 
-byte-requires : tie.Need-byte-requires
-byte-requires c κs = search needs
-
-start-requires : tie.Need-start-requires
-start-requires c κs = search needs
-
-part-requires : tie.Need-part-requires
-part-requires c κs = search needs
-
 returns : tie.Need-returns
 returns c =
     let p = c .before .before in
@@ -34,9 +25,6 @@ returns-2 c =
     let st = p .before in
     let o = st .before .before .before in
     level-great (o .args .stream .now) (o .args .cursor) (p .part .result) (p .part .ensures ∙ ap (partAt (o .args .stream .now) (o .args .cursor)) (st .start .ensures)) (i .if1 .left) (c .if2 .taken)
-
-signed-requires : tie.Need-signed-requires
-signed-requires c κs = search needs
 
 returns-3 : tie.Need-returns-3
 returns-3 c =
@@ -54,10 +42,10 @@ pub next-level-spec : {M : Type 1} → statement M
 next-level-spec =
     tie.close
     (tie.spec
-    byte-requires
-    start-requires
-    part-requires
+    (λ c κs. search needs)  -- byte-requires
+    (λ c κs. search needs)  -- start-requires
+    (λ c κs. search needs)  -- part-requires
     returns
     returns-2
-    signed-requires
+    (λ c κs. search needs)  -- signed-requires
     returns-3)

@@ -11,18 +11,12 @@ returns c =
     let o = c .before .before in
     part-fault (o .args .stream .now) (o .args .cursor) (o .args .from) (c .if1 .taken)
 
-read-requires : tie.Need-read-requires
-read-requires c κs = search needs
-
 returns-2 : tie.Need-returns-2
 returns-2 c =
     let r = c .before in
     let i = r .before in
     let o = i .before .before in
     part-empty (o .args .stream .now) (o .args .cursor) (o .args .from) (r .read .result .end) (i .if1 .left) (r .read .ensures .1) (c .if2 .taken)
-
-closed-requires : tie.Need-closed-requires
-closed-requires c κs = search needs
 
 returns-3 : tie.Need-returns-3
 returns-3 c =
@@ -32,9 +26,6 @@ returns-3 c =
     let if = r .before in
     let o = if .before .before in
     part-open (o .args .stream .now) (o .args .cursor) (o .args .from) (r .read .result .end) (if .if1 .left) (r .read .ensures .1) (i .if2 .left) (sym (cl .closed .ensures) ∙ not-true (cl .closed .result) (c .if3 .taken))
-
-after-requires : tie.Need-after-requires
-after-requires c κs = search needs
 
 returns-4 : tie.Need-returns-4
 returns-4 c =
@@ -49,4 +40,11 @@ returns-4 c =
 pub part-spec : {M : Type 1} → statement M
 part-spec =
     tie.close
-    (tie.spec returns read-requires returns-2 closed-requires returns-3 after-requires returns-4)
+    (tie.spec
+    returns
+    (λ c κs. search needs)  -- read-requires
+    returns-2
+    (λ c κs. search needs)  -- closed-requires
+    returns-3
+    (λ c κs. search needs)  -- after-requires
+    returns-4)

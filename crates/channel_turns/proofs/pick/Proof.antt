@@ -16,32 +16,14 @@ Inv-loop last waits from d₀ d = (d ≤ 8) × ((j : ℕ) → j < d → getD wai
 abbrev μ-loop : tie.MeasureT-loop
 μ-loop last waits from d₀ d = 8 - d
 
-add-from : tie.Need-add-from Inv-loop μ-loop
-add-from c = search needs
-
 loop-holds : tie.Need-loop-holds Inv-loop μ-loop
 loop-holds c = (search needs, λ j h. absurd (omega arith))
-
-add-seat : tie.Need-add-seat Inv-loop μ-loop
-add-seat c = search needs
-
-array-read-if1 : tie.Need-array-read-if1 Inv-loop μ-loop
-array-read-if1 c = search needs
-
-cast-result : tie.Need-cast-result Inv-loop μ-loop
-cast-result c = search needs
 
 returns : tie.Need-returns Inv-loop μ-loop
 returns c =
     let s = c .before .before in
     let a = s .before .args in
     picked-found (a .last) (λ (i : ℕ). getD (a .t2) i false) (s .loop .d) (search needs) (c .if1 .taken) (s .loop .inv .1)
-
-add-d : tie.Need-add-d Inv-loop μ-loop
-add-d c = search needs
-
-loop-less : tie.Need-loop-less Inv-loop μ-loop
-loop-less c = search needs
 
 loop-again : tie.Need-loop-again Inv-loop μ-loop
 loop-again c =
@@ -61,13 +43,13 @@ pick-spec =
     (tie.spec
     Inv-loop
     μ-loop
-    add-from
+    (λ c. search needs)  -- add-from
     loop-holds
-    add-seat
-    array-read-if1
-    cast-result
+    (λ c. search needs)  -- add-seat
+    (λ c. search needs)  -- array-read-if1
+    (λ c. search needs)  -- cast-result
     returns
-    add-d
-    loop-less
+    (λ c. search needs)  -- add-d
+    (λ c. search needs)  -- loop-less
     loop-again
     returns-2)

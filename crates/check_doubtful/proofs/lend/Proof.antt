@@ -5,23 +5,18 @@ use borrow.Author.Needs.{needs}
 use Rattle.check_doubtful.proofs.lend.Statement.{statement}
 use Rattle.check_doubtful.proofs.lend.Tie as tie
 
-returns : tie.Need-returns
-returns c = search needs
-
 slice-aggregate-doubt : tie.Need-slice-aggregate-doubt
 slice-aggregate-doubt c =
     let i = c .before in
     let o = i .before .before in
     sym (length-take-le (o .args .count) (o .args .marks .now) (i .if1 .left))
 
-doubt-requires : tie.Need-doubt-requires
-doubt-requires c κs = search needs
-
-told-requires : tie.Need-told-requires
-told-requires c κs = search needs
-
-returns-2 : tie.Need-returns-2
-returns-2 c = search needs
-
 pub lend-spec : {M : Type 1} → statement M
-lend-spec = tie.close (tie.spec returns slice-aggregate-doubt doubt-requires told-requires returns-2)
+lend-spec =
+    tie.close
+    (tie.spec
+    (λ c. search needs)  -- returns
+    slice-aggregate-doubt
+    (λ c κs. search needs)  -- doubt-requires
+    (λ c κs. search needs)  -- told-requires
+    (λ c. search needs))  -- returns-2

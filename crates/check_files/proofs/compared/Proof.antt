@@ -5,20 +5,15 @@ use borrow.Author.Needs.{needs}
 use Rattle.check_files.proofs.compared.Statement.{statement}
 use Rattle.check_files.proofs.compared.Tie as tie
 
-returns : tie.Need-returns
-returns c = search needs
-
 slice-aggregate-same : tie.Need-slice-aggregate-same
 slice-aggregate-same c = sym (length-take-le (c .before .before .before .before .args .end) (c .before .before .before .before .args .copy .now) (search needs))
 
-same-requires : tie.Need-same-requires
-same-requires c κs = search needs
-
-returns-2 : tie.Need-returns-2
-returns-2 c = search needs
-
-returns-3 : tie.Need-returns-3
-returns-3 c = search needs
-
 pub compared-spec : {M : Type 1} → statement M
-compared-spec = tie.close (tie.spec returns slice-aggregate-same same-requires returns-2 returns-3)
+compared-spec =
+    tie.close
+    (tie.spec
+    (λ c. search needs)  -- returns
+    slice-aggregate-same
+    (λ c κs. search needs)  -- same-requires
+    (λ c. search needs)  -- returns-2
+    (λ c. search needs))  -- returns-3

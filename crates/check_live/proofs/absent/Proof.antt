@@ -12,45 +12,18 @@ Inv-loop ends first at line₀ end₀ i₀ line end i = length line ≡ length l
 abbrev μ-loop : tie.MeasureT-loop
 μ-loop ends first at line₀ end₀ i₀ line end i = length ends - i
 
-loop-holds : tie.Need-loop-holds Inv-loop μ-loop
-loop-holds c = search needs
-
-mul-checked : tie.Need-mul-checked Inv-loop μ-loop
-mul-checked c = search needs
-
-shared-slice-read-checked : tie.Need-shared-slice-read-checked Inv-loop μ-loop
-shared-slice-read-checked c = search needs
-
-checked-requires : tie.Need-checked-requires Inv-loop μ-loop
-checked-requires c κs = search needs
-
-add-i : tie.Need-add-i Inv-loop μ-loop
-add-i c = search needs
-
-loop-less : tie.Need-loop-less Inv-loop μ-loop
-loop-less c = search needs
-
-loop-again : tie.Need-loop-again Inv-loop μ-loop
-loop-again c = search needs
-
-same-length : tie.Need-same-length Inv-loop μ-loop
-same-length c = search needs
-
-returns : tie.Need-returns Inv-loop μ-loop
-returns c = search needs
-
 pub absent-spec : {M : Type 1} → statement M
 absent-spec =
     tie.close
     (tie.spec
     Inv-loop
     μ-loop
-    loop-holds
-    mul-checked
-    shared-slice-read-checked
-    checked-requires
-    add-i
-    loop-less
-    loop-again
-    same-length
-    returns)
+    (λ c. search needs)  -- loop-holds
+    (λ c. search needs)  -- mul-checked
+    (λ c. search needs)  -- shared-slice-read-checked
+    (λ c κs. search needs)  -- checked-requires
+    (λ c. search needs)  -- add-i
+    (λ c. search needs)  -- loop-less
+    (λ c. search needs)  -- loop-again
+    (λ c. search needs)  -- same-length
+    (λ c. search needs))  -- returns

@@ -12,41 +12,17 @@ Inv-loop levels count at line₀ end₀ i₀ line end i = (i ≤ count) × (leng
 abbrev μ-loop : tie.MeasureT-loop
 μ-loop levels count at line₀ end₀ i₀ line end i = count - i
 
-loop-holds : tie.Need-loop-holds Inv-loop μ-loop
-loop-holds c = search needs
-
-level-at-requires : tie.Need-level-at-requires Inv-loop μ-loop
-level-at-requires c κs = search needs
-
-height-requires : tie.Need-height-requires Inv-loop μ-loop
-height-requires c κs = search needs
-
-add-i : tie.Need-add-i Inv-loop μ-loop
-add-i c = search needs
-
-loop-less : tie.Need-loop-less Inv-loop μ-loop
-loop-less c = search needs
-
-loop-again : tie.Need-loop-again Inv-loop μ-loop
-loop-again c = search needs
-
-same-length : tie.Need-same-length Inv-loop μ-loop
-same-length c = search needs
-
-returns : tie.Need-returns Inv-loop μ-loop
-returns c = search needs
-
 pub heights-spec : {M : Type 1} → statement M
 heights-spec =
     tie.close
     (tie.spec
     Inv-loop
     μ-loop
-    loop-holds
-    level-at-requires
-    height-requires
-    add-i
-    loop-less
-    loop-again
-    same-length
-    returns)
+    (λ c. search needs)  -- loop-holds
+    (λ c κs. search needs)  -- level-at-requires
+    (λ c κs. search needs)  -- height-requires
+    (λ c. search needs)  -- add-i
+    (λ c. search needs)  -- loop-less
+    (λ c. search needs)  -- loop-again
+    (λ c. search needs)  -- same-length
+    (λ c. search needs))  -- returns

@@ -12,45 +12,18 @@ Inv-loop stream count levels₀ c₀ i₀ levels c i = (i ≤ count) × (length 
 abbrev μ-loop : tie.MeasureT-loop
 μ-loop stream count levels₀ c₀ i₀ levels c i = count - i
 
-loop-holds : tie.Need-loop-holds Inv-loop μ-loop
-loop-holds c = search needs
-
-level-requires : tie.Need-level-requires Inv-loop μ-loop
-level-requires c κs = search needs
-
-cast-put-level : tie.Need-cast-put-level Inv-loop μ-loop
-cast-put-level c = search needs
-
-put-level-requires : tie.Need-put-level-requires Inv-loop μ-loop
-put-level-requires c κs = search needs
-
-add-i : tie.Need-add-i Inv-loop μ-loop
-add-i c = search needs
-
-loop-less : tie.Need-loop-less Inv-loop μ-loop
-loop-less c = search needs
-
-loop-again : tie.Need-loop-again Inv-loop μ-loop
-loop-again c = search needs
-
-same-length : tie.Need-same-length Inv-loop μ-loop
-same-length c = search needs
-
-returns : tie.Need-returns Inv-loop μ-loop
-returns c = search needs
-
 pub level-list-spec : {M : Type 1} → statement M
 level-list-spec =
     tie.close
     (tie.spec
     Inv-loop
     μ-loop
-    loop-holds
-    level-requires
-    cast-put-level
-    put-level-requires
-    add-i
-    loop-less
-    loop-again
-    same-length
-    returns)
+    (λ c. search needs)  -- loop-holds
+    (λ c κs. search needs)  -- level-requires
+    (λ c. search needs)  -- cast-put-level
+    (λ c κs. search needs)  -- put-level-requires
+    (λ c. search needs)  -- add-i
+    (λ c. search needs)  -- loop-less
+    (λ c. search needs)  -- loop-again
+    (λ c. search needs)  -- same-length
+    (λ c. search needs))  -- returns

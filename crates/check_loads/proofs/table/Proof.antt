@@ -5,15 +5,6 @@ use borrow.Author.Needs.{needs}
 use Rattle.check_loads.proofs.table.Statement.{statement}
 use Rattle.check_loads.proofs.table.Tie as tie
 
-returns : tie.Need-returns
-returns c = search needs
-
-returns-2 : tie.Need-returns-2
-returns-2 c = search needs
-
-returns-3 : tie.Need-returns-3
-returns-3 c = search needs
-
 slice-aggregate-called : tie.Need-slice-aggregate-called
 slice-aggregate-called c = sym (length-take-le _ _ (search needs))
 
@@ -23,21 +14,15 @@ slice-aggregate-called-2 c = sym (length-take-le _ _ (search needs))
 slice-aggregate-called-3 : tie.Need-slice-aggregate-called-3
 slice-aggregate-called-3 c = sym (length-take-le _ _ (search needs))
 
-called-requires : tie.Need-called-requires
-called-requires c κs = search needs
-
-returns-4 : tie.Need-returns-4
-returns-4 c = search needs
-
 pub table-spec : {M : Type 1} → statement M
 table-spec =
     tie.close
     (tie.spec
-    returns
-    returns-2
-    returns-3
+    (λ c. search needs)  -- returns
+    (λ c. search needs)  -- returns-2
+    (λ c. search needs)  -- returns-3
     slice-aggregate-called
     slice-aggregate-called-2
     slice-aggregate-called-3
-    called-requires
-    returns-4)
+    (λ c κs. search needs)  -- called-requires
+    (λ c. search needs))  -- returns-4

@@ -10,32 +10,14 @@ Inv-loop totals₀ kind₀ t5 totals kind = kind ≤ 25
 abbrev μ-loop : tie.MeasureT-loop
 μ-loop totals₀ kind₀ t5 totals kind = 25 - kind
 
-slice-aggregate-write-all : tie.Need-slice-aggregate-write-all Inv-loop μ-loop
-slice-aggregate-write-all c = search needs
-
 write-all-requires : tie.Need-write-all-requires Inv-loop μ-loop
 write-all-requires c κs = tt
-
-loop-holds : tie.Need-loop-holds Inv-loop μ-loop
-loop-holds c = search needs
 
 line-requires : tie.Need-line-requires Inv-loop μ-loop
 line-requires c κs = tt
 
-add-kind : tie.Need-add-kind Inv-loop μ-loop
-add-kind c = search needs
-
-loop-less : tie.Need-loop-less Inv-loop μ-loop
-loop-less c = search needs
-
-loop-again : tie.Need-loop-again Inv-loop μ-loop
-loop-again c = search needs
-
 printed-requires : tie.Need-printed-requires Inv-loop μ-loop
 printed-requires c κs = tt
-
-slice-aggregate-write-all-2 : tie.Need-slice-aggregate-write-all-2 Inv-loop μ-loop
-slice-aggregate-write-all-2 c = search needs
 
 write-all-requires-2 : tie.Need-write-all-requires-2 Inv-loop μ-loop
 write-all-requires-2 c κs = tt
@@ -49,14 +31,14 @@ main-spec =
     (tie.spec
     Inv-loop
     μ-loop
-    slice-aggregate-write-all
+    (λ c. search needs)  -- slice-aggregate-write-all
     write-all-requires
-    loop-holds
+    (λ c. search needs)  -- loop-holds
     line-requires
-    add-kind
-    loop-less
-    loop-again
+    (λ c. search needs)  -- add-kind
+    (λ c. search needs)  -- loop-less
+    (λ c. search needs)  -- loop-again
     printed-requires
-    slice-aggregate-write-all-2
+    (λ c. search needs)  -- slice-aggregate-write-all-2
     write-all-requires-2
     returns)

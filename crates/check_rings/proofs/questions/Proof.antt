@@ -12,49 +12,19 @@ Inv-loop stream count survey words line₀ end₀ c₀ i₀ line end c i = (i �
 abbrev μ-loop : tie.MeasureT-loop
 μ-loop stream count survey words line₀ end₀ c₀ i₀ line end c i = count - i
 
-loop-holds : tie.Need-loop-holds Inv-loop μ-loop
-loop-holds c = search needs
-
-question-requires : tie.Need-question-requires Inv-loop μ-loop
-question-requires c κs = search needs
-
-put-number-requires : tie.Need-put-number-requires Inv-loop μ-loop
-put-number-requires c κs = search needs
-
-add-i : tie.Need-add-i Inv-loop μ-loop
-add-i c = search needs
-
-loop-less : tie.Need-loop-less Inv-loop μ-loop
-loop-less c = search needs
-
-loop-again : tie.Need-loop-again Inv-loop μ-loop
-loop-again c = search needs
-
-byte-requires : tie.Need-byte-requires Inv-loop μ-loop
-byte-requires c κs = search needs
-
-say-requires : tie.Need-say-requires Inv-loop μ-loop
-say-requires c κs = search needs
-
-same-length : tie.Need-same-length Inv-loop μ-loop
-same-length c = search needs
-
-returns : tie.Need-returns Inv-loop μ-loop
-returns c = search needs
-
 pub questions-spec : {M : Type 1} → statement M
 questions-spec =
     tie.close
     (tie.spec
     Inv-loop
     μ-loop
-    loop-holds
-    question-requires
-    put-number-requires
-    add-i
-    loop-less
-    loop-again
-    byte-requires
-    say-requires
-    same-length
-    returns)
+    (λ c. search needs)  -- loop-holds
+    (λ c κs. search needs)  -- question-requires
+    (λ c κs. search needs)  -- put-number-requires
+    (λ c. search needs)  -- add-i
+    (λ c. search needs)  -- loop-less
+    (λ c. search needs)  -- loop-again
+    (λ c κs. search needs)  -- byte-requires
+    (λ c κs. search needs)  -- say-requires
+    (λ c. search needs)  -- same-length
+    (λ c. search needs))  -- returns

@@ -5,31 +5,19 @@ use borrow.Author.Needs.{needs}
 use Rattle.check_seats.proofs.load.Statement.{statement}
 use Rattle.check_seats.proofs.load.Tie as tie
 
-returns : tie.Need-returns
-returns c = search needs
-
-returns-2 : tie.Need-returns-2
-returns-2 c = search needs
-
 slice-aggregate-load : tie.Need-slice-aggregate-load
 slice-aggregate-load c = sym (length-take-le _ _ (search needs))
 
 slice-aggregate-load-2 : tie.Need-slice-aggregate-load-2
 slice-aggregate-load-2 c = sym (length-take-le _ _ (search needs))
 
-load-requires : tie.Need-load-requires
-load-requires c κs = search needs
-
-returns-3 : tie.Need-returns-3
-returns-3 c = search needs
-
 pub load-spec : {M : Type 1} → statement M
 load-spec =
     tie.close
     (tie.spec
-    returns
-    returns-2
+    (λ c. search needs)  -- returns
+    (λ c. search needs)  -- returns-2
     slice-aggregate-load
     slice-aggregate-load-2
-    load-requires
-    returns-3)
+    (λ c κs. search needs)  -- load-requires
+    (λ c. search needs))  -- returns-3

@@ -18,9 +18,6 @@ returns-3 c =
     let order = c .before .before .args .order in
     rw (ne-eqb order START (c .before .if1 .left), ne-eqb order LINKS (c .if3 .taken))
 
-is-link-requires : tie.Need-is-link-requires
-is-link-requires c κs = search needs
-
 returns-4 : tie.Need-returns-4
 returns-4 c = rw (c .before .before .if3 .left, sym (c .before .is-link .ensures) ∙ c .if4 .taken)
 
@@ -33,4 +30,13 @@ returns-6 c =
     rw (c .before .before .before .if3 .left, sym (c .before .before .is-link .ensures) ∙ c .before .if4 .left, ne-eqb kind END (c .if5 .left))
 
 pub next-order-spec : {M : Type 1} → statement M
-next-order-spec = tie.close (tie.spec returns returns-2 returns-3 is-link-requires returns-4 returns-5 returns-6)
+next-order-spec =
+    tie.close
+    (tie.spec
+    returns
+    returns-2
+    returns-3
+    (λ c κs. search needs)  -- is-link-requires
+    returns-4
+    returns-5
+    returns-6)

@@ -19,15 +19,6 @@ accepted : (c : tie.Else1)
     → readRefusal (linesOf (start (c .before) .args .file .now)) (length (start (c .before) .args .words .now)) (length (start (c .before) .args .levels .now)) ≡ 0
 accepted c = sym (c .before .refusal .ensures) ∙ c .if1 .left
 
-made-requires : tie.Need-made-requires
-made-requires c κs = search needs
-
-slice-aggregate-refusal : tie.Need-slice-aggregate-refusal
-slice-aggregate-refusal c = search needs
-
-refusal-requires : tie.Need-refusal-requires
-refusal-requires c κs = search needs
-
 returns : tie.Need-returns
 returns c =
     let a = start (c .before) .args in
@@ -43,18 +34,12 @@ returns c =
       ),
     )
 
-slice-aggregate-fill : tie.Need-slice-aggregate-fill
-slice-aggregate-fill c = search needs
-
 fill-requires : tie.Need-fill-requires
 fill-requires c κs =
     let e = c .before .before .before in
     let a = start (e .before) .args in
     let o = sound (a .file .now) (length (a .words .now)) (length (a .levels .now)) (accepted e) in
     (e .before .before .before .made .ensures, o .lines, o .fits, o .room)
-
-slice-aggregate-word-at : tie.Need-slice-aggregate-word-at
-slice-aggregate-word-at c = search needs
 
 word-at-requires : tie.Need-word-at-requires
 word-at-requires c κs =
@@ -68,12 +53,6 @@ cast-t22 c =
     let e = f .before .before .before .before in
     let a = start (e .before) .args in
     omega (arith, f .fill .ensures .0, sound (a .file .now) (length (a .words .now)) (length (a .levels .now)) (accepted e) .few)
-
-same-length : tie.Need-same-length
-same-length c = search needs
-
-same-length-2 : tie.Need-same-length-2
-same-length-2 c = search needs
 
 returns-2 : tie.Need-returns-2
 returns-2 c =
@@ -96,15 +75,15 @@ pub read-spec : {M : Type 1} → statement M
 read-spec =
     tie.close
     (tie.spec
-    made-requires
-    slice-aggregate-refusal
-    refusal-requires
+    (λ c κs. search needs)  -- made-requires
+    (λ c. search needs)  -- slice-aggregate-refusal
+    (λ c κs. search needs)  -- refusal-requires
     returns
-    slice-aggregate-fill
+    (λ c. search needs)  -- slice-aggregate-fill
     fill-requires
-    slice-aggregate-word-at
+    (λ c. search needs)  -- slice-aggregate-word-at
     word-at-requires
     cast-t22
-    same-length
-    same-length-2
+    (λ c. search needs)  -- same-length
+    (λ c. search needs)  -- same-length-2
     returns-2)

@@ -42,21 +42,6 @@ longLevels c =
     let fits = read-long-levels (a .file .now) (length (a .words .now)) (length (a .levels .now)) (g .0) (g .1 .0) (found c) (a .levels .now) refl in
     omega (arith, fits, took c .read .kept)
 
-read-requires : tie.Need-read-requires
-read-requires c κs = search needs
-
-enum-known-found : tie.Need-enum-known-found
-enum-known-found c = search needs
-
-enum-known-found-2 : tie.Need-enum-known-found-2
-enum-known-found-2 c = search needs
-
-cast-m : tie.Need-cast-m
-cast-m c = search needs
-
-mul-end : tie.Need-mul-end
-mul-end c = search needs
-
 slice-reshare-prefix-write : tie.Need-slice-reshare-prefix-write
 slice-reshare-prefix-write c = long c
 
@@ -68,15 +53,6 @@ slice-reshare-prefix-write-2 c = longLevels (c .before)
 
 slice-aggregate-write-2 : tie.Need-slice-aggregate-write-2
 slice-aggregate-write-2 c = sym (length-take-le (c .before .before .before .found2 .given .0 .1 .0) (took (c .before .before) .read .last .1 .1 .0) (longLevels (c .before .before)))
-
-write-requires : tie.Need-write-requires
-write-requires c κs = search needs
-
-same-length : tie.Need-same-length
-same-length c = search needs
-
-same-length-2 : tie.Need-same-length-2
-same-length-2 c = search needs
 
 returns : tie.Need-returns
 returns c =
@@ -97,15 +73,6 @@ returns c =
         ),
       ),
     )
-
-same-length-3 : tie.Need-same-length-3
-same-length-3 c = search needs
-
-same-length-4 : tie.Need-same-length-4
-same-length-4 c = search needs
-
-same-length-5 : tie.Need-same-length-5
-same-length-5 c = search needs
 
 returns-2 : tie.Need-returns-2
 returns-2 c =
@@ -140,20 +107,20 @@ pub read-then-write-spec : {M : Type 1} → statement M
 read-then-write-spec =
     tie.close
     (tie.spec
-    read-requires
-    enum-known-found
-    enum-known-found-2
-    cast-m
-    mul-end
+    (λ c κs. search needs)  -- read-requires
+    (λ c. search needs)  -- enum-known-found
+    (λ c. search needs)  -- enum-known-found-2
+    (λ c. search needs)  -- cast-m
+    (λ c. search needs)  -- mul-end
     slice-reshare-prefix-write
     slice-aggregate-write
     slice-reshare-prefix-write-2
     slice-aggregate-write-2
-    write-requires
-    same-length
-    same-length-2
+    (λ c κs. search needs)  -- write-requires
+    (λ c. search needs)  -- same-length
+    (λ c. search needs)  -- same-length-2
     returns
-    same-length-3
-    same-length-4
-    same-length-5
+    (λ c. search needs)  -- same-length-3
+    (λ c. search needs)  -- same-length-4
+    (λ c. search needs)  -- same-length-5
     returns-2)

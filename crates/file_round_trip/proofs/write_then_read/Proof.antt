@@ -32,29 +32,11 @@ long c =
     let fits = written-long (a .units) (a .words .now) (a .levels .now) (length (a .file .now)) (c .before .done2 .given .0 .0) (done c) (a .file .now) refl in
     omega (arith, fits, wrote c .write .kept)
 
-write-requires : tie.Need-write-requires
-write-requires c κs = search needs
-
-enum-known-done : tie.Need-enum-known-done
-enum-known-done c = search needs
-
-enum-known-done-2 : tie.Need-enum-known-done-2
-enum-known-done-2 c = search needs
-
-cast-end : tie.Need-cast-end
-cast-end c = search needs
-
 slice-reshare-prefix-read : tie.Need-slice-reshare-prefix-read
 slice-reshare-prefix-read c = long c
 
 slice-aggregate-read : tie.Need-slice-aggregate-read
 slice-aggregate-read c = sym (length-take-le (c .before .before .done2 .given .0 .0) (wrote (c .before) .write .last .1 .1 .1 .0) (long (c .before)))
-
-read-requires : tie.Need-read-requires
-read-requires c κs = search needs
-
-same-length : tie.Need-same-length
-same-length c = search needs
 
 returns : tie.Need-returns
 returns c =
@@ -78,15 +60,6 @@ returns c =
         ),
       ),
     )
-
-same-length-2 : tie.Need-same-length-2
-same-length-2 c = search needs
-
-same-length-3 : tie.Need-same-length-3
-same-length-3 c = search needs
-
-same-length-4 : tie.Need-same-length-4
-same-length-4 c = search needs
 
 returns-2 : tie.Need-returns-2
 returns-2 c =
@@ -118,16 +91,16 @@ pub write-then-read-spec : {M : Type 1} → statement M
 write-then-read-spec =
     tie.close
     (tie.spec
-    write-requires
-    enum-known-done
-    enum-known-done-2
-    cast-end
+    (λ c κs. search needs)  -- write-requires
+    (λ c. search needs)  -- enum-known-done
+    (λ c. search needs)  -- enum-known-done-2
+    (λ c. search needs)  -- cast-end
     slice-reshare-prefix-read
     slice-aggregate-read
-    read-requires
-    same-length
+    (λ c κs. search needs)  -- read-requires
+    (λ c. search needs)  -- same-length
     returns
-    same-length-2
-    same-length-3
-    same-length-4
+    (λ c. search needs)  -- same-length-2
+    (λ c. search needs)  -- same-length-3
+    (λ c. search needs)  -- same-length-4
     returns-2)

@@ -22,9 +22,6 @@ few c =
     let a = c .before .before .before .before .args in
     passes (a .units) (a .words .now) (table-alone (a .units) (a .words .now) (a .levels .now) (written-stored (a .units) (a .words .now) (a .levels .now) (length (a .out .now)) (accepted c))) .fewLinks
 
-refusal-requires : tie.Need-refusal-requires
-refusal-requires c κs = search needs
-
 returns : tie.Need-returns
 returns c =
     let a = c .before .before .before .before .args in
@@ -51,9 +48,6 @@ add-t13 c = omega (arith, few (c .before .before .before .before))
 cast-t14 : tie.Need-cast-t14
 cast-t14 c = omega (arith, few (c .before .before .before .before))
 
-same-length : tie.Need-same-length
-same-length c = search needs
-
 returns-2 : tie.Need-returns-2
 returns-2 c =
     let a = c .before .before .before .before .before .before .before .before .args in
@@ -70,11 +64,11 @@ pub write-spec : {M : Type 1} → statement M
 write-spec =
     tie.close
     (tie.spec
-    refusal-requires
+    (λ c κs. search needs)  -- refusal-requires
     returns
     lines-requires
     mul-t12
     add-t13
     cast-t14
-    same-length
+    (λ c. search needs)  -- same-length
     returns-2)

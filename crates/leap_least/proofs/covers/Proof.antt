@@ -8,20 +8,19 @@ use Rattle.leap_least.proofs.covers.Tie as tie
 returns : tie.Need-returns
 returns c = λ e. absurd (false≢true e)
 
-add-if2 : tie.Need-add-if2
-add-if2 c = search needs
-
 returns-2 : tie.Need-returns-2
 returns-2 c = λ e. absurd (false≢true e)
-
-cast-result : tie.Need-cast-result
-cast-result c = search needs
-
-add-result : tie.Need-add-result
-add-result c = search needs
 
 returns-3 : tie.Need-returns-3
 returns-3 c = λ e. (search needs, search needs, leb-true _ _ e)
 
 pub covers-spec : {M : Type 1} → statement M
-covers-spec = tie.close (tie.spec returns add-if2 returns-2 cast-result add-result returns-3)
+covers-spec =
+    tie.close
+    (tie.spec
+    returns
+    (λ c. search needs)  -- add-if2
+    returns-2
+    (λ c. search needs)  -- cast-result
+    (λ c. search needs)  -- add-result
+    returns-3)

@@ -14,17 +14,8 @@ use Rattle.leap_least.proofs.leap.Tie as tie
 sure : (c : tie.Else1) → (c .before .before .before .before .found .result .right && c .before .before .covers .result) ≡ true
 sure c = sym (c .before .both .ensures) ∙ not-false _ (c .if1 .left)
 
-found-requires : tie.Need-found-requires
-found-requires c κs = search needs
-
-rounds-in-requires : tie.Need-rounds-in-requires
-rounds-in-requires c κs = search needs
-
 covers-requires : tie.Need-covers-requires
 covers-requires c κs = c .rounds-in .ensures .1
-
-both-requires : tie.Need-both-requires
-both-requires c κs = search needs
 
 returns : tie.Need-returns
 returns c = λ e. absurd (false≢true e)
@@ -71,10 +62,10 @@ pub leap-spec : {M : Type 1} → statement M
 leap-spec =
     tie.close
     (tie.spec
-    found-requires
-    rounds-in-requires
+    (λ c κs. search needs)  -- found-requires
+    (λ c κs. search needs)  -- rounds-in-requires
     covers-requires
-    both-requires
+    (λ c κs. search needs)  -- both-requires
     returns
     passed-requires
     cast-t18

@@ -6,18 +6,6 @@ use borrow.Author.Needs.{needs}
 use Rattle.leap_least.proofs.rounds_in.Statement.{statement}
 use Rattle.leap_least.proofs.rounds_in.Tie as tie
 
-greatest-of-requires : tie.Need-greatest-of-requires
-greatest-of-requires c κs = search needs
-
-cast-result : tie.Need-cast-result
-cast-result c = search needs
-
-add-result : tie.Need-add-result
-add-result c = search needs
-
-add-result-2 : tie.Need-add-result-2
-add-result-2 c = search needs
-
 returns : tie.Need-returns
 returns c =
     let a = c .before .before .args in
@@ -30,4 +18,10 @@ returns-2 c =
 
 pub rounds-in-spec : {M : Type 1} → statement M
 rounds-in-spec =
-    tie.close (tie.spec greatest-of-requires cast-result add-result add-result-2 returns returns-2)
+    tie.close (tie.spec
+    (λ c κs. search needs)  -- greatest-of-requires
+    (λ c. search needs)  -- cast-result
+    (λ c. search needs)  -- add-result
+    (λ c. search needs)  -- add-result-2
+    returns
+    returns-2)

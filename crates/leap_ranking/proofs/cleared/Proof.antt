@@ -15,21 +15,6 @@ Inv-loop arcs new₀ a₀ new a = (a ≤ arcs) × (length new ≡ 512) × (new �
 abbrev μ-loop : tie.MeasureT-loop
 μ-loop arcs new₀ a₀ new a = arcs - a
 
-loop-holds : tie.Need-loop-holds Inv-loop μ-loop
-loop-holds c = search needs
-
-mul-new : tie.Need-mul-new Inv-loop μ-loop
-mul-new c = search needs
-
-array-write-new : tie.Need-array-write-new Inv-loop μ-loop
-array-write-new c = search needs
-
-add-a : tie.Need-add-a Inv-loop μ-loop
-add-a c = search needs
-
-loop-less : tie.Need-loop-less Inv-loop μ-loop
-loop-less c = search needs
-
 loop-again : tie.Need-loop-again Inv-loop μ-loop
 loop-again c =
     let s = c .before in
@@ -44,10 +29,10 @@ cleared-spec =
     (tie.spec
     Inv-loop
     μ-loop
-    loop-holds
-    mul-new
-    array-write-new
-    add-a
-    loop-less
+    (λ c. search needs)  -- loop-holds
+    (λ c. search needs)  -- mul-new
+    (λ c. search needs)  -- array-write-new
+    (λ c. search needs)  -- add-a
+    (λ c. search needs)  -- loop-less
     loop-again
     returns)

@@ -14,30 +14,6 @@ returns c = λ e. absurd (false≢true e)
 returns-2 : tie.Need-returns-2
 returns-2 c = λ e. absurd (false≢true e)
 
-mul-less : tie.Need-mul-less
-mul-less c = search needs
-
-less-requires : tie.Need-less-requires
-less-requires c κs = search needs
-
-lg-requires : tie.Need-lg-requires
-lg-requires c κs = search needs
-
-cast-most : tie.Need-cast-most
-cast-most c = search needs
-
-add-most : tie.Need-add-most
-add-most c = search needs
-
-cast-result : tie.Need-cast-result
-cast-result c = search needs
-
-add-result : tie.Need-add-result
-add-result c = search needs
-
-add-result-2 : tie.Need-add-result-2
-add-result-2 c = search needs
-
 returns-3 : tie.Need-returns-3
 returns-3 c =
     let l = c .before in
@@ -54,12 +30,12 @@ covers-spec =
     (tie.spec
     returns
     returns-2
-    mul-less
-    less-requires
-    lg-requires
-    cast-most
-    add-most
-    cast-result
-    add-result
-    add-result-2
+    (λ c. search needs)  -- mul-less
+    (λ c κs. search needs)  -- less-requires
+    (λ c κs. search needs)  -- lg-requires
+    (λ c. search needs)  -- cast-most
+    (λ c. search needs)  -- add-most
+    (λ c. search needs)  -- cast-result
+    (λ c. search needs)  -- add-result
+    (λ c. search needs)  -- add-result-2
     returns-3)

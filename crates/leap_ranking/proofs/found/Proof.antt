@@ -5,39 +5,6 @@ use borrow.Author.Needs.{needs}
 use Rattle.leap_ranking.proofs.found.Statement.{statement}
 use Rattle.leap_ranking.proofs.found.Tie as tie
 
-walk-requires : tie.Need-walk-requires
-walk-requires c κs = search needs
-
-sums-requires : tie.Need-sums-requires
-sums-requires c κs = search needs
-
-ranks-requires : tie.Need-ranks-requires
-ranks-requires c κs = search needs
-
-asked-requires : tie.Need-asked-requires
-asked-requires c κs = search needs
-
-slice-aggregate-numbers-ok : tie.Need-slice-aggregate-numbers-ok
-slice-aggregate-numbers-ok c = search needs
-
-numbers-ok-requires : tie.Need-numbers-ok-requires
-numbers-ok-requires c κs = search needs
-
-slice-aggregate-numbers-ok-2 : tie.Need-slice-aggregate-numbers-ok-2
-slice-aggregate-numbers-ok-2 c = search needs
-
-numbers-ok-requires-2 : tie.Need-numbers-ok-requires-2
-numbers-ok-requires-2 c κs = search needs
-
-both-requires : tie.Need-both-requires
-both-requires c κs = search needs
-
-keys-right-requires : tie.Need-keys-right-requires
-keys-right-requires c κs = search needs
-
-both-requires-2 : tie.Need-both-requires-2
-both-requires-2 c κs = search needs
-
 returns : tie.Need-returns
 returns c =
     let k = c .before in
@@ -59,15 +26,15 @@ pub found-spec : {M : Type 1} → statement M
 found-spec =
     tie.close
     (tie.spec
-    walk-requires
-    sums-requires
-    ranks-requires
-    asked-requires
-    slice-aggregate-numbers-ok
-    numbers-ok-requires
-    slice-aggregate-numbers-ok-2
-    numbers-ok-requires-2
-    both-requires
-    keys-right-requires
-    both-requires-2
+    (λ c κs. search needs)  -- walk-requires
+    (λ c κs. search needs)  -- sums-requires
+    (λ c κs. search needs)  -- ranks-requires
+    (λ c κs. search needs)  -- asked-requires
+    (λ c. search needs)  -- slice-aggregate-numbers-ok
+    (λ c κs. search needs)  -- numbers-ok-requires
+    (λ c. search needs)  -- slice-aggregate-numbers-ok-2
+    (λ c κs. search needs)  -- numbers-ok-requires-2
+    (λ c κs. search needs)  -- both-requires
+    (λ c κs. search needs)  -- keys-right-requires
+    (λ c κs. search needs)  -- both-requires-2
     returns)

@@ -14,32 +14,14 @@ sure c = sym (c .before .both .ensures) ∙ not-false _ (c .if2 .left)
 returns : tie.Need-returns
 returns c = λ e. absurd (false≢true e)
 
-mul-arcs : tie.Need-mul-arcs
-mul-arcs c = search needs
-
-found-requires : tie.Need-found-requires
-found-requires c κs = search needs
-
-covers-requires : tie.Need-covers-requires
-covers-requires c κs = search needs
-
-both-requires : tie.Need-both-requires
-both-requires c κs = search needs
-
 returns-2 : tie.Need-returns-2
 returns-2 c = λ e. absurd (false≢true e)
-
-add-made : tie.Need-add-made
-add-made c = search needs
 
 passed-requires : tie.Need-passed-requires
 passed-requires c κs =
     let e = c .before in
     let v = e .before .before in
     v .covers .ensures (and-right (v .before .found .result .right) (v .covers .result) (sure e)) .0
-
-cleared-requires : tie.Need-cleared-requires
-cleared-requires c κs = search needs
 
 returns-3 : tie.Need-returns-3
 returns-3 c =
@@ -65,12 +47,12 @@ leap-spec =
     tie.close
     (tie.spec
     returns
-    mul-arcs
-    found-requires
-    covers-requires
-    both-requires
+    (λ c. search needs)  -- mul-arcs
+    (λ c κs. search needs)  -- found-requires
+    (λ c κs. search needs)  -- covers-requires
+    (λ c κs. search needs)  -- both-requires
     returns-2
-    add-made
+    (λ c. search needs)  -- add-made
     passed-requires
-    cleared-requires
+    (λ c κs. search needs)  -- cleared-requires
     returns-3)

@@ -15,36 +15,6 @@ Inv-loop units key value₀ v₀ value v = (v ≤ units) × (value ≡ over v (�
 abbrev μ-loop : tie.MeasureT-loop
 μ-loop units key value₀ v₀ value v = units - v
 
-loop-holds : tie.Need-loop-holds Inv-loop μ-loop
-loop-holds c = search needs
-
-cast-last-in : tie.Need-cast-last-in Inv-loop μ-loop
-cast-last-in c = search needs
-
-mul-last-in : tie.Need-mul-last-in Inv-loop μ-loop
-mul-last-in c = search needs
-
-element-copy-out-last-in : tie.Need-element-copy-out-last-in Inv-loop μ-loop
-element-copy-out-last-in c = search needs
-
-last-in-requires : tie.Need-last-in-requires Inv-loop μ-loop
-last-in-requires c κs = search needs
-
-cast-value : tie.Need-cast-value Inv-loop μ-loop
-cast-value c = search needs
-
-mul-value : tie.Need-mul-value Inv-loop μ-loop
-mul-value c = search needs
-
-element-write-value : tie.Need-element-write-value Inv-loop μ-loop
-element-write-value c = search needs
-
-add-v : tie.Need-add-v Inv-loop μ-loop
-add-v c = search needs
-
-loop-less : tie.Need-loop-less Inv-loop μ-loop
-loop-less c = search needs
-
 loop-again : tie.Need-loop-again Inv-loop μ-loop
 loop-again c =
     let s = c .before .before .before in
@@ -60,15 +30,15 @@ end-spec =
     (tie.spec
     Inv-loop
     μ-loop
-    loop-holds
-    cast-last-in
-    mul-last-in
-    element-copy-out-last-in
-    last-in-requires
-    cast-value
-    mul-value
-    element-write-value
-    add-v
-    loop-less
+    (λ c. search needs)  -- loop-holds
+    (λ c. search needs)  -- cast-last-in
+    (λ c. search needs)  -- mul-last-in
+    (λ c. search needs)  -- element-copy-out-last-in
+    (λ c κs. search needs)  -- last-in-requires
+    (λ c. search needs)  -- cast-value
+    (λ c. search needs)  -- mul-value
+    (λ c. search needs)  -- element-write-value
+    (λ c. search needs)  -- add-v
+    (λ c. search needs)  -- loop-less
     loop-again
     returns)

@@ -18,9 +18,6 @@ returns-2 c = λ e. absurd (false≢true e)
 returns-3 : tie.Need-returns-3
 returns-3 c = λ e. absurd (false≢true e)
 
-mul-count : tie.Need-mul-count
-mul-count c = search needs
-
 returns-4 : tie.Need-returns-4
 returns-4 c = λ e. absurd (false≢true e)
 
@@ -28,9 +25,6 @@ slice-aggregate-all-below : tie.Need-slice-aggregate-all-below
 slice-aggregate-all-below c =
     let a = c .before .before .before .before .before .before .before .args in
     rw (length-take (2 * a .pairs) (a .ends .now)) (omega arith)
-
-all-below-requires : tie.Need-all-below-requires
-all-below-requires c κs = search needs
 
 returns-5 : tie.Need-returns-5
 returns-5 c = λ e. (search needs, search needs, within-all _ _ _ (search needs) (sym (c .all-below .ensures) ∙ e), search needs)
@@ -42,8 +36,8 @@ fits-spec =
     returns
     returns-2
     returns-3
-    mul-count
+    (λ c. search needs)  -- mul-count
     returns-4
     slice-aggregate-all-below
-    all-below-requires
+    (λ c κs. search needs)  -- all-below-requires
     returns-5)

@@ -15,30 +15,6 @@ Inv-loop units key most₀ v₀ most v = (v ≤ units) × (most ≡ fold max v (
 abbrev μ-loop : tie.MeasureT-loop
 μ-loop units key most₀ v₀ most v = units - v
 
-loop-holds : tie.Need-loop-holds Inv-loop μ-loop
-loop-holds c = search needs
-
-cast-wait-in : tie.Need-cast-wait-in Inv-loop μ-loop
-cast-wait-in c = search needs
-
-mul-wait-in : tie.Need-mul-wait-in Inv-loop μ-loop
-mul-wait-in c = search needs
-
-element-copy-out-wait-in : tie.Need-element-copy-out-wait-in Inv-loop μ-loop
-element-copy-out-wait-in c = search needs
-
-wait-in-requires : tie.Need-wait-in-requires Inv-loop μ-loop
-wait-in-requires c κs = search needs
-
-greatest-of-requires : tie.Need-greatest-of-requires Inv-loop μ-loop
-greatest-of-requires c κs = search needs
-
-add-v : tie.Need-add-v Inv-loop μ-loop
-add-v c = search needs
-
-loop-less : tie.Need-loop-less Inv-loop μ-loop
-loop-less c = search needs
-
 loop-again : tie.Need-loop-again Inv-loop μ-loop
 loop-again c =
     let s = c .before .before .before .before in
@@ -54,13 +30,13 @@ furthest-spec =
     (tie.spec
     Inv-loop
     μ-loop
-    loop-holds
-    cast-wait-in
-    mul-wait-in
-    element-copy-out-wait-in
-    wait-in-requires
-    greatest-of-requires
-    add-v
-    loop-less
+    (λ c. search needs)  -- loop-holds
+    (λ c. search needs)  -- cast-wait-in
+    (λ c. search needs)  -- mul-wait-in
+    (λ c. search needs)  -- element-copy-out-wait-in
+    (λ c κs. search needs)  -- wait-in-requires
+    (λ c κs. search needs)  -- greatest-of-requires
+    (λ c. search needs)  -- add-v
+    (λ c. search needs)  -- loop-less
     loop-again
     returns)

@@ -14,24 +14,6 @@ returns c =
     let a = c .before .before .args in
     rw (le-ltb (a .j) (a .pairs) (c .if1 .taken)) refl
 
-mul-at : tie.Need-mul-at
-mul-at c = search needs
-
-mul-a : tie.Need-mul-a
-mul-a c = search needs
-
-shared-slice-read-a : tie.Need-shared-slice-read-a
-shared-slice-read-a c = search needs
-
-add-b : tie.Need-add-b
-add-b c = search needs
-
-mul-b : tie.Need-mul-b
-mul-b c = search needs
-
-shared-slice-read-b : tie.Need-shared-slice-read-b
-shared-slice-read-b c = search needs
-
 leads-requires : tie.Need-leads-requires
 leads-requires c κs =
     let e = c .before .before in
@@ -46,4 +28,15 @@ returns-2 c =
     rw (lt-ltb (a .j) (a .pairs) (omega (arith, e .if1 .left)), c .leads .ensures) refl
 
 pub led-spec : {M : Type 1} → statement M
-led-spec = tie.close (tie.spec returns mul-at mul-a shared-slice-read-a add-b mul-b shared-slice-read-b leads-requires returns-2)
+led-spec =
+    tie.close
+    (tie.spec
+    returns
+    (λ c. search needs)  -- mul-at
+    (λ c. search needs)  -- mul-a
+    (λ c. search needs)  -- shared-slice-read-a
+    (λ c. search needs)  -- add-b
+    (λ c. search needs)  -- mul-b
+    (λ c. search needs)  -- shared-slice-read-b
+    leads-requires
+    returns-2)

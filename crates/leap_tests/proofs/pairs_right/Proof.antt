@@ -18,41 +18,11 @@ abbrev μ-loop : tie.MeasureT-loop
 loop-holds : tie.Need-loop-holds Inv-loop μ-loop
 loop-holds c = (omega arith, λ e i h. absurd (omega arith))
 
-cast-at : tie.Need-cast-at Inv-loop μ-loop
-cast-at c = search needs
-
-mul-at : tie.Need-mul-at Inv-loop μ-loop
-mul-at c = search needs
-
-mul-a : tie.Need-mul-a Inv-loop μ-loop
-mul-a c = search needs
-
-shared-slice-read-a : tie.Need-shared-slice-read-a Inv-loop μ-loop
-shared-slice-read-a c = search needs
-
-add-b : tie.Need-add-b Inv-loop μ-loop
-add-b c = search needs
-
-mul-b : tie.Need-mul-b Inv-loop μ-loop
-mul-b c = search needs
-
-shared-slice-read-b : tie.Need-shared-slice-read-b Inv-loop μ-loop
-shared-slice-read-b c = search needs
-
 apart-requires : tie.Need-apart-requires Inv-loop μ-loop
 apart-requires c κs =
     let g = c .before .before in
     let p = g .before .before .before .pre .1 in
     (p (2 * g .before .loop .j) (omega (arith, g .loop-test .taken)), p (2 * g .before .loop .j + 1) (omega (arith, g .loop-test .taken)))
-
-greater-requires : tie.Need-greater-requires Inv-loop μ-loop
-greater-requires c κs = search needs
-
-add-j : tie.Need-add-j Inv-loop μ-loop
-add-j c = search needs
-
-loop-less : tie.Need-loop-less Inv-loop μ-loop
-loop-less c = search needs
 
 loop-again : tie.Need-loop-again Inv-loop μ-loop
 loop-again c =
@@ -64,4 +34,22 @@ returns : tie.Need-returns Inv-loop μ-loop
 returns c = λ e i h. c .before .loop .inv .1 (leb-true _ 2 e) i (omega (arith, h, c .loop-test .left))
 
 pub pairs-right-spec : {M : Type 1} → statement M
-pairs-right-spec = tie.close (tie.spec Inv-loop μ-loop loop-holds cast-at mul-at mul-a shared-slice-read-a add-b mul-b shared-slice-read-b apart-requires greater-requires add-j loop-less loop-again returns)
+pairs-right-spec =
+    tie.close
+    (tie.spec
+    Inv-loop
+    μ-loop
+    loop-holds
+    (λ c. search needs)  -- cast-at
+    (λ c. search needs)  -- mul-at
+    (λ c. search needs)  -- mul-a
+    (λ c. search needs)  -- shared-slice-read-a
+    (λ c. search needs)  -- add-b
+    (λ c. search needs)  -- mul-b
+    (λ c. search needs)  -- shared-slice-read-b
+    apart-requires
+    (λ c κs. search needs)  -- greater-requires
+    (λ c. search needs)  -- add-j
+    (λ c. search needs)  -- loop-less
+    loop-again
+    returns)

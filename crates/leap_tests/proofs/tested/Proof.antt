@@ -27,9 +27,6 @@ fine c =
     let a = start c .args in
     record { units = f .0; pairs = f .1; within = f .2; few = within-few (a .units) (a .pairs) (a .ends .now) (f .0) (f .2); room = f .3 }
 
-fits-requires : tie.Need-fits-requires
-fits-requires c κs = search needs
-
 returns : tie.Need-returns
 returns c = (λ t. absurd (false≢true t), λ _. refl)
 
@@ -43,12 +40,6 @@ units-right-requires : tie.Need-units-right-requires
 units-right-requires c κs =
     let f = fine (c .before .before .before) in
     (f .units, f .pairs, f .few)
-
-both-requires : tie.Need-both-requires
-both-requires c κs = search needs
-
-both-requires-2 : tie.Need-both-requires-2
-both-requires-2 c κs = search needs
 
 returns-2 : tie.Need-returns-2
 returns-2 c = (λ t. absurd (false≢true t), λ _. refl)
@@ -74,13 +65,13 @@ pub tested-spec : {M : Type 1} → statement M
 tested-spec =
     tie.close
     (tie.spec
-    fits-requires
+    (λ c κs. search needs)  -- fits-requires
     returns
     furthest-requires
     pairs-right-requires
     units-right-requires
-    both-requires
-    both-requires-2
+    (λ c κs. search needs)  -- both-requires
+    (λ c κs. search needs)  -- both-requires-2
     returns-2
     end-requires
     returns-3)

@@ -18,18 +18,6 @@ abbrev μ-loop : tie.MeasureT-loop
 loop-holds : tie.Need-loop-holds Inv-loop μ-loop
 loop-holds c = (omega arith, λ e i h. absurd (omega arith))
 
-unit-right-requires : tie.Need-unit-right-requires Inv-loop μ-loop
-unit-right-requires c κs = search needs
-
-both-requires : tie.Need-both-requires Inv-loop μ-loop
-both-requires c κs = search needs
-
-add-v : tie.Need-add-v Inv-loop μ-loop
-add-v c = search needs
-
-loop-less : tie.Need-loop-less Inv-loop μ-loop
-loop-less c = search needs
-
 loop-again : tie.Need-loop-again Inv-loop μ-loop
 loop-again c =
     let s = c .before .before .before in
@@ -46,9 +34,9 @@ units-right-spec =
     Inv-loop
     μ-loop
     loop-holds
-    unit-right-requires
-    both-requires
-    add-v
-    loop-less
+    (λ c κs. search needs)  -- unit-right-requires
+    (λ c κs. search needs)  -- both-requires
+    (λ c. search needs)  -- add-v
+    (λ c. search needs)  -- loop-less
     loop-again
     returns)

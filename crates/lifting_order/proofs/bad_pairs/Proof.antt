@@ -12,14 +12,15 @@ returns c = bad-many (c .before .before .args .units) (c .before .before .args .
 returns-2 : tie.Need-returns-2
 returns-2 c = let a = c .before .before .before .args in bad-odd (a .units) (a .pairs .now) (search needs) (c .if2 .taken)
 
-cast-links-fit : tie.Need-cast-links-fit
-cast-links-fit c = search needs
-
-links-fit-requires : tie.Need-links-fit-requires
-links-fit-requires c κs = search needs
-
 returns-3 : tie.Need-returns-3
 returns-3 c = let a = c .before .before .before .before .args in ap not (c .links-fit .ensures) ∙ bad-named (a .units) (a .pairs .now) (search needs) (c .before .if2 .left)
 
 pub bad-pairs-spec : {M : Type 1} → statement M
-bad-pairs-spec = tie.close (tie.spec returns returns-2 cast-links-fit links-fit-requires returns-3)
+bad-pairs-spec =
+    tie.close
+    (tie.spec
+    returns
+    returns-2
+    (λ c. search needs)  -- cast-links-fit
+    (λ c κs. search needs)  -- links-fit-requires
+    returns-3)

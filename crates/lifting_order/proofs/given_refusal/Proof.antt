@@ -6,9 +6,6 @@ use borrow.Author.Needs.{needs}
 use Rattle.lifting_order.proofs.given_refusal.Statement.{statement}
 use Rattle.lifting_order.proofs.given_refusal.Tie as tie
 
-site-fits-requires : tie.Need-site-fits-requires
-site-fits-requires c κs = search needs
-
 returns : tie.Need-returns
 unfolding givenRefusal
 returns c = rw (sym (c .before .site-fits .ensures) ∙ not-true _ (c .if1 .taken)) refl
@@ -18,9 +15,6 @@ unfolding givenRefusal
 returns-2 c =
     let a = c .before .before .before .before .before .args in
     rw (sym (c .before .before .site-fits .ensures) ∙ not-false _ (c .before .if1 .left), lt-ltb (a .places) (a .units) (c .if2 .taken)) refl
-
-bad-pairs-requires : tie.Need-bad-pairs-requires
-bad-pairs-requires c κs = search needs
 
 returns-3 : tie.Need-returns-3
 unfolding givenRefusal
@@ -37,4 +31,10 @@ returns-4 c =
 pub given-refusal-spec : {M : Type 1} → statement M
 given-refusal-spec =
     tie.close
-    (tie.spec site-fits-requires returns returns-2 bad-pairs-requires returns-3 returns-4)
+    (tie.spec
+    (λ c κs. search needs)  -- site-fits-requires
+    returns
+    returns-2
+    (λ c κs. search needs)  -- bad-pairs-requires
+    returns-3
+    returns-4)

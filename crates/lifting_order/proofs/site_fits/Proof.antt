@@ -8,17 +8,18 @@ use Rattle.lifting_order.proofs.site_fits.Tie as tie
 returns : tie.Need-returns
 returns c = site-units (c .before .before .args .units) (c .before .before .args .links) (c .before .before .args .ends .now) (c .if1 .taken)
 
-mul-if2 : tie.Need-mul-if2
-mul-if2 c = search needs
-
 returns-2 : tie.Need-returns-2
 returns-2 c = let a = c .before .before .before .args in site-ends (a .units) (a .links) (a .ends .now) (search needs) (c .if2 .taken)
-
-links-fit-requires : tie.Need-links-fit-requires
-links-fit-requires c κs = search needs
 
 returns-3 : tie.Need-returns-3
 returns-3 c = let a = c .before .before .before .before .args in c .links-fit .ensures ∙ site-links (a .units) (a .links) (a .ends .now) (search needs) (search needs)
 
 pub site-fits-spec : {M : Type 1} → statement M
-site-fits-spec = tie.close (tie.spec returns mul-if2 returns-2 links-fit-requires returns-3)
+site-fits-spec =
+    tie.close
+    (tie.spec
+    returns
+    (λ c. search needs)  -- mul-if2
+    returns-2
+    (λ c κs. search needs)  -- links-fit-requires
+    returns-3)

@@ -8,20 +8,11 @@ use borrow.Author.Needs.{needs}
 use Rattle.lifting_order.proofs.write.Statement.{statement}
 use Rattle.lifting_order.proofs.write.Tie as tie
 
-given-refusal-requires : tie.Need-given-refusal-requires
-given-refusal-requires c κs = search needs
-
 returns : tie.Need-returns
 returns c =
     let a = c .before .before .before .before .before .args in
     let g = c .before .given-refusal in
     told-given (a .units) (a .links) (a .ends .now) (a .pairs .now) (g .result) (a .out .now) (g .ensures) (c .if1 .taken)
-
-zeros-requires : tie.Need-zeros-requires
-zeros-requires c κs = search needs
-
-mul-grown : tie.Need-mul-grown
-mul-grown c = search needs
 
 slice-aggregate-grown : tie.Need-slice-aggregate-grown
 slice-aggregate-grown c =
@@ -29,9 +20,6 @@ slice-aggregate-grown c =
     let e = sym (c .before .before .before .given-refusal .ensures) ∙ c .before .before .if1 .left in
     let p = passed-given (a .units) (a .links) (a .ends .now) (a .pairs .now) (length (a .out .now)) e in
     rw (length-take (2 * a .links) (a .ends .now)) (omega (arith, site-long (a .units) (a .links) (a .ends .now) (p .0)))
-
-slice-aggregate-grown-2 : tie.Need-slice-aggregate-grown-2
-slice-aggregate-grown-2 c = search needs
 
 grown-requires : tie.Need-grown-requires
 grown-requires c κs =
@@ -46,15 +34,6 @@ returns-2 c =
     let e = sym (c .before .before .before .before .before .before .before .given-refusal .ensures) ∙ c .before .before .before .before .before .before .if1 .left in
     told-none (a .units) (a .links) (a .ends .now) (a .pairs .now) (a .out .now) _ (c .before .before .grown .result) e (c .before .before .grown .ensures) (c .if2 .taken)
 
-slice-aggregate-lay-first : tie.Need-slice-aggregate-lay-first
-slice-aggregate-lay-first c = search needs
-
-lay-first-requires : tie.Need-lay-first-requires
-lay-first-requires c κs = search needs
-
-same-length : tie.Need-same-length
-same-length c = search needs
-
 returns-3 : tie.Need-returns-3
 returns-3 c =
     let a = c .before .before .before .before .before .before .before .before .before .before .before .before .before .before .before .before .args in
@@ -65,15 +44,15 @@ pub write-spec : {M : Type 1} → statement M
 write-spec =
     tie.close
     (tie.spec
-    given-refusal-requires
+    (λ c κs. search needs)  -- given-refusal-requires
     returns
-    zeros-requires
-    mul-grown
+    (λ c κs. search needs)  -- zeros-requires
+    (λ c. search needs)  -- mul-grown
     slice-aggregate-grown
-    slice-aggregate-grown-2
+    (λ c. search needs)  -- slice-aggregate-grown-2
     grown-requires
     returns-2
-    slice-aggregate-lay-first
-    lay-first-requires
-    same-length
+    (λ c. search needs)  -- slice-aggregate-lay-first
+    (λ c κs. search needs)  -- lay-first-requires
+    (λ c. search needs)  -- same-length
     returns-3)

@@ -15,38 +15,8 @@ Inv-loop links words counts₀ j₀ counts j = (j ≤ links) × (length counts �
 abbrev μ-loop : tie.MeasureT-loop
 μ-loop links words counts₀ j₀ counts j = links - j
 
-none-requires : tie.Need-none-requires Inv-loop μ-loop
-none-requires c κs = search needs
-
 loop-holds : tie.Need-loop-holds Inv-loop μ-loop
 loop-holds c = (search needs, search needs, counted-none (c .before .before .args .words .now) (c .none .result) (c .none .ensures))
-
-cast-i : tie.Need-cast-i Inv-loop μ-loop
-cast-i c = search needs
-
-mul-i : tie.Need-mul-i Inv-loop μ-loop
-mul-i c = search needs
-
-slice-aggregate-count-in : tie.Need-slice-aggregate-count-in Inv-loop μ-loop
-slice-aggregate-count-in c = search needs
-
-word-requires : tie.Need-word-requires Inv-loop μ-loop
-word-requires c κs = search needs
-
-add-word : tie.Need-add-word Inv-loop μ-loop
-add-word c = search needs
-
-word-requires-2 : tie.Need-word-requires-2 Inv-loop μ-loop
-word-requires-2 c κs = search needs
-
-count-in-requires : tie.Need-count-in-requires Inv-loop μ-loop
-count-in-requires c κs = search needs
-
-add-j : tie.Need-add-j Inv-loop μ-loop
-add-j c = search needs
-
-loop-less : tie.Need-loop-less Inv-loop μ-loop
-loop-less c = search needs
 
 loop-again : tie.Need-loop-again Inv-loop μ-loop
 loop-again c =
@@ -72,16 +42,16 @@ counts-of-spec =
     (tie.spec
     Inv-loop
     μ-loop
-    none-requires
+    (λ c κs. search needs)  -- none-requires
     loop-holds
-    cast-i
-    mul-i
-    slice-aggregate-count-in
-    word-requires
-    add-word
-    word-requires-2
-    count-in-requires
-    add-j
-    loop-less
+    (λ c. search needs)  -- cast-i
+    (λ c. search needs)  -- mul-i
+    (λ c. search needs)  -- slice-aggregate-count-in
+    (λ c κs. search needs)  -- word-requires
+    (λ c. search needs)  -- add-word
+    (λ c κs. search needs)  -- word-requires-2
+    (λ c κs. search needs)  -- count-in-requires
+    (λ c. search needs)  -- add-j
+    (λ c. search needs)  -- loop-less
     loop-again
     returns)

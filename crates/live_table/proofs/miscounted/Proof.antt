@@ -17,29 +17,8 @@ Inv-loop links words counts right wrong₀ v₀ wrong v = (v ≤ 256) × (wrong 
 abbrev μ-loop : tie.MeasureT-loop
 μ-loop links words counts right wrong₀ v₀ wrong v = 256 - v
 
-counts-of-requires : tie.Need-counts-of-requires Inv-loop μ-loop
-counts-of-requires c κs = search needs
-
 loop-holds : tie.Need-loop-holds Inv-loop μ-loop
 loop-holds c = (search needs, refl)
-
-word-requires : tie.Need-word-requires Inv-loop μ-loop
-word-requires c κs = search needs
-
-slice-aggregate-word : tie.Need-slice-aggregate-word Inv-loop μ-loop
-slice-aggregate-word c = search needs
-
-word-requires-2 : tie.Need-word-requires-2 Inv-loop μ-loop
-word-requires-2 c κs = search needs
-
-either-requires : tie.Need-either-requires Inv-loop μ-loop
-either-requires c κs = search needs
-
-add-v : tie.Need-add-v Inv-loop μ-loop
-add-v c = search needs
-
-loop-less : tie.Need-loop-less Inv-loop μ-loop
-loop-less c = search needs
 
 loop-again : tie.Need-loop-again Inv-loop μ-loop
 loop-again c =
@@ -65,13 +44,13 @@ miscounted-spec =
     (tie.spec
     Inv-loop
     μ-loop
-    counts-of-requires
+    (λ c κs. search needs)  -- counts-of-requires
     loop-holds
-    word-requires
-    slice-aggregate-word
-    word-requires-2
-    either-requires
-    add-v
-    loop-less
+    (λ c κs. search needs)  -- word-requires
+    (λ c. search needs)  -- slice-aggregate-word
+    (λ c κs. search needs)  -- word-requires-2
+    (λ c κs. search needs)  -- either-requires
+    (λ c. search needs)  -- add-v
+    (λ c. search needs)  -- loop-less
     loop-again
     returns)

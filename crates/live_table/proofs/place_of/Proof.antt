@@ -18,27 +18,6 @@ abbrev μ-loop : tie.MeasureT-loop
 loop-holds : tie.Need-loop-holds Inv-loop μ-loop
 loop-holds c = (search needs, search needs, omega arith)
 
-add-loop : tie.Need-add-loop Inv-loop μ-loop
-add-loop c = search needs
-
-mul-same-ends : tie.Need-mul-same-ends Inv-loop μ-loop
-mul-same-ends c = search needs
-
-shared-slice-read-same-ends : tie.Need-shared-slice-read-same-ends Inv-loop μ-loop
-shared-slice-read-same-ends c = search needs
-
-add-same-ends : tie.Need-add-same-ends Inv-loop μ-loop
-add-same-ends c = search needs
-
-mul-same-ends-2 : tie.Need-mul-same-ends-2 Inv-loop μ-loop
-mul-same-ends-2 c = search needs
-
-shared-slice-read-same-ends-2 : tie.Need-shared-slice-read-same-ends-2 Inv-loop μ-loop
-shared-slice-read-same-ends-2 c = search needs
-
-same-ends-requires : tie.Need-same-ends-requires Inv-loop μ-loop
-same-ends-requires c κs = search needs
-
 returns : tie.Need-returns Inv-loop μ-loop
 returns c =
     let s = c .before .before .before .before .before in
@@ -46,15 +25,6 @@ returns c =
     let here : placeOf (a .a) (a .b) (drop (s .loop .i) (a .words .now)) ≡ 0 =
     place-here (a .a) (a .b) (a .words .now) (s .loop .i) (search needs) (sym (c .before .same-ends .ensures) ∙ c .if1 .taken) in
     omega (arith, s .loop .inv .2, here)
-
-add-j : tie.Need-add-j Inv-loop μ-loop
-add-j c = search needs
-
-add-i : tie.Need-add-i Inv-loop μ-loop
-add-i c = search needs
-
-loop-less : tie.Need-loop-less Inv-loop μ-loop
-loop-less c = search needs
 
 loop-again : tie.Need-loop-again Inv-loop μ-loop
 loop-again c =
@@ -77,16 +47,16 @@ place-of-spec =
     Inv-loop
     μ-loop
     loop-holds
-    add-loop
-    mul-same-ends
-    shared-slice-read-same-ends
-    add-same-ends
-    mul-same-ends-2
-    shared-slice-read-same-ends-2
-    same-ends-requires
+    (λ c. search needs)  -- add-loop
+    (λ c. search needs)  -- mul-same-ends
+    (λ c. search needs)  -- shared-slice-read-same-ends
+    (λ c. search needs)  -- add-same-ends
+    (λ c. search needs)  -- mul-same-ends-2
+    (λ c. search needs)  -- shared-slice-read-same-ends-2
+    (λ c κs. search needs)  -- same-ends-requires
     returns
-    add-j
-    add-i
-    loop-less
+    (λ c. search needs)  -- add-j
+    (λ c. search needs)  -- add-i
+    (λ c. search needs)  -- loop-less
     loop-again
     returns-2)

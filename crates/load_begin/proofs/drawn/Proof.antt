@@ -8,9 +8,6 @@ use Rattle.load_begin.proofs.drawn.Tie as tie
 orphans-requires : tie.Need-orphans-requires
 orphans-requires c κs = tt
 
-slice-aggregate-first-words : tie.Need-slice-aggregate-first-words
-slice-aggregate-first-words c = search needs
-
 first-words-requires : tie.Need-first-words-requires
 first-words-requires c κs = tt
 
@@ -18,4 +15,10 @@ returns : tie.Need-returns
 returns c = rw (c .before .first-words .ensures, c .before .before .before .orphans .ensures, length-absents 256) refl
 
 pub drawn-spec : {M : Type 1} → statement M
-drawn-spec = tie.close (tie.spec orphans-requires slice-aggregate-first-words first-words-requires returns)
+drawn-spec =
+    tie.close
+    (tie.spec
+    orphans-requires
+    (λ c. search needs)  -- slice-aggregate-first-words
+    first-words-requires
+    returns)

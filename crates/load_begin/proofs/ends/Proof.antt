@@ -8,9 +8,6 @@ use Rattle.load_begin.proofs.ends.Tie as tie
 blank-requires : tie.Need-blank-requires
 blank-requires c κs = tt
 
-slice-aggregate-first-words : tie.Need-slice-aggregate-first-words
-slice-aggregate-first-words c = search needs
-
 first-words-requires : tie.Need-first-words-requires
 first-words-requires c κs = tt
 
@@ -18,4 +15,10 @@ returns : tie.Need-returns
 returns c = rw (c .before .first-words .ensures, c .before .before .before .blank .ensures, length-absents 2048) refl
 
 pub ends-spec : {M : Type 1} → statement M
-ends-spec = tie.close (tie.spec blank-requires slice-aggregate-first-words first-words-requires returns)
+ends-spec =
+    tie.close
+    (tie.spec
+    blank-requires
+    (λ c. search needs)  -- slice-aggregate-first-words
+    first-words-requires
+    returns)

@@ -19,9 +19,6 @@ slice-aggregate-lay c =
 lay-requires : tie.Need-lay-requires
 lay-requires c κs = tt
 
-same-length : tie.Need-same-length
-same-length c = search needs
-
 returns : tie.Need-returns
 returns c =
     let k = c .before .before in
@@ -34,4 +31,9 @@ returns c =
 
 pub first-words-spec : {M : Type 1} → statement M
 first-words-spec =
-    tie.close (tie.spec held-requires slice-aggregate-lay lay-requires same-length returns)
+    tie.close (tie.spec
+    held-requires
+    slice-aggregate-lay
+    lay-requires
+    (λ c. search needs)  -- same-length
+    returns)

@@ -7,19 +7,10 @@ use borrow.Author.Needs.{needs}
 use Rattle.load_begin.proofs.heard.Statement.{statement}
 use Rattle.load_begin.proofs.heard.Tie as tie
 
-silent-requires : tie.Need-silent-requires
-silent-requires c κs = search needs
-
-held-requires : tie.Need-held-requires
-held-requires c κs = search needs
-
 slice-aggregate-levels-in : tie.Need-slice-aggregate-levels-in
 slice-aggregate-levels-in c =
     let w = c .before .before .before .args .levels .now in
     rw (length-take (c .before .held .result) w) (omega (arith, c .before .held .ensures))
-
-slice-aggregate-levels-in-2 : tie.Need-slice-aggregate-levels-in-2
-slice-aggregate-levels-in-2 c = search needs
 
 levels-in-requires : tie.Need-levels-in-requires
 levels-in-requires c κs =
@@ -37,9 +28,9 @@ pub heard-spec : {M : Type 1} → statement M
 heard-spec =
     tie.close
     (tie.spec
-    silent-requires
-    held-requires
+    (λ c κs. search needs)  -- silent-requires
+    (λ c κs. search needs)  -- held-requires
     slice-aggregate-levels-in
-    slice-aggregate-levels-in-2
+    (λ c. search needs)  -- slice-aggregate-levels-in-2
     levels-in-requires
     returns)

@@ -23,24 +23,6 @@ abbrev μ-loop : tie.MeasureT-loop
 loop-holds : tie.Need-loop-holds Inv-loop μ-loop
 loop-holds c = (omega arith, refl, refl)
 
-mul-level : tie.Need-mul-level Inv-loop μ-loop
-mul-level c = search needs
-
-shared-slice-copy-out-level : tie.Need-shared-slice-copy-out-level Inv-loop μ-loop
-shared-slice-copy-out-level c = search needs
-
-mul-level-2 : tie.Need-mul-level-2 Inv-loop μ-loop
-mul-level-2 c = search needs
-
-slice-set-from-level : tie.Need-slice-set-from-level Inv-loop μ-loop
-slice-set-from-level c = search needs
-
-add-i : tie.Need-add-i Inv-loop μ-loop
-add-i c = search needs
-
-loop-less : tie.Need-loop-less Inv-loop μ-loop
-loop-less c = search needs
-
 loop-again : tie.Need-loop-again Inv-loop μ-loop
 loop-again c =
     let l = c .before .before in
@@ -50,9 +32,6 @@ loop-again c =
       search needs,
       rw (toZ-ofZ w16 z (record { sfits = c .level .given }), l .loop .inv .2) (copy-one (a .levels .now) (a .heard .now) (l .loop .i) (pos 0) (search needs) (l .before .pre)),
     )
-
-same-length : tie.Need-same-length Inv-loop μ-loop
-same-length c = search needs
 
 returns : tie.Need-returns Inv-loop μ-loop
 returns c =
@@ -67,12 +46,12 @@ levels-in-spec =
     Inv-loop
     μ-loop
     loop-holds
-    mul-level
-    shared-slice-copy-out-level
-    mul-level-2
-    slice-set-from-level
-    add-i
-    loop-less
+    (λ c. search needs)  -- mul-level
+    (λ c. search needs)  -- shared-slice-copy-out-level
+    (λ c. search needs)  -- mul-level-2
+    (λ c. search needs)  -- slice-set-from-level
+    (λ c. search needs)  -- add-i
+    (λ c. search needs)  -- loop-less
     loop-again
-    same-length
+    (λ c. search needs)  -- same-length
     returns)

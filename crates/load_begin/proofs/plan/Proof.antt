@@ -4,11 +4,12 @@ use borrow.Author.Needs.{needs}
 use Rattle.load_begin.proofs.plan.Statement.{statement}
 use Rattle.load_begin.proofs.plan.Tie as tie
 
-drawn-requires : tie.Need-drawn-requires
-drawn-requires c κs = search needs
-
 returns : tie.Need-returns
 returns c = rw (c .drawn .ensures) refl
 
 pub plan-spec : {M : Type 1} → statement M
-plan-spec = tie.close (tie.spec drawn-requires returns)
+plan-spec =
+    tie.close
+    (tie.spec
+    (λ c κs. search needs)  -- drawn-requires
+    returns)

@@ -6,18 +6,6 @@ use borrow.Author.Needs.{needs}
 use Rattle.load_begin.proofs.table.Statement.{statement}
 use Rattle.load_begin.proofs.table.Tie as tie
 
-held-requires : tie.Need-held-requires
-held-requires c κs = search needs
-
-cast-t6 : tie.Need-cast-t6
-cast-t6 c = search needs
-
-ends-requires : tie.Need-ends-requires
-ends-requires c κs = search needs
-
-heard-requires : tie.Need-heard-requires
-heard-requires c κs = search needs
-
 returns : tie.Need-returns
 returns c =
     let h = c .before .before in
@@ -26,4 +14,11 @@ returns c =
     rw (c .heard .ensures, c .before .ends .ensures, count) refl
 
 pub table-spec : {M : Type 1} → statement M
-table-spec = tie.close (tie.spec held-requires cast-t6 ends-requires heard-requires returns)
+table-spec =
+    tie.close
+    (tie.spec
+    (λ c κs. search needs)  -- held-requires
+    (λ c. search needs)  -- cast-t6
+    (λ c κs. search needs)  -- ends-requires
+    (λ c κs. search needs)  -- heard-requires
+    returns)

@@ -30,9 +30,6 @@ same c =
     let a = c .before .before .before .before .before .args in
     rw (eq-eqb (length (a .parents .now)) (a .units) (c .if2 .left)) refl
 
-refusal-requires : tie.Need-refusal-requires
-refusal-requires c κs = search needs
-
 returns : tie.Need-returns
 returns c =
     let a = c .before .before .before .before .args in
@@ -56,9 +53,6 @@ returns-3 c =
     let a = u .before .before .before .before .before .before .args in
     planned-18 (input (u .before .before)) (a .parents .now) (stored (u .before .before)) (same (u .before)) (sym (u .unfit .ensures) ∙ c .if3 .taken)
 
-refusal-requires-2 : tie.Need-refusal-requires-2
-refusal-requires-2 c κs = search needs
-
 returns-4 : tie.Need-returns-4
 returns-4 c =
     let u = c .before .before in
@@ -70,11 +64,11 @@ pub refusal-spec : {M : Type 1} → statement M
 refusal-spec =
     tie.close
     (tie.spec
-    refusal-requires
+    (λ c κs. search needs)  -- refusal-requires
     returns
     returns-2
     cast-links
     unfit-requires
     returns-3
-    refusal-requires-2
+    (λ c κs. search needs)  -- refusal-requires-2
     returns-4)

@@ -14,33 +14,6 @@ Inv-loop units parents near tops astray₀ v₀ astray v = (v ≤ units) × (ast
 abbrev μ-loop : tie.MeasureT-loop
 μ-loop units parents near tops astray₀ v₀ astray v = units - v
 
-loop-holds : tie.Need-loop-holds Inv-loop μ-loop
-loop-holds c = search needs
-
-at-requires : tie.Need-at-requires Inv-loop μ-loop
-at-requires c κs = search needs
-
-at-requires-2 : tie.Need-at-requires-2 Inv-loop μ-loop
-at-requires-2 c κs = search needs
-
-at-requires-3 : tie.Need-at-requires-3 Inv-loop μ-loop
-at-requires-3 c κs = search needs
-
-both-requires : tie.Need-both-requires Inv-loop μ-loop
-both-requires c κs = search needs
-
-either-requires : tie.Need-either-requires Inv-loop μ-loop
-either-requires c κs = search needs
-
-either-requires-2 : tie.Need-either-requires-2 Inv-loop μ-loop
-either-requires-2 c κs = search needs
-
-add-v : tie.Need-add-v Inv-loop μ-loop
-add-v c = search needs
-
-loop-less : tie.Need-loop-less Inv-loop μ-loop
-loop-less c = search needs
-
 loop-again : tie.Need-loop-again Inv-loop μ-loop
 loop-again c =
     let w = c .before in
@@ -61,14 +34,14 @@ strays-spec =
     (tie.spec
     Inv-loop
     μ-loop
-    loop-holds
-    at-requires
-    at-requires-2
-    at-requires-3
-    both-requires
-    either-requires
-    either-requires-2
-    add-v
-    loop-less
+    (λ c. search needs)  -- loop-holds
+    (λ c κs. search needs)  -- at-requires
+    (λ c κs. search needs)  -- at-requires-2
+    (λ c κs. search needs)  -- at-requires-3
+    (λ c κs. search needs)  -- both-requires
+    (λ c κs. search needs)  -- either-requires
+    (λ c κs. search needs)  -- either-requires-2
+    (λ c. search needs)  -- add-v
+    (λ c. search needs)  -- loop-less
     loop-again
     returns)

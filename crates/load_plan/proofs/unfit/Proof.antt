@@ -5,30 +5,6 @@ use borrow.Author.Needs.{needs}
 use Rattle.load_plan.proofs.unfit.Statement.{statement}
 use Rattle.load_plan.proofs.unfit.Tie as tie
 
-near-requires : tie.Need-near-requires
-near-requires c κs = search needs
-
-tops-requires : tie.Need-tops-requires
-tops-requires c κs = search needs
-
-slice-aggregate-strays : tie.Need-slice-aggregate-strays
-slice-aggregate-strays c = search needs
-
-slice-aggregate-strays-2 : tie.Need-slice-aggregate-strays-2
-slice-aggregate-strays-2 c = search needs
-
-strays-requires : tie.Need-strays-requires
-strays-requires c κs = search needs
-
-slice-aggregate-splits : tie.Need-slice-aggregate-splits
-slice-aggregate-splits c = search needs
-
-splits-requires : tie.Need-splits-requires
-splits-requires c κs = search needs
-
-either-requires : tie.Need-either-requires
-either-requires c κs = search needs
-
 returns : tie.Need-returns
 returns c =
     let sp = c .before in
@@ -44,12 +20,12 @@ pub unfit-spec : {M : Type 1} → statement M
 unfit-spec =
     tie.close
     (tie.spec
-    near-requires
-    tops-requires
-    slice-aggregate-strays
-    slice-aggregate-strays-2
-    strays-requires
-    slice-aggregate-splits
-    splits-requires
-    either-requires
+    (λ c κs. search needs)  -- near-requires
+    (λ c κs. search needs)  -- tops-requires
+    (λ c. search needs)  -- slice-aggregate-strays
+    (λ c. search needs)  -- slice-aggregate-strays-2
+    (λ c κs. search needs)  -- strays-requires
+    (λ c. search needs)  -- slice-aggregate-splits
+    (λ c κs. search needs)  -- splits-requires
+    (λ c κs. search needs)  -- either-requires
     returns)

@@ -5,9 +5,6 @@ use borrow.Author.Needs.{needs}
 use Rattle.one_way.proofs.refusal.Statement.{statement}
 use Rattle.one_way.proofs.refusal.Tie as tie
 
-pair-refusal-requires : tie.Need-pair-refusal-requires
-pair-refusal-requires c κs = search needs
-
 returns : tie.Need-returns
 returns c =
     let p = c .before in
@@ -29,4 +26,10 @@ returns-3 c =
     strong-passed (o .args .units) (o .args .links .now) (o .args .words) (sym (p .pair-refusal .ensures) ∙ i .if1 .left) (c .if2 .left)
 
 pub refusal-spec : {M : Type 1} → statement M
-refusal-spec = tie.close (tie.spec pair-refusal-requires returns returns-2 returns-3)
+refusal-spec =
+    tie.close
+    (tie.spec
+    (λ c κs. search needs)  -- pair-refusal-requires
+    returns
+    returns-2
+    returns-3)

@@ -6,9 +6,6 @@ use borrow.Author.Needs.{needs}
 use Rattle.one_way.proofs.strong.Statement.{statement}
 use Rattle.one_way.proofs.strong.Tie as tie
 
-refusal-requires : tie.Need-refusal-requires
-refusal-requires c κs = search needs
-
 returns : tie.Need-returns
 returns c =
     let r = c .before in
@@ -24,9 +21,6 @@ all-requires c κs =
     let o = r .before .before .before in
     accepted-site (o .args .units) (o .args .links .now) _ (sym (r .refusal .ensures) ∙ i .if1 .left) .0
 
-same-length : tie.Need-same-length
-same-length c = search needs
-
 returns-2 : tie.Need-returns-2
 returns-2 c =
     let a = c .before .before in
@@ -38,4 +32,11 @@ returns-2 c =
     (r, (a .all .ensures .0 ∙ p .1, strong-tells (o .args .units) (o .args .links .now) (o .args .numbers .now) (Passes (a .all .result)) r))
 
 pub strong-spec : {M : Type 1} → statement M
-strong-spec = tie.close (tie.spec refusal-requires returns all-requires same-length returns-2)
+strong-spec =
+    tie.close
+    (tie.spec
+    (λ c κs. search needs)  -- refusal-requires
+    returns
+    all-requires
+    (λ c. search needs)  -- same-length
+    returns-2)

@@ -19,30 +19,6 @@ abbrev μ-loop : tie.MeasureT-loop
 loop-holds : tie.Need-loop-holds Inv-loop μ-loop
 loop-holds c = (search needs, refl, refl)
 
-cast-at : tie.Need-cast-at Inv-loop μ-loop
-cast-at c = search needs
-
-word-requires : tie.Need-word-requires Inv-loop μ-loop
-word-requires c κs = search needs
-
-word-requires-2 : tie.Need-word-requires-2 Inv-loop μ-loop
-word-requires-2 c κs = search needs
-
-word-requires-3 : tie.Need-word-requires-3 Inv-loop μ-loop
-word-requires-3 c κs = search needs
-
-number-of-requires : tie.Need-number-of-requires Inv-loop μ-loop
-number-of-requires c κs = search needs
-
-put-requires : tie.Need-put-requires Inv-loop μ-loop
-put-requires c κs = search needs
-
-add-v : tie.Need-add-v Inv-loop μ-loop
-add-v c = search needs
-
-loop-less : tie.Need-loop-less Inv-loop μ-loop
-loop-less c = search needs
-
 loop-again : tie.Need-loop-again Inv-loop μ-loop
 loop-again c =
     let p = c .before .before in
@@ -53,9 +29,6 @@ loop-again c =
     let s = wor .before .before .before in
     let o = s .before .before .before .before in
     (search needs, search needs, marks-more (o .args .f .now) (o .args .b .now) (o .args .out .now) (s .loop .out) _ (s .loop .v) (wo .word2 .result) (w .word3 .result) (wor .word .result) (n .number-of .result) (s .loop .inv .2) (wor .word .ensures) (wo .word2 .ensures) (w .word3 .ensures) (n .number-of .ensures) (p .put .ensures))
-
-same-length : tie.Need-same-length Inv-loop μ-loop
-same-length c = search needs
 
 returns : tie.Need-returns Inv-loop μ-loop
 returns c =
@@ -70,14 +43,14 @@ mark-spec =
     Inv-loop
     μ-loop
     loop-holds
-    cast-at
-    word-requires
-    word-requires-2
-    word-requires-3
-    number-of-requires
-    put-requires
-    add-v
-    loop-less
+    (λ c. search needs)  -- cast-at
+    (λ c κs. search needs)  -- word-requires
+    (λ c κs. search needs)  -- word-requires-2
+    (λ c κs. search needs)  -- word-requires-3
+    (λ c κs. search needs)  -- number-of-requires
+    (λ c κs. search needs)  -- put-requires
+    (λ c. search needs)  -- add-v
+    (λ c. search needs)  -- loop-less
     loop-again
-    same-length
+    (λ c. search needs)  -- same-length
     returns)

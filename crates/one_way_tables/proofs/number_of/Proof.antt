@@ -4,16 +4,15 @@ use borrow.Author.Needs.{needs}
 use Rattle.one_way_tables.proofs.number_of.Statement.{statement}
 use Rattle.one_way_tables.proofs.number_of.Tie as tie
 
-choose-requires : tie.Need-choose-requires
-choose-requires c κs = search needs
-
-choose-requires-2 : tie.Need-choose-requires-2
-choose-requires-2 c κs = search needs
-
 returns : tie.Need-returns
 returns c =
     let ch = c .before in
     rw (c .choose2 .ensures, ch .choose .ensures) refl
 
 pub number-of-spec : {M : Type 1} → statement M
-number-of-spec = tie.close (tie.spec choose-requires choose-requires-2 returns)
+number-of-spec =
+    tie.close
+    (tie.spec
+    (λ c κs. search needs)  -- choose-requires
+    (λ c κs. search needs)  -- choose-requires-2
+    returns)

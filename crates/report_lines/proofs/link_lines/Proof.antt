@@ -16,37 +16,10 @@ Inv-loop links label lones out₀ pairs j₀ out j = (j ≤ links) × (length ou
 abbrev μ-loop : tie.MeasureT-loop
 μ-loop links label lones out₀ pairs j₀ out j = links - j
 
-mul-if1 : tie.Need-mul-if1 Inv-loop μ-loop
-mul-if1 c = search needs
-
 returns : tie.Need-returns Inv-loop μ-loop
 returns c =
     let a = c .before .before .before .before .args in
     sym (linesOver-short 15 (a .links) (labelRow (a .label .now) (a .lones .now)) (a .out .now) (c .if1 .taken))
-
-table-requires : tie.Need-table-requires Inv-loop μ-loop
-table-requires c κs = search needs
-
-loop-holds : tie.Need-loop-holds Inv-loop μ-loop
-loop-holds c = search needs
-
-cast-at : tie.Need-cast-at Inv-loop μ-loop
-cast-at c = search needs
-
-mul-at : tie.Need-mul-at Inv-loop μ-loop
-mul-at c = search needs
-
-slice-aggregate-link-at : tie.Need-slice-aggregate-link-at Inv-loop μ-loop
-slice-aggregate-link-at c = search needs
-
-sub-link-at : tie.Need-sub-link-at Inv-loop μ-loop
-sub-link-at c = search needs
-
-part-link-at-start : tie.Need-part-link-at-start Inv-loop μ-loop
-part-link-at-start c = search needs
-
-part-link-at-end : tie.Need-part-link-at-end Inv-loop μ-loop
-part-link-at-end c = search needs
 
 link-at-requires : tie.Need-link-at-requires Inv-loop μ-loop
 link-at-requires c κs =
@@ -55,12 +28,6 @@ link-at-requires c κs =
       s .before .table .ensures,
       rw (lent-rest at (s .loop .out)) (omega (arith, length-drop at (s .loop .out), s .loop .inv .1, s .before .before .if1 .left, c .before .before .loop-test .taken)),
     )
-
-add-j : tie.Need-add-j Inv-loop μ-loop
-add-j c = search needs
-
-loop-less : tie.Need-loop-less Inv-loop μ-loop
-loop-less c = search needs
 
 loop-again : tie.Need-loop-again Inv-loop μ-loop
 loop-again c =
@@ -73,9 +40,6 @@ loop-again c =
       rw (c .before .before .link-at .ensures, s .loop .inv .2, ← further)
           (lines-next (s .loop .j) body (a .out .now) (15 * s .loop .j) (length-lines 15 (s .loop .j) body (λ i. refl)) (omega (arith, s .before .before .if1 .left, c .before .before .before .before .before .loop-test .taken))),
     )
-
-same-length : tie.Need-same-length Inv-loop μ-loop
-same-length c = search needs
 
 returns-2 : tie.Need-returns-2 Inv-loop μ-loop
 returns-2 c =
@@ -90,19 +54,19 @@ link-lines-spec =
     (tie.spec
     Inv-loop
     μ-loop
-    mul-if1
+    (λ c. search needs)  -- mul-if1
     returns
-    table-requires
-    loop-holds
-    cast-at
-    mul-at
-    slice-aggregate-link-at
-    sub-link-at
-    part-link-at-start
-    part-link-at-end
+    (λ c κs. search needs)  -- table-requires
+    (λ c. search needs)  -- loop-holds
+    (λ c. search needs)  -- cast-at
+    (λ c. search needs)  -- mul-at
+    (λ c. search needs)  -- slice-aggregate-link-at
+    (λ c. search needs)  -- sub-link-at
+    (λ c. search needs)  -- part-link-at-start
+    (λ c. search needs)  -- part-link-at-end
     link-at-requires
-    add-j
-    loop-less
+    (λ c. search needs)  -- add-j
+    (λ c. search needs)  -- loop-less
     loop-again
-    same-length
+    (λ c. search needs)  -- same-length
     returns-2)

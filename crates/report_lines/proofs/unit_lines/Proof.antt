@@ -16,37 +16,10 @@ Inv-loop units color parent place singles out₀ pairs v₀ out v = (v ≤ units
 abbrev μ-loop : tie.MeasureT-loop
 μ-loop units color parent place singles out₀ pairs v₀ out v = units - v
 
-mul-if1 : tie.Need-mul-if1 Inv-loop μ-loop
-mul-if1 c = search needs
-
 returns : tie.Need-returns Inv-loop μ-loop
 returns c =
     let a = c .before .before .before .before .before .before .args in
     sym (linesOver-short 23 (a .units) (unitRow (a .color .now) (a .parent .now) (a .place .now) (a .singles .now)) (a .out .now) (c .if1 .taken))
-
-table-requires : tie.Need-table-requires Inv-loop μ-loop
-table-requires c κs = search needs
-
-loop-holds : tie.Need-loop-holds Inv-loop μ-loop
-loop-holds c = search needs
-
-cast-at : tie.Need-cast-at Inv-loop μ-loop
-cast-at c = search needs
-
-mul-at : tie.Need-mul-at Inv-loop μ-loop
-mul-at c = search needs
-
-slice-aggregate-unit-at : tie.Need-slice-aggregate-unit-at Inv-loop μ-loop
-slice-aggregate-unit-at c = search needs
-
-sub-unit-at : tie.Need-sub-unit-at Inv-loop μ-loop
-sub-unit-at c = search needs
-
-part-unit-at-start : tie.Need-part-unit-at-start Inv-loop μ-loop
-part-unit-at-start c = search needs
-
-part-unit-at-end : tie.Need-part-unit-at-end Inv-loop μ-loop
-part-unit-at-end c = search needs
 
 unit-at-requires : tie.Need-unit-at-requires Inv-loop μ-loop
 unit-at-requires c κs =
@@ -55,12 +28,6 @@ unit-at-requires c κs =
       s .before .table .ensures,
       rw (lent-rest at (s .loop .out)) (omega (arith, length-drop at (s .loop .out), s .loop .inv .1, s .before .before .if1 .left, c .before .before .loop-test .taken)),
     )
-
-add-v : tie.Need-add-v Inv-loop μ-loop
-add-v c = search needs
-
-loop-less : tie.Need-loop-less Inv-loop μ-loop
-loop-less c = search needs
 
 loop-again : tie.Need-loop-again Inv-loop μ-loop
 loop-again c =
@@ -73,9 +40,6 @@ loop-again c =
       rw (c .before .before .unit-at .ensures, s .loop .inv .2, ← further)
           (lines-next (s .loop .v) body (a .out .now) (23 * s .loop .v) (length-lines 23 (s .loop .v) body (λ i. refl)) (omega (arith, s .before .before .if1 .left, c .before .before .before .before .before .loop-test .taken))),
     )
-
-same-length : tie.Need-same-length Inv-loop μ-loop
-same-length c = search needs
 
 returns-2 : tie.Need-returns-2 Inv-loop μ-loop
 returns-2 c =
@@ -90,19 +54,19 @@ unit-lines-spec =
     (tie.spec
     Inv-loop
     μ-loop
-    mul-if1
+    (λ c. search needs)  -- mul-if1
     returns
-    table-requires
-    loop-holds
-    cast-at
-    mul-at
-    slice-aggregate-unit-at
-    sub-unit-at
-    part-unit-at-start
-    part-unit-at-end
+    (λ c κs. search needs)  -- table-requires
+    (λ c. search needs)  -- loop-holds
+    (λ c. search needs)  -- cast-at
+    (λ c. search needs)  -- mul-at
+    (λ c. search needs)  -- slice-aggregate-unit-at
+    (λ c. search needs)  -- sub-unit-at
+    (λ c. search needs)  -- part-unit-at-start
+    (λ c. search needs)  -- part-unit-at-end
     unit-at-requires
-    add-v
-    loop-less
+    (λ c. search needs)  -- add-v
+    (λ c. search needs)  -- loop-less
     loop-again
-    same-length
+    (λ c. search needs)  -- same-length
     returns-2)

@@ -39,36 +39,12 @@ module _ (r : tie.After-read) where
 returns : tie.Need-returns
 returns c = rw (input-long _ _ _ (c .if1 .taken)) (refl, (refl, (refl, (omega arith, (refl, refl)))))
 
-read-requires : tie.Need-read-requires
-read-requires c κs = search needs
-
-enum-known-found : tie.Need-enum-known-found
-enum-known-found c = search needs
-
-enum-known-found-2 : tie.Need-enum-known-found-2
-enum-known-found-2 c = search needs
-
-cast-t15 : tie.Need-cast-t15
-cast-t15 c = search needs
-
-same-length : tie.Need-same-length
-same-length c = search needs
-
-same-length-2 : tie.Need-same-length-2
-same-length-2 c = search needs
-
 returns-2 : tie.Need-returns-2
 returns-2 c =
     let r = c .before .before .before .before .before .before in
     let (k, h) = taken-refused (input r) (length (words r)) (length (levels r)) (short r) _ (sym (r .read .ensures .0) ∙ c .before .found .given .1) in
     let no = ne-eqb (unread r) 0 h in
     (k, (rw no refl, (rw no refl, (omega arith, (left r .0, left r .1)))))
-
-same-length-3 : tie.Need-same-length-3
-same-length-3 c = search needs
-
-same-length-4 : tie.Need-same-length-4
-same-length-4 c = search needs
 
 returns-3 : tie.Need-returns-3
 returns-3 c =
@@ -81,13 +57,13 @@ taken-spec =
     tie.close
     (tie.spec
     returns
-    read-requires
-    enum-known-found
-    enum-known-found-2
-    cast-t15
-    same-length
-    same-length-2
+    (λ c κs. search needs)  -- read-requires
+    (λ c. search needs)  -- enum-known-found
+    (λ c. search needs)  -- enum-known-found-2
+    (λ c. search needs)  -- cast-t15
+    (λ c. search needs)  -- same-length
+    (λ c. search needs)  -- same-length-2
     returns-2
-    same-length-3
-    same-length-4
+    (λ c. search needs)  -- same-length-3
+    (λ c. search needs)  -- same-length-4
     returns-3)

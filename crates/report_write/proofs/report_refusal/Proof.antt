@@ -12,18 +12,6 @@ returns c = rw (not-true (c .before .args .well) (c .if1 .taken)) refl
 returns-2 : tie.Need-returns-2
 returns-2 c = rw (not-false (c .before .before .args .well) (c .before .if1 .left), ne-eqb (c .before .before .args .stage) 11 (c .if2 .taken)) refl
 
-mul-if3 : tie.Need-mul-if3
-mul-if3 c = search needs
-
-add-if3 : tie.Need-add-if3
-add-if3 c = search needs
-
-mul-if3-2 : tie.Need-mul-if3-2
-mul-if3-2 c = search needs
-
-add-if3-2 : tie.Need-add-if3-2
-add-if3-2 c = search needs
-
 returns-3 : tie.Need-returns-3
 returns-3 c =
     let a = c .before .before .before .args in
@@ -36,4 +24,12 @@ returns-4 c =
 
 pub report-refusal-spec : {M : Type 1} → statement M
 report-refusal-spec =
-    tie.close (tie.spec returns returns-2 mul-if3 add-if3 mul-if3-2 add-if3-2 returns-3 returns-4)
+    tie.close (tie.spec
+    returns
+    returns-2
+    (λ c. search needs)  -- mul-if3
+    (λ c. search needs)  -- add-if3
+    (λ c. search needs)  -- mul-if3-2
+    (λ c. search needs)  -- add-if3-2
+    returns-3
+    returns-4)

@@ -5,36 +5,6 @@ use borrow.Author.Needs.{needs}
 use Rattle.ring_ears.proofs.ear.Statement.{statement}
 use Rattle.ring_ears.proofs.ear.Tie as tie
 
-end-a-requires : tie.Need-end-a-requires
-end-a-requires c κs = search needs
-
-end-b-requires : tie.Need-end-b-requires
-end-b-requires c κs = search needs
-
-at-requires : tie.Need-at-requires
-at-requires c κs = search needs
-
-at-requires-2 : tie.Need-at-requires-2
-at-requires-2 c κs = search needs
-
-at-requires-3 : tie.Need-at-requires-3
-at-requires-3 c κs = search needs
-
-at-requires-4 : tie.Need-at-requires-4
-at-requires-4 c κs = search needs
-
-choose-requires : tie.Need-choose-requires
-choose-requires c κs = search needs
-
-choose-requires-2 : tie.Need-choose-requires-2
-choose-requires-2 c κs = search needs
-
-weave-requires : tie.Need-weave-requires
-weave-requires c κs = search needs
-
-same-length : tie.Need-same-length
-same-length c = search needs
-
 returns : tie.Need-returns
 returns c =
     let a = c .before .before .before .before .before .before .before .before .before .before .before .before .before .before .before .before .before .before .args in
@@ -46,14 +16,14 @@ pub ear-spec : {M : Type 1} → statement M
 ear-spec =
     tie.close
     (tie.spec
-    end-a-requires
-    end-b-requires
-    at-requires
-    at-requires-2
-    at-requires-3
-    at-requires-4
-    choose-requires
-    choose-requires-2
-    weave-requires
-    same-length
+    (λ c κs. search needs)  -- end-a-requires
+    (λ c κs. search needs)  -- end-b-requires
+    (λ c κs. search needs)  -- at-requires
+    (λ c κs. search needs)  -- at-requires-2
+    (λ c κs. search needs)  -- at-requires-3
+    (λ c κs. search needs)  -- at-requires-4
+    (λ c κs. search needs)  -- choose-requires
+    (λ c κs. search needs)  -- choose-requires-2
+    (λ c κs. search needs)  -- weave-requires
+    (λ c. search needs)  -- same-length
     returns)

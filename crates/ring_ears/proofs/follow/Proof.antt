@@ -15,23 +15,8 @@ Inv-loop marks units links ends count parent seq row pos₀ held₀ total i₀ p
 abbrev μ-loop : tie.MeasureT-loop
 μ-loop marks units links ends count parent seq row pos₀ held₀ total i₀ pos held i = total - i
 
-bounded-sum-requires : tie.Need-bounded-sum-requires Inv-loop μ-loop
-bounded-sum-requires c κs = search needs
-
 loop-holds : tie.Need-loop-holds Inv-loop μ-loop
 loop-holds c = (search needs, search needs, search needs, λ x y site T W G. G)
-
-at-requires : tie.Need-at-requires Inv-loop μ-loop
-at-requires c κs = search needs
-
-visit-requires : tie.Need-visit-requires Inv-loop μ-loop
-visit-requires c κs = search needs
-
-add-i : tie.Need-add-i Inv-loop μ-loop
-add-i c = search needs
-
-loop-less : tie.Need-loop-less Inv-loop μ-loop
-loop-less c = search needs
 
 loop-again : tie.Need-loop-again Inv-loop μ-loop
 loop-again c =
@@ -43,12 +28,6 @@ loop-again c =
       followed-more (sure (a .marks .now)) (a .units) (a .links) (a .ends .now) (a .count) (a .parent .now) (a .seq .now) (c .before .before .before .before .before .before .before .at .result) (a .pos .now) (a .held .now) (s .pos) (s .held) (c .before .before .before .before .visit .last .1 .1 .1 .1 .1 .1 .1 .1 .0) (c .before .before .before .before .visit .last .1 .1 .1 .1 .1 .1 .1 .1 .1 .0) (s .inv .3) (c .before .before .before .before .visit .ensures),
     )
 
-same-length : tie.Need-same-length Inv-loop μ-loop
-same-length c = search needs
-
-same-length-2 : tie.Need-same-length-2 Inv-loop μ-loop
-same-length-2 c = search needs
-
 returns : tie.Need-returns Inv-loop μ-loop
 returns c = c .before .loop .inv .3
 
@@ -58,13 +37,13 @@ follow-spec =
     (tie.spec
     Inv-loop
     μ-loop
-    bounded-sum-requires
+    (λ c κs. search needs)  -- bounded-sum-requires
     loop-holds
-    at-requires
-    visit-requires
-    add-i
-    loop-less
+    (λ c κs. search needs)  -- at-requires
+    (λ c κs. search needs)  -- visit-requires
+    (λ c. search needs)  -- add-i
+    (λ c. search needs)  -- loop-less
     loop-again
-    same-length
-    same-length-2
+    (λ c. search needs)  -- same-length
+    (λ c. search needs)  -- same-length-2
     returns)

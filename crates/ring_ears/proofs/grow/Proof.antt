@@ -5,21 +5,6 @@ use borrow.Author.Needs.{needs}
 use Rattle.ring_ears.proofs.grow.Statement.{statement}
 use Rattle.ring_ears.proofs.grow.Tie as tie
 
-hold-requires : tie.Need-hold-requires
-hold-requires c κs = search needs
-
-follow-requires : tie.Need-follow-requires
-follow-requires c κs = search needs
-
-settle-requires : tie.Need-settle-requires
-settle-requires c κs = search needs
-
-same-length : tie.Need-same-length
-same-length c = search needs
-
-same-length-2 : tie.Need-same-length-2
-same-length-2 c = search needs
-
 returns : tie.Need-returns
 returns c =
     let a = c .before .before .before .before .before .before .before .before .before .before .before .before .before .before .before .before .before .before .before .before .before .before .before .before .before .before .args in
@@ -29,9 +14,9 @@ pub grow-spec : {M : Type 1} → statement M
 grow-spec =
     tie.close
     (tie.spec
-    hold-requires
-    follow-requires
-    settle-requires
-    same-length
-    same-length-2
+    (λ c κs. search needs)  -- hold-requires
+    (λ c κs. search needs)  -- follow-requires
+    (λ c κs. search needs)  -- settle-requires
+    (λ c. search needs)  -- same-length
+    (λ c. search needs)  -- same-length-2
     returns)

@@ -15,31 +15,16 @@ Inv-loop units parent pos v limit u₀ k₀ u k = (k ≤ limit) × (length (hang
 abbrev μ-loop : tie.MeasureT-loop
 μ-loop units parent pos v limit u₀ k₀ u k = limit - k
 
-bounded-sum-requires : tie.Need-bounded-sum-requires Inv-loop μ-loop
-bounded-sum-requires c κs = search needs
-
 loop-holds : tie.Need-loop-holds Inv-loop μ-loop
 loop-holds c =
     let a = c .before .before .before .args in
     (search needs, chain-begun (at (a .parent .now)) (onOrder (a .pos .now)) (c .bounded-sum .result) (a .v))
-
-on-requires : tie.Need-on-requires Inv-loop μ-loop
-on-requires c κs = search needs
 
 returns : tie.Need-returns Inv-loop μ-loop
 returns c =
     let s = c .before .before .before .loop in
     let a = c .before .before .before .before .before .before .before .args in
     chain-stop (at (a .parent .now)) (onOrder (a .pos .now)) (c .before .before .before .before .bounded-sum .result) (s .k) (a .v) (s .u) (sym (c .before .on .ensures) ∙ c .if1 .taken) (s .inv .1) ∙ ap (λ (z : ℕ). length (hanging z (a .parent .now) (a .pos .now) (a .v))) (c .before .before .before .before .bounded-sum .ensures)
-
-at-requires : tie.Need-at-requires Inv-loop μ-loop
-at-requires c κs = search needs
-
-add-k : tie.Need-add-k Inv-loop μ-loop
-add-k c = search needs
-
-loop-less : tie.Need-loop-less Inv-loop μ-loop
-loop-less c = search needs
 
 loop-again : tie.Need-loop-again Inv-loop μ-loop
 loop-again c =
@@ -59,12 +44,12 @@ hanging-spec =
     (tie.spec
     Inv-loop
     μ-loop
-    bounded-sum-requires
+    (λ c κs. search needs)  -- bounded-sum-requires
     loop-holds
-    on-requires
+    (λ c κs. search needs)  -- on-requires
     returns
-    at-requires
-    add-k
-    loop-less
+    (λ c κs. search needs)  -- at-requires
+    (λ c. search needs)  -- add-k
+    (λ c. search needs)  -- loop-less
     loop-again
     returns-2)

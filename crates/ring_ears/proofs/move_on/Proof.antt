@@ -20,32 +20,11 @@ abbrev μ-loop : tie.MeasureT-loop
 loop-holds : tie.Need-loop-holds Inv-loop μ-loop
 loop-holds c = (search needs, search needs, refl)
 
-at-requires : tie.Need-at-requires Inv-loop μ-loop
-at-requires c κs = search needs
-
-bounded-sum-requires : tie.Need-bounded-sum-requires Inv-loop μ-loop
-bounded-sum-requires c κs = search needs
-
-choose-requires : tie.Need-choose-requires Inv-loop μ-loop
-choose-requires c κs = search needs
-
-store-requires : tie.Need-store-requires Inv-loop μ-loop
-store-requires c κs = search needs
-
-add-v : tie.Need-add-v Inv-loop μ-loop
-add-v c = search needs
-
-loop-less : tie.Need-loop-less Inv-loop μ-loop
-loop-less c = search needs
-
 loop-again : tie.Need-loop-again Inv-loop μ-loop
 loop-again c =
     let s = c .before .before .before .before .before .before .before .before .before .loop in
     let a = c .before .before .before .before .before .before .before .before .before .before .before .args in
     (search needs, c .before .before .store .kept .0 ∙ s .inv .1, moved-turn (a .units) (a .q) (a .c) (a .pos .now) (s .pos) (c .before .before .store .last .0) (s .v) (c .before .before .before .before .before .before .at .result) (c .before .before .before .before .before .bounded-sum .result) (c .before .before .before .before .choose .result) _ (s .inv .2) (c .before .before .before .before .before .before .at .ensures) refl (c .before .before .before .before .before .bounded-sum .ensures) (c .before .before .before .before .choose .ensures) (c .before .before .store .ensures))
-
-same-length : tie.Need-same-length Inv-loop μ-loop
-same-length c = search needs
 
 returns : tie.Need-returns Inv-loop μ-loop
 returns c =
@@ -60,12 +39,12 @@ move-on-spec =
     Inv-loop
     μ-loop
     loop-holds
-    at-requires
-    bounded-sum-requires
-    choose-requires
-    store-requires
-    add-v
-    loop-less
+    (λ c κs. search needs)  -- at-requires
+    (λ c κs. search needs)  -- bounded-sum-requires
+    (λ c κs. search needs)  -- choose-requires
+    (λ c κs. search needs)  -- store-requires
+    (λ c. search needs)  -- add-v
+    (λ c. search needs)  -- loop-less
     loop-again
-    same-length
+    (λ c. search needs)  -- same-length
     returns)

@@ -20,32 +20,11 @@ loop-holds c =
     let a = c .before .before .before .before .before .before .args in
     (search needs, search needs, search needs, lengthened-begun (sure (a .marks .now)) (a .units) (a .links) (a .ends .now) (a .count) (a .parent .now) (a .seq .now) (a .b) (a .pos .now) (a .held .now))
 
-at-requires : tie.Need-at-requires Inv-loop μ-loop
-at-requires c κs = search needs
-
-pass-requires : tie.Need-pass-requires Inv-loop μ-loop
-pass-requires c κs = search needs
-
-at-requires-2 : tie.Need-at-requires-2 Inv-loop μ-loop
-at-requires-2 c κs = search needs
-
-same-length : tie.Need-same-length Inv-loop μ-loop
-same-length c = search needs
-
-same-length-2 : tie.Need-same-length-2 Inv-loop μ-loop
-same-length-2 c = search needs
-
 returns : tie.Need-returns Inv-loop μ-loop
 returns c =
     let s = c .before .before .before .before .before .before .before .before .before .before .before .before .before .loop in
     let a = c .before .before .before .before .before .before .before .before .before .before .before .before .before .before .before .before .before .before .before .before .args in
     settling-same (sure (a .marks .now)) (a .units) (a .links) (a .ends .now) (a .count) (a .parent .now) (a .seq .now) (a .b) (a .pos .now) (a .held .now) (s .k) (s .pos) (s .held) (s .inv .3) (c .before .before .before .before .before .before .before .pass .last .1 .1 .1 .1 .1 .1 .1 .0) (c .before .before .before .before .before .before .before .pass .last .1 .1 .1 .1 .1 .1 .1 .1 .0) (c .before .before .before .before .before .before .before .before .before .before .at .result) (c .before .at2 .result) (c .before .before .before .before .before .before .before .before .before .before .at .ensures) (c .before .before .before .before .before .before .before .pass .ensures) (c .before .at2 .ensures) (c .if1 .taken)
-
-add-k : tie.Need-add-k Inv-loop μ-loop
-add-k c = search needs
-
-loop-less : tie.Need-loop-less Inv-loop μ-loop
-loop-less c = search needs
 
 loop-again : tie.Need-loop-again Inv-loop μ-loop
 loop-again c =
@@ -56,12 +35,6 @@ loop-again c =
       c .before .before .before .before .before .before .before .pass .kept .1 .1 .1 .1 .1 .1 .1 .1 .0 ∙ s .inv .2,
       lengthened-more (sure (a .marks .now)) (a .units) (a .links) (a .ends .now) (a .count) (a .parent .now) (a .seq .now) (a .b) (a .pos .now) (a .held .now) (s .k) (s .pos) (s .held) (s .inv .3) (c .before .before .before .before .before .before .before .pass .last .1 .1 .1 .1 .1 .1 .1 .0) (c .before .before .before .before .before .before .before .pass .last .1 .1 .1 .1 .1 .1 .1 .1 .0) (c .before .before .before .before .before .before .before .before .before .before .at .result) (c .before .at2 .result) (c .before .before .before .before .before .before .before .before .before .before .at .ensures) (c .before .before .before .before .before .before .before .pass .ensures) (c .before .at2 .ensures) (c .if1 .left),
     )
-
-same-length-3 : tie.Need-same-length-3 Inv-loop μ-loop
-same-length-3 c = search needs
-
-same-length-4 : tie.Need-same-length-4 Inv-loop μ-loop
-same-length-4 c = search needs
 
 returns-2 : tie.Need-returns-2 Inv-loop μ-loop
 returns-2 c =
@@ -76,15 +49,15 @@ settle-spec =
     Inv-loop
     μ-loop
     loop-holds
-    at-requires
-    pass-requires
-    at-requires-2
-    same-length
-    same-length-2
+    (λ c κs. search needs)  -- at-requires
+    (λ c κs. search needs)  -- pass-requires
+    (λ c κs. search needs)  -- at-requires-2
+    (λ c. search needs)  -- same-length
+    (λ c. search needs)  -- same-length-2
     returns
-    add-k
-    loop-less
+    (λ c. search needs)  -- add-k
+    (λ c. search needs)  -- loop-less
     loop-again
-    same-length-3
-    same-length-4
+    (λ c. search needs)  -- same-length-3
+    (λ c. search needs)  -- same-length-4
     returns-2)

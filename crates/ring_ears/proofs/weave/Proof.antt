@@ -5,39 +5,6 @@ use borrow.Author.Needs.{needs}
 use Rattle.ring_ears.proofs.weave.Statement.{statement}
 use Rattle.ring_ears.proofs.weave.Tie as tie
 
-at-requires : tie.Need-at-requires
-at-requires c κs = search needs
-
-at-requires-2 : tie.Need-at-requires-2
-at-requires-2 c κs = search needs
-
-hanging-requires : tie.Need-hanging-requires
-hanging-requires c κs = search needs
-
-hanging-requires-2 : tie.Need-hanging-requires-2
-hanging-requires-2 c κs = search needs
-
-bounded-sum-requires : tie.Need-bounded-sum-requires
-bounded-sum-requires c κs = search needs
-
-bounded-sum-requires-2 : tie.Need-bounded-sum-requires-2
-bounded-sum-requires-2 c κs = search needs
-
-move-on-requires : tie.Need-move-on-requires
-move-on-requires c κs = search needs
-
-lay-requires : tie.Need-lay-requires
-lay-requires c κs = search needs
-
-bounded-sum-requires-3 : tie.Need-bounded-sum-requires-3
-bounded-sum-requires-3 c κs = search needs
-
-lay-requires-2 : tie.Need-lay-requires-2
-lay-requires-2 c κs = search needs
-
-same-length : tie.Need-same-length
-same-length c = search needs
-
 returns : tie.Need-returns
 returns c =
     let a = c .before .before .before .before .before .before .before .before .before .before .before .before .before .before .before .before .before .before .before .before .before .before .before .before .before .args in
@@ -49,15 +16,15 @@ pub weave-spec : {M : Type 1} → statement M
 weave-spec =
     tie.close
     (tie.spec
-    at-requires
-    at-requires-2
-    hanging-requires
-    hanging-requires-2
-    bounded-sum-requires
-    bounded-sum-requires-2
-    move-on-requires
-    lay-requires
-    bounded-sum-requires-3
-    lay-requires-2
-    same-length
+    (λ c κs. search needs)  -- at-requires
+    (λ c κs. search needs)  -- at-requires-2
+    (λ c κs. search needs)  -- hanging-requires
+    (λ c κs. search needs)  -- hanging-requires-2
+    (λ c κs. search needs)  -- bounded-sum-requires
+    (λ c κs. search needs)  -- bounded-sum-requires-2
+    (λ c κs. search needs)  -- move-on-requires
+    (λ c κs. search needs)  -- lay-requires
+    (λ c κs. search needs)  -- bounded-sum-requires-3
+    (λ c κs. search needs)  -- lay-requires-2
+    (λ c. search needs)  -- same-length
     returns)

@@ -7,93 +7,15 @@ use borrow.Author.Needs.{needs}
 use Rattle.ring_search.proofs.ring.Statement.{statement}
 use Rattle.ring_search.proofs.ring.Tie as tie
 
-counts-requires : tie.Need-counts-requires
-counts-requires c κs = search needs
-
 returns : tie.Need-returns
 returns c =
     let a = c .before .before .before .before .before .args in
     told-missing (sure (a .marks .now)) (a .units) (a .links) (a .ends .now) (a .i) (a .j) (a .out .now) (sym (c .before .counts .ensures) ∙ not-true _ (c .if1 .taken))
 
-zeros-requires : tie.Need-zeros-requires
-zeros-requires c κs = search needs
-
-slice-aggregate-ordered : tie.Need-slice-aggregate-ordered
-slice-aggregate-ordered c = search needs
-
-ordered-requires : tie.Need-ordered-requires
-ordered-requires c κs = search needs
-
-slice-aggregate-second : tie.Need-slice-aggregate-second
-slice-aggregate-second c = search needs
-
-second-requires : tie.Need-second-requires
-second-requires c κs = search needs
-
 returns-2 : tie.Need-returns-2
 returns-2 c =
     let a = c .before .before .before .before .before .before .before .before .before .before .before .before .args in
     told-none (sure (a .marks .now)) (a .units) (a .links) (a .ends .now) (a .i) (a .j) (a .out .now) (c .before .before .before .before .before .before .zeros .result) (c .before .before .before .before .ordered .last .1 .1 .1 .1 .1 .0) (sym (c .before .before .before .before .before .before .before .before .counts .ensures) ∙ not-false _ (c .before .before .before .before .before .before .before .if1 .left)) (search (c .before .before .before .before .before .before .zeros .ok, needs)) (c .before .before .before .before .before .before .zeros .ensures) (c .before .before .before .before .ordered .ensures) (c .before .second .result) (c .before .second .ensures) (c .if2 .taken)
-
-zeros-requires-2 : tie.Need-zeros-requires-2
-zeros-requires-2 c κs = search needs
-
-zeros-requires-3 : tie.Need-zeros-requires-3
-zeros-requires-3 c κs = search needs
-
-slice-aggregate-lean : tie.Need-slice-aggregate-lean
-slice-aggregate-lean c = search needs
-
-slice-aggregate-lean-2 : tie.Need-slice-aggregate-lean-2
-slice-aggregate-lean-2 c = search needs
-
-slice-aggregate-lean-3 : tie.Need-slice-aggregate-lean-3
-slice-aggregate-lean-3 c = search needs
-
-lean-requires : tie.Need-lean-requires
-lean-requires c κs = search needs
-
-end-a-requires : tie.Need-end-a-requires
-end-a-requires c κs = search needs
-
-end-b-requires : tie.Need-end-b-requires
-end-b-requires c κs = search needs
-
-slice-aggregate-at : tie.Need-slice-aggregate-at
-slice-aggregate-at c = search needs
-
-at-requires : tie.Need-at-requires
-at-requires c κs = search needs
-
-slice-aggregate-at-2 : tie.Need-slice-aggregate-at-2
-slice-aggregate-at-2 c = search needs
-
-at-requires-2 : tie.Need-at-requires-2
-at-requires-2 c κs = search needs
-
-choose-requires : tie.Need-choose-requires
-choose-requires c κs = search needs
-
-choose-requires-2 : tie.Need-choose-requires-2
-choose-requires-2 c κs = search needs
-
-slice-aggregate-close : tie.Need-slice-aggregate-close
-slice-aggregate-close c = search needs
-
-slice-aggregate-close-2 : tie.Need-slice-aggregate-close-2
-slice-aggregate-close-2 c = search needs
-
-end-a-requires-2 : tie.Need-end-a-requires-2
-end-a-requires-2 c κs = search needs
-
-end-b-requires-2 : tie.Need-end-b-requires-2
-end-b-requires-2 c κs = search needs
-
-close-requires : tie.Need-close-requires
-close-requires c κs = search needs
-
-same-length : tie.Need-same-length
-same-length c = search needs
 
 returns-3 : tie.Need-returns-3
 returns-3 c =
@@ -106,32 +28,32 @@ pub ring-spec : {M : Type 1} → statement M
 ring-spec =
     tie.close
     (tie.spec
-    counts-requires
+    (λ c κs. search needs)  -- counts-requires
     returns
-    zeros-requires
-    slice-aggregate-ordered
-    ordered-requires
-    slice-aggregate-second
-    second-requires
+    (λ c κs. search needs)  -- zeros-requires
+    (λ c. search needs)  -- slice-aggregate-ordered
+    (λ c κs. search needs)  -- ordered-requires
+    (λ c. search needs)  -- slice-aggregate-second
+    (λ c κs. search needs)  -- second-requires
     returns-2
-    zeros-requires-2
-    zeros-requires-3
-    slice-aggregate-lean
-    slice-aggregate-lean-2
-    slice-aggregate-lean-3
-    lean-requires
-    end-a-requires
-    end-b-requires
-    slice-aggregate-at
-    at-requires
-    slice-aggregate-at-2
-    at-requires-2
-    choose-requires
-    choose-requires-2
-    slice-aggregate-close
-    slice-aggregate-close-2
-    end-a-requires-2
-    end-b-requires-2
-    close-requires
-    same-length
+    (λ c κs. search needs)  -- zeros-requires-2
+    (λ c κs. search needs)  -- zeros-requires-3
+    (λ c. search needs)  -- slice-aggregate-lean
+    (λ c. search needs)  -- slice-aggregate-lean-2
+    (λ c. search needs)  -- slice-aggregate-lean-3
+    (λ c κs. search needs)  -- lean-requires
+    (λ c κs. search needs)  -- end-a-requires
+    (λ c κs. search needs)  -- end-b-requires
+    (λ c. search needs)  -- slice-aggregate-at
+    (λ c κs. search needs)  -- at-requires
+    (λ c. search needs)  -- slice-aggregate-at-2
+    (λ c κs. search needs)  -- at-requires-2
+    (λ c κs. search needs)  -- choose-requires
+    (λ c κs. search needs)  -- choose-requires-2
+    (λ c. search needs)  -- slice-aggregate-close
+    (λ c. search needs)  -- slice-aggregate-close-2
+    (λ c κs. search needs)  -- end-a-requires-2
+    (λ c κs. search needs)  -- end-b-requires-2
+    (λ c κs. search needs)  -- close-requires
+    (λ c. search needs)  -- same-length
     returns-3)

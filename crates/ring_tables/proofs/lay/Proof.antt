@@ -17,33 +17,6 @@ abbrev μ-loop : tie.MeasureT-loop
 loop-holds : tie.Need-loop-holds Inv-loop μ-loop
 loop-holds c = (search needs, refl)
 
-choose-requires : tie.Need-choose-requires Inv-loop μ-loop
-choose-requires c κs = search needs
-
-choose-requires-2 : tie.Need-choose-requires-2 Inv-loop μ-loop
-choose-requires-2 c κs = search needs
-
-store-requires : tie.Need-store-requires Inv-loop μ-loop
-store-requires c κs = search needs
-
-at-requires : tie.Need-at-requires Inv-loop μ-loop
-at-requires c κs = search needs
-
-bounded-sum-requires : tie.Need-bounded-sum-requires Inv-loop μ-loop
-bounded-sum-requires c κs = search needs
-
-less-requires : tie.Need-less-requires Inv-loop μ-loop
-less-requires c κs = search needs
-
-choose-requires-3 : tie.Need-choose-requires-3 Inv-loop μ-loop
-choose-requires-3 c κs = search needs
-
-sub-left : tie.Need-sub-left Inv-loop μ-loop
-sub-left c = search needs
-
-loop-less : tie.Need-loop-less Inv-loop μ-loop
-loop-less c = search needs
-
 loop-again : tie.Need-loop-again Inv-loop μ-loop
 loop-again c =
     let u = c .before .before .before in
@@ -53,9 +26,6 @@ loop-again c =
     let s = l .loop in
     let a = l .before .before .before .args in
     (o .store .kept .0 ∙ s .inv .0, s .inv .1 ∙ laid-turn (a .placing) (onward (a .up)) (a .next .now) (s .left) (s .u) (s .x) (q .before .choose .result) (q .choose2 .result) (u .at .result) (c .choose3 .result) (s .out) (o .store .last .0) (q .before .before .loop-test .taken) (q .before .choose .ensures) (q .choose2 .ensures) (o .store .ensures) (u .at .ensures) (rw (c .choose3 .ensures, c .before .before .bounded-sum .ensures, c .before .less .ensures) refl))
-
-same-length : tie.Need-same-length Inv-loop μ-loop
-same-length c = search needs
 
 returns : tie.Need-returns Inv-loop μ-loop
 returns c =
@@ -70,15 +40,15 @@ lay-spec =
     Inv-loop
     μ-loop
     loop-holds
-    choose-requires
-    choose-requires-2
-    store-requires
-    at-requires
-    bounded-sum-requires
-    less-requires
-    choose-requires-3
-    sub-left
-    loop-less
+    (λ c κs. search needs)  -- choose-requires
+    (λ c κs. search needs)  -- choose-requires-2
+    (λ c κs. search needs)  -- store-requires
+    (λ c κs. search needs)  -- at-requires
+    (λ c κs. search needs)  -- bounded-sum-requires
+    (λ c κs. search needs)  -- less-requires
+    (λ c κs. search needs)  -- choose-requires-3
+    (λ c. search needs)  -- sub-left
+    (λ c. search needs)  -- loop-less
     loop-again
-    same-length
+    (λ c. search needs)  -- same-length
     returns)

@@ -18,34 +18,13 @@ Inv-loop singles set₀ bit₀ i₀ set bit i = (i ≤ 5) × (bit ≡ 2 ^ i) × 
 abbrev μ-loop : tie.MeasureT-loop
 μ-loop singles set₀ bit₀ i₀ set bit i = 5 - i
 
-loop-holds : tie.Need-loop-holds Inv-loop μ-loop
-loop-holds c = search needs
-
-array-read-choose : tie.Need-array-read-choose Inv-loop μ-loop
-array-read-choose c = search needs
-
-choose-requires : tie.Need-choose-requires Inv-loop μ-loop
-choose-requires c κs = search needs
-
 add-set : tie.Need-add-set Inv-loop μ-loop
 add-set c = let i = c .before .before .loop .inv in let m : c .choose .result ≤ c .before .before .loop .bit = bit-small (getD (c .before .before .before .args .t1) (c .before .before .loop .i) false) _ _ (c .choose .ensures) in omega (arith, m, i .2, i .3)
-
-mul-bit : tie.Need-mul-bit Inv-loop μ-loop
-mul-bit c = search needs
-
-add-i : tie.Need-add-i Inv-loop μ-loop
-add-i c = search needs
-
-loop-less : tie.Need-loop-less Inv-loop μ-loop
-loop-less c = search needs
 
 loop-again : tie.Need-loop-again Inv-loop μ-loop
 loop-again c =
     let s = c .before .before in
     mask-more (s .before .args .t1) _ _ _ _ (c .before .loop-test .taken) (s .loop .inv .1) (s .loop .inv .2) (s .loop .inv .4) (c .choose .ensures)
-
-cast-result : tie.Need-cast-result Inv-loop μ-loop
-cast-result c = search needs
 
 returns : tie.Need-returns Inv-loop μ-loop
 unfolding maskOf
@@ -59,13 +38,13 @@ mask-spec =
     (tie.spec
     Inv-loop
     μ-loop
-    loop-holds
-    array-read-choose
-    choose-requires
+    (λ c. search needs)  -- loop-holds
+    (λ c. search needs)  -- array-read-choose
+    (λ c κs. search needs)  -- choose-requires
     add-set
-    mul-bit
-    add-i
-    loop-less
+    (λ c. search needs)  -- mul-bit
+    (λ c. search needs)  -- add-i
+    (λ c. search needs)  -- loop-less
     loop-again
-    cast-result
+    (λ c. search needs)  -- cast-result
     returns)

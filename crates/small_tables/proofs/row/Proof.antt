@@ -13,21 +13,6 @@ Inv-loop a units x₀ b₀ x b = (b ≤ units) × (rowBy a (a + 1) (units - (a +
 abbrev μ-loop : tie.MeasureT-loop
 μ-loop a units x₀ b₀ x b = units - b
 
-add-b : tie.Need-add-b Inv-loop μ-loop
-add-b c = search needs
-
-loop-holds : tie.Need-loop-holds Inv-loop μ-loop
-loop-holds c = search needs
-
-taken-requires : tie.Need-taken-requires Inv-loop μ-loop
-taken-requires c κs = search needs
-
-add-b-2 : tie.Need-add-b-2 Inv-loop μ-loop
-add-b-2 c = search needs
-
-loop-less : tie.Need-loop-less Inv-loop μ-loop
-loop-less c = search needs
-
 loop-again : tie.Need-loop-again Inv-loop μ-loop
 loop-again c =
     let s = c .before .before in
@@ -39,4 +24,13 @@ returns c = sym (c .before .loop .inv .1 ∙ row-done _ _ _ _ (c .loop-test .lef
 pub row-spec : {M : Type 1} → statement M
 row-spec =
     tie.close
-    (tie.spec Inv-loop μ-loop add-b loop-holds taken-requires add-b-2 loop-less loop-again returns)
+    (tie.spec
+    Inv-loop
+    μ-loop
+    (λ c. search needs)  -- add-b
+    (λ c. search needs)  -- loop-holds
+    (λ c κs. search needs)  -- taken-requires
+    (λ c. search needs)  -- add-b-2
+    (λ c. search needs)  -- loop-less
+    loop-again
+    returns)

@@ -12,23 +12,8 @@ Inv-loop units number n x₀ a₀ x a = (a ≤ n) × (rowsBy 0 (n - 0) x₀ ≡ 
 abbrev μ-loop : tie.MeasureT-loop
 μ-loop units number n x₀ a₀ x a = n - a
 
-least-of-requires : tie.Need-least-of-requires Inv-loop μ-loop
-least-of-requires c κs = search needs
-
-none-of-requires : tie.Need-none-of-requires Inv-loop μ-loop
-none-of-requires c κs = search needs
-
 loop-holds : tie.Need-loop-holds Inv-loop μ-loop
 loop-holds c = (search needs, refl)
-
-row-requires : tie.Need-row-requires Inv-loop μ-loop
-row-requires c κs = search needs
-
-add-a : tie.Need-add-a Inv-loop μ-loop
-add-a c = search needs
-
-loop-less : tie.Need-loop-less Inv-loop μ-loop
-loop-less c = search needs
 
 loop-again : tie.Need-loop-again Inv-loop μ-loop
 loop-again c =
@@ -46,11 +31,11 @@ table-spec =
     (tie.spec
     Inv-loop
     μ-loop
-    least-of-requires
-    none-of-requires
+    (λ c κs. search needs)  -- least-of-requires
+    (λ c κs. search needs)  -- none-of-requires
     loop-holds
-    row-requires
-    add-a
-    loop-less
+    (λ c κs. search needs)  -- row-requires
+    (λ c. search needs)  -- add-a
+    (λ c. search needs)  -- loop-less
     loop-again
     returns)

@@ -9,30 +9,6 @@ use borrow.Author.Needs.{needs}
 use Rattle.small_tables.proofs.taken.Statement.{statement}
 use Rattle.small_tables.proofs.taken.Tie as tie
 
-slice-aggregate-put : tie.Need-slice-aggregate-put
-slice-aggregate-put c = search needs
-
-cast-put : tie.Need-cast-put
-cast-put c = search needs
-
-put-requires : tie.Need-put-requires
-put-requires c κs = search needs
-
-slice-aggregate-put-2 : tie.Need-slice-aggregate-put-2
-slice-aggregate-put-2 c = search needs
-
-cast-put-2 : tie.Need-cast-put-2
-cast-put-2 c = search needs
-
-add-put : tie.Need-add-put
-add-put c = search needs
-
-put-requires-2 : tie.Need-put-requires-2
-put-requires-2 c κs = search needs
-
-bounded-sum-requires : tie.Need-bounded-sum-requires
-bounded-sum-requires c κs = search needs
-
 returns : tie.Need-returns
 unfolding takes
 returns c =
@@ -51,13 +27,13 @@ pub taken-spec : {M : Type 1} → statement M
 taken-spec =
     tie.close
     (tie.spec
-    slice-aggregate-put
-    cast-put
-    put-requires
-    slice-aggregate-put-2
-    cast-put-2
-    add-put
-    put-requires-2
-    bounded-sum-requires
+    (λ c. search needs)  -- slice-aggregate-put
+    (λ c. search needs)  -- cast-put
+    (λ c κs. search needs)  -- put-requires
+    (λ c. search needs)  -- slice-aggregate-put-2
+    (λ c. search needs)  -- cast-put-2
+    (λ c. search needs)  -- add-put
+    (λ c κs. search needs)  -- put-requires-2
+    (λ c κs. search needs)  -- bounded-sum-requires
     returns
     returns-2)

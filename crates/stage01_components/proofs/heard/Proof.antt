@@ -23,33 +23,6 @@ loop-holds c =
     let a = c .before .args in
     (search needs, search needs, heard-none (a .n) (a .ends .now) (a .t4))
 
-cast-at : tie.Need-cast-at Inv-loop μ-loop
-cast-at c = search needs
-
-mul-at : tie.Need-mul-at Inv-loop μ-loop
-mul-at c = search needs
-
-mul-a : tie.Need-mul-a Inv-loop μ-loop
-mul-a c = search needs
-
-shared-slice-read-a : tie.Need-shared-slice-read-a Inv-loop μ-loop
-shared-slice-read-a c = search needs
-
-add-b : tie.Need-add-b Inv-loop μ-loop
-add-b c = search needs
-
-mul-b : tie.Need-mul-b Inv-loop μ-loop
-mul-b c = search needs
-
-shared-slice-read-b : tie.Need-shared-slice-read-b Inv-loop μ-loop
-shared-slice-read-b c = search needs
-
-slice-aggregate-hear : tie.Need-slice-aggregate-hear Inv-loop μ-loop
-slice-aggregate-hear c = search needs
-
-slice-aggregate-hear-2 : tie.Need-slice-aggregate-hear-2 Inv-loop μ-loop
-slice-aggregate-hear-2 c = search needs
-
 hear-requires : tie.Need-hear-requires Inv-loop μ-loop
 hear-requires c κs =
     let s = c .before .before .before .before .before in
@@ -61,12 +34,6 @@ hear-requires c κs =
       hearer (a .n) (s .loop .j) (a .ends .now) (a .t4) (s .loop .new) _ one (omega (arith, one, start .pre .0)) on,
       hearer (a .n) (s .loop .j) (a .ends .now) (a .t4) (s .loop .new) _ two (omega (arith, two, start .pre .0)) on,
     )
-
-add-j : tie.Need-add-j Inv-loop μ-loop
-add-j c = search needs
-
-loop-less : tie.Need-loop-less Inv-loop μ-loop
-loop-less c = search needs
 
 loop-again : tie.Need-loop-again Inv-loop μ-loop
 loop-again c =
@@ -84,17 +51,17 @@ heard-spec =
     Inv-loop
     μ-loop
     loop-holds
-    cast-at
-    mul-at
-    mul-a
-    shared-slice-read-a
-    add-b
-    mul-b
-    shared-slice-read-b
-    slice-aggregate-hear
-    slice-aggregate-hear-2
+    (λ c. search needs)  -- cast-at
+    (λ c. search needs)  -- mul-at
+    (λ c. search needs)  -- mul-a
+    (λ c. search needs)  -- shared-slice-read-a
+    (λ c. search needs)  -- add-b
+    (λ c. search needs)  -- mul-b
+    (λ c. search needs)  -- shared-slice-read-b
+    (λ c. search needs)  -- slice-aggregate-hear
+    (λ c. search needs)  -- slice-aggregate-hear-2
     hear-requires
-    add-j
-    loop-less
+    (λ c. search needs)  -- add-j
+    (λ c. search needs)  -- loop-less
     loop-again
     returns)

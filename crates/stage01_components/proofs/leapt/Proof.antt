@@ -23,26 +23,8 @@ go c =
     let s = g .before in
     goes _ _ _ _ _ _ (rw (s .pre) at (sym (g .goes-on .ensures) ∙ and-right (c .before .before .pays .result) (g .goes-on .result) (sym (c .before .both .ensures) ∙ not-false _ (c .if1 .left))))
 
-goes-on-requires : tie.Need-goes-on-requires
-goes-on-requires c κs = search needs
-
-pays-requires : tie.Need-pays-requires
-pays-requires c κs = search needs
-
-both-requires : tie.Need-both-requires
-both-requires c κs = search needs
-
 returns : tie.Need-returns
 returns c = λ e. absurd (false≢true e)
-
-said-requires : tie.Need-said-requires
-said-requires c κs = search needs
-
-greatest-of-requires : tie.Need-greatest-of-requires
-greatest-of-requires c κs = search needs
-
-leap-requires : tie.Need-leap-requires
-leap-requires c κs = search needs
 
 returns-2 : tie.Need-returns-2
 returns-2 c =
@@ -61,11 +43,11 @@ pub leapt-spec : {M : Type 1} → statement M
 leapt-spec =
     tie.close
     (tie.spec
-    goes-on-requires
-    pays-requires
-    both-requires
+    (λ c κs. search needs)  -- goes-on-requires
+    (λ c κs. search needs)  -- pays-requires
+    (λ c κs. search needs)  -- both-requires
     returns
-    said-requires
-    greatest-of-requires
-    leap-requires
+    (λ c κs. search needs)  -- said-requires
+    (λ c κs. search needs)  -- greatest-of-requires
+    (λ c κs. search needs)  -- leap-requires
     returns-2)

@@ -8,21 +8,6 @@ use borrow.Author.Needs.{needs}
 use Rattle.stage01_components.proofs.lower.Statement.{statement}
 use Rattle.stage01_components.proofs.lower.Tie as tie
 
-mul-if1 : tie.Need-mul-if1
-mul-if1 c = search needs
-
-slice-read-if1 : tie.Need-slice-read-if1
-slice-read-if1 c = search needs
-
-mul-t : tie.Need-mul-t
-mul-t c = search needs
-
-slice-write-t : tie.Need-slice-write-t
-slice-write-t c = search needs
-
-same-length : tie.Need-same-length
-same-length c = search needs
-
 returns : tie.Need-returns
 returns c =
     let a = c .before .before .args in
@@ -37,4 +22,11 @@ returns-2 c =
 
 pub lower-spec : {M : Type 1} → statement M
 lower-spec =
-    tie.close (tie.spec mul-if1 slice-read-if1 mul-t slice-write-t same-length returns returns-2)
+    tie.close (tie.spec
+    (λ c. search needs)  -- mul-if1
+    (λ c. search needs)  -- slice-read-if1
+    (λ c. search needs)  -- mul-t
+    (λ c. search needs)  -- slice-write-t
+    (λ c. search needs)  -- same-length
+    returns
+    returns-2)

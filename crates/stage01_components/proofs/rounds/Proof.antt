@@ -27,26 +27,11 @@ go c = goes _ _ _ _ _ _ (rw (c .before .before .before .pre) at (sym (c .before 
 loop-holds : tie.Need-loop-holds Inv-loop μ-loop
 loop-holds c = (search needs, turns-begin _ _ _ _)
 
-goes-on-requires : tie.Need-goes-on-requires Inv-loop μ-loop
-goes-on-requires c κs = search needs
-
 round-requires : tie.Need-round-requires Inv-loop μ-loop
 round-requires c κs =
     let g = go (c .before) in
     let a = c .before .before .before .before .args in
     (g .few, fit-within (a .units) (a .links) (a .ends .now) (search (c .round-arg .given, needs)) (g .fit))
-
-slice-aggregate-ends : tie.Need-slice-aggregate-ends Inv-loop μ-loop
-slice-aggregate-ends c = search needs
-
-slice-aggregate-ends-2 : tie.Need-slice-aggregate-ends-2 Inv-loop μ-loop
-slice-aggregate-ends-2 c = search needs
-
-ends-requires : tie.Need-ends-requires Inv-loop μ-loop
-ends-requires c κs = search needs
-
-ticked-requires : tie.Need-ticked-requires Inv-loop μ-loop
-ticked-requires c κs = search needs
 
 add-made : tie.Need-add-made Inv-loop μ-loop
 add-made c = omega (arith, go (c .before .before .before .before .before .before) .below, c .before .before .before .before .before .before .before .before .before .fits .budget)
@@ -74,12 +59,12 @@ rounds-spec =
     Inv-loop
     μ-loop
     loop-holds
-    goes-on-requires
+    (λ c κs. search needs)  -- goes-on-requires
     round-requires
-    slice-aggregate-ends
-    slice-aggregate-ends-2
-    ends-requires
-    ticked-requires
+    (λ c. search needs)  -- slice-aggregate-ends
+    (λ c. search needs)  -- slice-aggregate-ends-2
+    (λ c κs. search needs)  -- ends-requires
+    (λ c κs. search needs)  -- ticked-requires
     add-made
     loop-less
     loop-again

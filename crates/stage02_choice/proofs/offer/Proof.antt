@@ -27,36 +27,6 @@ told c =
     ∙ ap₂ (λ (z y : ℤ). eqb (now c .unit) 65535 || better z (start c .args .w) y (now c .unit))
     (toZ-ofZ w16 (start c .args .level) (start c .fits .level)) (toZ-ofZ w16 (now c .level) (record { sfits = c .before .before .old .given }))
 
-cast-at : tie.Need-cast-at
-cast-at c = search needs
-
-mul-old : tie.Need-mul-old
-mul-old c = search needs
-
-element-copy-out-old : tie.Need-element-copy-out-old
-element-copy-out-old c = search needs
-
-mul-takes : tie.Need-mul-takes
-mul-takes c = search needs
-
-element-copy-out-takes : tie.Need-element-copy-out-takes
-element-copy-out-takes c = search needs
-
-takes-requires : tie.Need-takes-requires
-takes-requires c κs = search needs
-
-mul-level : tie.Need-mul-level
-mul-level c = search needs
-
-element-set-from-level : tie.Need-element-set-from-level
-element-set-from-level c = search needs
-
-mul-best : tie.Need-mul-best
-mul-best c = search needs
-
-element-write-best : tie.Need-element-write-best
-element-write-best c = search needs
-
 returns : tie.Need-returns
 returns c =
     let s = start (c .before) in
@@ -77,15 +47,15 @@ pub offer-spec : {M : Type 1} → statement M
 offer-spec =
     tie.close
     (tie.spec
-    cast-at
-    mul-old
-    element-copy-out-old
-    mul-takes
-    element-copy-out-takes
-    takes-requires
-    mul-level
-    element-set-from-level
-    mul-best
-    element-write-best
+    (λ c. search needs)  -- cast-at
+    (λ c. search needs)  -- mul-old
+    (λ c. search needs)  -- element-copy-out-old
+    (λ c. search needs)  -- mul-takes
+    (λ c. search needs)  -- element-copy-out-takes
+    (λ c κs. search needs)  -- takes-requires
+    (λ c. search needs)  -- mul-level
+    (λ c. search needs)  -- element-set-from-level
+    (λ c. search needs)  -- mul-best
+    (λ c. search needs)  -- element-write-best
     returns
     returns-2)

@@ -9,9 +9,6 @@ use borrow.Author.Needs.{needs}
 use Rattle.stage02_choice.proofs.offer_if.Statement.{statement}
 use Rattle.stage02_choice.proofs.offer_if.Tie as tie
 
-offer-requires : tie.Need-offer-requires
-offer-requires c κs = search needs
-
 returns : tie.Need-returns
 returns c =
     let t = c .before .before .before in
@@ -30,4 +27,9 @@ returns-2 c =
     )
 
 pub offer-if-spec : {M : Type 1} → statement M
-offer-if-spec = tie.close (tie.spec offer-requires returns returns-2)
+offer-if-spec =
+    tie.close
+    (tie.spec
+    (λ c κs. search needs)  -- offer-requires
+    returns
+    returns-2)

@@ -9,9 +9,6 @@ use borrow.Author.Needs.{needs}
 use Rattle.stage02_choice.proofs.takes.Statement.{statement}
 use Rattle.stage02_choice.proofs.takes.Tie as tie
 
-better-requires : tie.Need-better-requires
-better-requires c κs = search needs
-
 returns : tie.Need-returns
 returns c = rw (eq-eqb (c .before .args .best) 65535 (c .if1 .taken)) refl
 
@@ -23,4 +20,9 @@ returns-2 c =
     (c .better .ensures ∙ ap₂ (λ (z y : ℤ). better z (a .w) y (a .best)) (toZ-ofZ w16 (a .level) (s .fits .level)) (toZ-ofZ w16 (a .held) (s .fits .held)))
 
 pub takes-spec : {M : Type 1} → statement M
-takes-spec = tie.close (tie.spec better-requires returns returns-2)
+takes-spec =
+    tie.close
+    (tie.spec
+    (λ c κs. search needs)  -- better-requires
+    returns
+    returns-2)

@@ -22,43 +22,10 @@ Inv-loop links ends levels far held₀ best₀ wide₀ j₀ held best wide j = (
 abbrev μ-loop : tie.MeasureT-loop
 μ-loop links ends levels far held₀ best₀ wide₀ j₀ held best wide j = links - j
 
-no-levels-requires : tie.Need-no-levels-requires Inv-loop μ-loop
-no-levels-requires c κs = search needs
-
-no-units-requires : tie.Need-no-units-requires Inv-loop μ-loop
-no-units-requires c κs = search needs
-
 loop-holds : tie.Need-loop-holds Inv-loop μ-loop
 loop-holds c =
     let a = c .before .before .before .before .args in
     (search needs, best-none (oneNearer (a .far .now)) (a .ends .now) (a .levels .now) (c .before .no-levels .result) (c .no-units .result) (search needs) (search needs) (c .before .no-levels .ensures) (c .no-units .ensures), search needs)
-
-cast-pos : tie.Need-cast-pos Inv-loop μ-loop
-cast-pos c = search needs
-
-mul-place : tie.Need-mul-place Inv-loop μ-loop
-mul-place c = search needs
-
-mul-a : tie.Need-mul-a Inv-loop μ-loop
-mul-a c = search needs
-
-shared-slice-read-a : tie.Need-shared-slice-read-a Inv-loop μ-loop
-shared-slice-read-a c = search needs
-
-add-b : tie.Need-add-b Inv-loop μ-loop
-add-b c = search needs
-
-mul-b : tie.Need-mul-b Inv-loop μ-loop
-mul-b c = search needs
-
-shared-slice-read-b : tie.Need-shared-slice-read-b Inv-loop μ-loop
-shared-slice-read-b c = search needs
-
-mul-level : tie.Need-mul-level Inv-loop μ-loop
-mul-level c = search needs
-
-shared-slice-copy-out-level : tie.Need-shared-slice-copy-out-level Inv-loop μ-loop
-shared-slice-copy-out-level c = search needs
 
 offer-nearer-requires : tie.Need-offer-nearer-requires Inv-loop μ-loop
 offer-nearer-requires c κs =
@@ -69,15 +36,6 @@ offer-nearer-requires c κs =
     let one = start .pre .1 .1 (2 * s .loop .j) (omega (arith, more)) in
     let two = start .pre .1 .1 (2 * s .loop .j + 1) (omega (arith, more)) in
     (one, two, start .pre .0)
-
-either-requires : tie.Need-either-requires Inv-loop μ-loop
-either-requires c κs = search needs
-
-add-j : tie.Need-add-j Inv-loop μ-loop
-add-j c = search needs
-
-loop-less : tie.Need-loop-less Inv-loop μ-loop
-loop-less c = search needs
 
 loop-again : tie.Need-loop-again Inv-loop μ-loop
 loop-again c =
@@ -106,21 +64,21 @@ nearest-spec =
     (tie.spec
     Inv-loop
     μ-loop
-    no-levels-requires
-    no-units-requires
+    (λ c κs. search needs)  -- no-levels-requires
+    (λ c κs. search needs)  -- no-units-requires
     loop-holds
-    cast-pos
-    mul-place
-    mul-a
-    shared-slice-read-a
-    add-b
-    mul-b
-    shared-slice-read-b
-    mul-level
-    shared-slice-copy-out-level
+    (λ c. search needs)  -- cast-pos
+    (λ c. search needs)  -- mul-place
+    (λ c. search needs)  -- mul-a
+    (λ c. search needs)  -- shared-slice-read-a
+    (λ c. search needs)  -- add-b
+    (λ c. search needs)  -- mul-b
+    (λ c. search needs)  -- shared-slice-read-b
+    (λ c. search needs)  -- mul-level
+    (λ c. search needs)  -- shared-slice-copy-out-level
     offer-nearer-requires
-    either-requires
-    add-j
-    loop-less
+    (λ c κs. search needs)  -- either-requires
+    (λ c. search needs)  -- add-j
+    (λ c. search needs)  -- loop-less
     loop-again
     returns)

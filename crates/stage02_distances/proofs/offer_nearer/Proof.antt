@@ -13,24 +13,6 @@ use borrow.Author.Needs.{needs}
 use Rattle.stage02_distances.proofs.offer_nearer.Statement.{statement}
 use Rattle.stage02_distances.proofs.offer_nearer.Tie as tie
 
-mul-x : tie.Need-mul-x
-mul-x c = search needs
-
-shared-slice-read-x : tie.Need-shared-slice-read-x
-shared-slice-read-x c = search needs
-
-mul-y : tie.Need-mul-y
-mul-y c = search needs
-
-shared-slice-read-y : tie.Need-shared-slice-read-y
-shared-slice-read-y c = search needs
-
-one-more-requires : tie.Need-one-more-requires
-one-more-requires c κs = search needs
-
-offer-requires : tie.Need-offer-requires
-offer-requires c κs = search needs
-
 returns : tie.Need-returns
 returns c =
     let t = c .before .before .before in
@@ -44,12 +26,6 @@ returns c =
       first-linked (a .far .now) (a .level) (a .a) (a .b) _ _ _ _ (omega (arith, start .pre .1)) (eqb-true (at (a .far .now) (a .a) + 1) (at (a .far .now) (a .b)) first) (put .0) (put .1),
       rw first refl,
     )
-
-one-more-requires-2 : tie.Need-one-more-requires-2
-one-more-requires-2 c κs = search needs
-
-offer-requires-2 : tie.Need-offer-requires-2
-offer-requires-2 c κs = search needs
 
 returns-2 : tie.Need-returns-2
 returns-2 c =
@@ -82,14 +58,14 @@ pub offer-nearer-spec : {M : Type 1} → statement M
 offer-nearer-spec =
     tie.close
     (tie.spec
-    mul-x
-    shared-slice-read-x
-    mul-y
-    shared-slice-read-y
-    one-more-requires
-    offer-requires
+    (λ c. search needs)  -- mul-x
+    (λ c. search needs)  -- shared-slice-read-x
+    (λ c. search needs)  -- mul-y
+    (λ c. search needs)  -- shared-slice-read-y
+    (λ c κs. search needs)  -- one-more-requires
+    (λ c κs. search needs)  -- offer-requires
     returns
-    one-more-requires-2
-    offer-requires-2
+    (λ c κs. search needs)  -- one-more-requires-2
+    (λ c κs. search needs)  -- offer-requires-2
     returns-2
     returns-3)

@@ -25,66 +25,6 @@ Inv-loop units made last far cand parent dist new-parent₀ new-dist₀ stray₀
 abbrev μ-loop : tie.MeasureT-loop
 μ-loop units made last far cand parent dist new-parent₀ new-dist₀ stray₀ v₀ new-parent new-dist stray v = units - v
 
-loop-holds : tie.Need-loop-holds Inv-loop μ-loop
-loop-holds c = search needs
-
-cast-at : tie.Need-cast-at Inv-loop μ-loop
-cast-at c = search needs
-
-mul-d : tie.Need-mul-d Inv-loop μ-loop
-mul-d c = search needs
-
-shared-slice-read-d : tie.Need-shared-slice-read-d Inv-loop μ-loop
-shared-slice-read-d c = search needs
-
-mul-best : tie.Need-mul-best Inv-loop μ-loop
-mul-best c = search needs
-
-shared-slice-read-best : tie.Need-shared-slice-read-best Inv-loop μ-loop
-shared-slice-read-best c = search needs
-
-to-visit-requires : tie.Need-to-visit-requires Inv-loop μ-loop
-to-visit-requires c κs = search needs
-
-mul-choose : tie.Need-mul-choose Inv-loop μ-loop
-mul-choose c = search needs
-
-array-read-choose : tie.Need-array-read-choose Inv-loop μ-loop
-array-read-choose c = search needs
-
-choose-requires : tie.Need-choose-requires Inv-loop μ-loop
-choose-requires c κs = search needs
-
-mul-strays : tie.Need-mul-strays Inv-loop μ-loop
-mul-strays c = search needs
-
-array-read-strays : tie.Need-array-read-strays Inv-loop μ-loop
-array-read-strays c = search needs
-
-strays-requires : tie.Need-strays-requires Inv-loop μ-loop
-strays-requires c κs = search needs
-
-mul-new-parent : tie.Need-mul-new-parent Inv-loop μ-loop
-mul-new-parent c = search needs
-
-array-write-new-parent : tie.Need-array-write-new-parent Inv-loop μ-loop
-array-write-new-parent c = search needs
-
-mul-new-dist : tie.Need-mul-new-dist Inv-loop μ-loop
-mul-new-dist c = search needs
-
-array-write-new-dist : tie.Need-array-write-new-dist Inv-loop μ-loop
-array-write-new-dist c = search needs
-
-either-requires : tie.Need-either-requires Inv-loop μ-loop
-either-requires c κs = search needs
-
-add-v : tie.Need-add-v Inv-loop μ-loop
-add-v c = search needs
-
-loop-less : tie.Need-loop-less Inv-loop μ-loop
-loop-less c = search needs
-
 loop-again : tie.Need-loop-again Inv-loop μ-loop
 loop-again c =
     let off = c .before in
@@ -123,25 +63,25 @@ settle-spec =
     (tie.spec
     Inv-loop
     μ-loop
-    loop-holds
-    cast-at
-    mul-d
-    shared-slice-read-d
-    mul-best
-    shared-slice-read-best
-    to-visit-requires
-    mul-choose
-    array-read-choose
-    choose-requires
-    mul-strays
-    array-read-strays
-    strays-requires
-    mul-new-parent
-    array-write-new-parent
-    mul-new-dist
-    array-write-new-dist
-    either-requires
-    add-v
-    loop-less
+    (λ c. search needs)  -- loop-holds
+    (λ c. search needs)  -- cast-at
+    (λ c. search needs)  -- mul-d
+    (λ c. search needs)  -- shared-slice-read-d
+    (λ c. search needs)  -- mul-best
+    (λ c. search needs)  -- shared-slice-read-best
+    (λ c κs. search needs)  -- to-visit-requires
+    (λ c. search needs)  -- mul-choose
+    (λ c. search needs)  -- array-read-choose
+    (λ c κs. search needs)  -- choose-requires
+    (λ c. search needs)  -- mul-strays
+    (λ c. search needs)  -- array-read-strays
+    (λ c κs. search needs)  -- strays-requires
+    (λ c. search needs)  -- mul-new-parent
+    (λ c. search needs)  -- array-write-new-parent
+    (λ c. search needs)  -- mul-new-dist
+    (λ c. search needs)  -- array-write-new-dist
+    (λ c κs. search needs)  -- either-requires
+    (λ c. search needs)  -- add-v
+    (λ c. search needs)  -- loop-less
     loop-again
     returns)

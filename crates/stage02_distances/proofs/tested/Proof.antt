@@ -42,21 +42,6 @@ fine c =
       top = ltb-true (w .word .result) (a .units) (and-right tip top inside);
     }
 
-links-fit-requires : tie.Need-links-fit-requires
-links-fit-requires c κs = search needs
-
-both-requires : tie.Need-both-requires
-both-requires c κs = search needs
-
-word-requires : tie.Need-word-requires
-word-requires c κs = search needs
-
-both-requires-2 : tie.Need-both-requires-2
-both-requires-2 c κs = search needs
-
-both-requires-3 : tie.Need-both-requires-3
-both-requires-3 c κs = search needs
-
 returns : tie.Need-returns
 returns c = λ t. absurd (false≢true t)
 
@@ -70,15 +55,6 @@ nearest-requires c κs =
 
 settle-requires : tie.Need-settle-requires
 settle-requires c κs = (fine (c .before .before .before .before .before .before .before .before) .few, search needs, search needs)
-
-both-requires-4 : tie.Need-both-requires-4
-both-requires-4 c κs = search needs
-
-either-requires : tie.Need-either-requires
-either-requires c κs = search needs
-
-both-requires-5 : tie.Need-both-requires-5
-both-requires-5 c κs = search needs
 
 returns-2 : tie.Need-returns-2
 returns-2 c =
@@ -97,16 +73,16 @@ pub tested-spec : {M : Type 1} → statement M
 tested-spec =
     tie.close
     (tie.spec
-    links-fit-requires
-    both-requires
-    word-requires
-    both-requires-2
-    both-requires-3
+    (λ c κs. search needs)  -- links-fit-requires
+    (λ c κs. search needs)  -- both-requires
+    (λ c κs. search needs)  -- word-requires
+    (λ c κs. search needs)  -- both-requires-2
+    (λ c κs. search needs)  -- both-requires-3
     returns
     add-last
     nearest-requires
     settle-requires
-    both-requires-4
-    either-requires
-    both-requires-5
+    (λ c κs. search needs)  -- both-requires-4
+    (λ c κs. search needs)  -- either-requires
+    (λ c κs. search needs)  -- both-requires-5
     returns-2)

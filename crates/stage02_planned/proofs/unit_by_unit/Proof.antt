@@ -21,45 +21,6 @@ Inv-loop units plan color new-parent₀ new-dist₀ v₀ new-parent new-dist v =
 abbrev μ-loop : tie.MeasureT-loop
 μ-loop units plan color new-parent₀ new-dist₀ v₀ new-parent new-dist v = units - v
 
-loop-holds : tie.Need-loop-holds Inv-loop μ-loop
-loop-holds c = search needs
-
-cast-at : tie.Need-cast-at Inv-loop μ-loop
-cast-at c = search needs
-
-mul-steps : tie.Need-mul-steps Inv-loop μ-loop
-mul-steps c = search needs
-
-shared-slice-read-steps : tie.Need-shared-slice-read-steps Inv-loop μ-loop
-shared-slice-read-steps c = search needs
-
-steps-requires : tie.Need-steps-requires Inv-loop μ-loop
-steps-requires c κs = search needs
-
-mul-up : tie.Need-mul-up Inv-loop μ-loop
-mul-up c = search needs
-
-shared-slice-read-up : tie.Need-shared-slice-read-up Inv-loop μ-loop
-shared-slice-read-up c = search needs
-
-mul-new-parent : tie.Need-mul-new-parent Inv-loop μ-loop
-mul-new-parent c = search needs
-
-array-write-new-parent : tie.Need-array-write-new-parent Inv-loop μ-loop
-array-write-new-parent c = search needs
-
-mul-new-dist : tie.Need-mul-new-dist Inv-loop μ-loop
-mul-new-dist c = search needs
-
-array-write-new-dist : tie.Need-array-write-new-dist Inv-loop μ-loop
-array-write-new-dist c = search needs
-
-add-v : tie.Need-add-v Inv-loop μ-loop
-add-v c = search needs
-
-loop-less : tie.Need-loop-less Inv-loop μ-loop
-loop-less c = search needs
-
 loop-again : tie.Need-loop-again Inv-loop μ-loop
 loop-again c =
     let up = c .before in
@@ -87,18 +48,18 @@ unit-by-unit-spec =
     (tie.spec
     Inv-loop
     μ-loop
-    loop-holds
-    cast-at
-    mul-steps
-    shared-slice-read-steps
-    steps-requires
-    mul-up
-    shared-slice-read-up
-    mul-new-parent
-    array-write-new-parent
-    mul-new-dist
-    array-write-new-dist
-    add-v
-    loop-less
+    (λ c. search needs)  -- loop-holds
+    (λ c. search needs)  -- cast-at
+    (λ c. search needs)  -- mul-steps
+    (λ c. search needs)  -- shared-slice-read-steps
+    (λ c κs. search needs)  -- steps-requires
+    (λ c. search needs)  -- mul-up
+    (λ c. search needs)  -- shared-slice-read-up
+    (λ c. search needs)  -- mul-new-parent
+    (λ c. search needs)  -- array-write-new-parent
+    (λ c. search needs)  -- mul-new-dist
+    (λ c. search needs)  -- array-write-new-dist
+    (λ c. search needs)  -- add-v
+    (λ c. search needs)  -- loop-less
     loop-again
     returns)

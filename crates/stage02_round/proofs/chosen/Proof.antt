@@ -17,52 +17,10 @@ Inv-loop links made ends levels dist held₀ best₀ j₀ held best j = (j ≤ l
 abbrev μ-loop : tie.MeasureT-loop
 μ-loop links made ends levels dist held₀ best₀ j₀ held best j = links - j
 
-no-levels-requires : tie.Need-no-levels-requires Inv-loop μ-loop
-no-levels-requires c κs = search needs
-
-no-units-requires : tie.Need-no-units-requires Inv-loop μ-loop
-no-units-requires c κs = search needs
-
 loop-holds : tie.Need-loop-holds Inv-loop μ-loop
 loop-holds c =
     let a = c .before .before .before .before .args in
     (search needs, best-none (λ (v : ℕ). visitedBefore (a .made) (a .dist .now)) (wrapped (a .ends .now)) (a .levels .now) (c .before .no-levels .result) (c .no-units .result) (search needs) (search needs) (c .before .no-levels .ensures) (c .no-units .ensures))
-
-cast-pos : tie.Need-cast-pos Inv-loop μ-loop
-cast-pos c = search needs
-
-mul-at : tie.Need-mul-at Inv-loop μ-loop
-mul-at c = search needs
-
-mul-a : tie.Need-mul-a Inv-loop μ-loop
-mul-a c = search needs
-
-shared-slice-read-a : tie.Need-shared-slice-read-a Inv-loop μ-loop
-shared-slice-read-a c = search needs
-
-add-b : tie.Need-add-b Inv-loop μ-loop
-add-b c = search needs
-
-mul-b : tie.Need-mul-b Inv-loop μ-loop
-mul-b c = search needs
-
-shared-slice-read-b : tie.Need-shared-slice-read-b Inv-loop μ-loop
-shared-slice-read-b c = search needs
-
-mul-level : tie.Need-mul-level Inv-loop μ-loop
-mul-level c = search needs
-
-shared-slice-copy-out-level : tie.Need-shared-slice-copy-out-level Inv-loop μ-loop
-shared-slice-copy-out-level c = search needs
-
-offer-both-requires : tie.Need-offer-both-requires Inv-loop μ-loop
-offer-both-requires c κs = search needs
-
-add-j : tie.Need-add-j Inv-loop μ-loop
-add-j c = search needs
-
-loop-less : tie.Need-loop-less Inv-loop μ-loop
-loop-less c = search needs
 
 loop-again : tie.Need-loop-again Inv-loop μ-loop
 loop-again c =
@@ -88,20 +46,20 @@ chosen-spec =
     (tie.spec
     Inv-loop
     μ-loop
-    no-levels-requires
-    no-units-requires
+    (λ c κs. search needs)  -- no-levels-requires
+    (λ c κs. search needs)  -- no-units-requires
     loop-holds
-    cast-pos
-    mul-at
-    mul-a
-    shared-slice-read-a
-    add-b
-    mul-b
-    shared-slice-read-b
-    mul-level
-    shared-slice-copy-out-level
-    offer-both-requires
-    add-j
-    loop-less
+    (λ c. search needs)  -- cast-pos
+    (λ c. search needs)  -- mul-at
+    (λ c. search needs)  -- mul-a
+    (λ c. search needs)  -- shared-slice-read-a
+    (λ c. search needs)  -- add-b
+    (λ c. search needs)  -- mul-b
+    (λ c. search needs)  -- shared-slice-read-b
+    (λ c. search needs)  -- mul-level
+    (λ c. search needs)  -- shared-slice-copy-out-level
+    (λ c κs. search needs)  -- offer-both-requires
+    (λ c. search needs)  -- add-j
+    (λ c. search needs)  -- loop-less
     loop-again
     returns)

@@ -13,21 +13,6 @@ use borrow.Author.Needs.{needs}
 use Rattle.stage02_round.proofs.offer_both.Statement.{statement}
 use Rattle.stage02_round.proofs.offer_both.Tie as tie
 
-was-visited-requires : tie.Need-was-visited-requires
-was-visited-requires c κs = search needs
-
-was-visited-requires-2 : tie.Need-was-visited-requires-2
-was-visited-requires-2 c κs = search needs
-
-either-requires : tie.Need-either-requires
-either-requires c κs = search needs
-
-offer-if-requires : tie.Need-offer-if-requires
-offer-if-requires c κs = search needs
-
-offer-if-requires-2 : tie.Need-offer-if-requires-2
-offer-if-requires-2 c κs = search needs
-
 returns : tie.Need-returns
 returns c =
     let one = c .before .before .before in
@@ -53,10 +38,10 @@ pub offer-both-spec : {M : Type 1} → statement M
 offer-both-spec =
     tie.close
     (tie.spec
-    was-visited-requires
-    was-visited-requires-2
-    either-requires
-    offer-if-requires
-    offer-if-requires-2
+    (λ c κs. search needs)  -- was-visited-requires
+    (λ c κs. search needs)  -- was-visited-requires-2
+    (λ c κs. search needs)  -- either-requires
+    (λ c κs. search needs)  -- offer-if-requires
+    (λ c κs. search needs)  -- offer-if-requires-2
     returns
     returns-2)

@@ -10,24 +10,6 @@ use borrow.Author.Needs.{needs}
 use Rattle.stage02_round.proofs.round.Statement.{statement}
 use Rattle.stage02_round.proofs.round.Tie as tie
 
-least-of-requires : tie.Need-least-of-requires
-least-of-requires c κs = search needs
-
-least-of-requires-2 : tie.Need-least-of-requires-2
-least-of-requires-2 c κs = search needs
-
-slice-aggregate-chosen : tie.Need-slice-aggregate-chosen
-slice-aggregate-chosen c = search needs
-
-chosen-requires : tie.Need-chosen-requires
-chosen-requires c κs = search needs
-
-slice-aggregate-visit : tie.Need-slice-aggregate-visit
-slice-aggregate-visit c = search needs
-
-visit-requires : tie.Need-visit-requires
-visit-requires c κs = search needs
-
 returns : tie.Need-returns
 returns c =
     let h = c .before .before .before in
@@ -52,10 +34,10 @@ pub round-spec : {M : Type 1} → statement M
 round-spec =
     tie.close
     (tie.spec
-    least-of-requires
-    least-of-requires-2
-    slice-aggregate-chosen
-    chosen-requires
-    slice-aggregate-visit
-    visit-requires
+    (λ c κs. search needs)  -- least-of-requires
+    (λ c κs. search needs)  -- least-of-requires-2
+    (λ c. search needs)  -- slice-aggregate-chosen
+    (λ c κs. search needs)  -- chosen-requires
+    (λ c. search needs)  -- slice-aggregate-visit
+    (λ c κs. search needs)  -- visit-requires
     returns)

@@ -24,66 +24,6 @@ Inv-loop units made color cand parent dist new-parent₀ new-dist₀ any₀ v₀
 abbrev μ-loop : tie.MeasureT-loop
 μ-loop units made color cand parent dist new-parent₀ new-dist₀ any₀ v₀ new-parent new-dist any v = units - v
 
-loop-holds : tie.Need-loop-holds Inv-loop μ-loop
-loop-holds c = search needs
-
-cast-at : tie.Need-cast-at Inv-loop μ-loop
-cast-at c = search needs
-
-slice-aggregate-visits : tie.Need-slice-aggregate-visits Inv-loop μ-loop
-slice-aggregate-visits c = search needs
-
-visits-requires : tie.Need-visits-requires Inv-loop μ-loop
-visits-requires c κs = search needs
-
-mul-best : tie.Need-mul-best Inv-loop μ-loop
-mul-best c = search needs
-
-shared-slice-read-best : tie.Need-shared-slice-read-best Inv-loop μ-loop
-shared-slice-read-best c = search needs
-
-choose-requires : tie.Need-choose-requires Inv-loop μ-loop
-choose-requires c κs = search needs
-
-mul-choose : tie.Need-mul-choose Inv-loop μ-loop
-mul-choose c = search needs
-
-array-read-choose : tie.Need-array-read-choose Inv-loop μ-loop
-array-read-choose c = search needs
-
-choose-requires-2 : tie.Need-choose-requires-2 Inv-loop μ-loop
-choose-requires-2 c κs = search needs
-
-mul-choose-2 : tie.Need-mul-choose-2 Inv-loop μ-loop
-mul-choose-2 c = search needs
-
-array-read-choose-2 : tie.Need-array-read-choose-2 Inv-loop μ-loop
-array-read-choose-2 c = search needs
-
-choose-requires-3 : tie.Need-choose-requires-3 Inv-loop μ-loop
-choose-requires-3 c κs = search needs
-
-mul-new-parent : tie.Need-mul-new-parent Inv-loop μ-loop
-mul-new-parent c = search needs
-
-array-write-new-parent : tie.Need-array-write-new-parent Inv-loop μ-loop
-array-write-new-parent c = search needs
-
-mul-new-dist : tie.Need-mul-new-dist Inv-loop μ-loop
-mul-new-dist c = search needs
-
-array-write-new-dist : tie.Need-array-write-new-dist Inv-loop μ-loop
-array-write-new-dist c = search needs
-
-either-requires : tie.Need-either-requires Inv-loop μ-loop
-either-requires c κs = search needs
-
-add-v : tie.Need-add-v Inv-loop μ-loop
-add-v c = search needs
-
-loop-less : tie.Need-loop-less Inv-loop μ-loop
-loop-less c = search needs
-
 loop-again : tie.Need-loop-again Inv-loop μ-loop
 loop-again c =
     let three = c .before in
@@ -123,25 +63,25 @@ visit-spec =
     (tie.spec
     Inv-loop
     μ-loop
-    loop-holds
-    cast-at
-    slice-aggregate-visits
-    visits-requires
-    mul-best
-    shared-slice-read-best
-    choose-requires
-    mul-choose
-    array-read-choose
-    choose-requires-2
-    mul-choose-2
-    array-read-choose-2
-    choose-requires-3
-    mul-new-parent
-    array-write-new-parent
-    mul-new-dist
-    array-write-new-dist
-    either-requires
-    add-v
-    loop-less
+    (λ c. search needs)  -- loop-holds
+    (λ c. search needs)  -- cast-at
+    (λ c. search needs)  -- slice-aggregate-visits
+    (λ c κs. search needs)  -- visits-requires
+    (λ c. search needs)  -- mul-best
+    (λ c. search needs)  -- shared-slice-read-best
+    (λ c κs. search needs)  -- choose-requires
+    (λ c. search needs)  -- mul-choose
+    (λ c. search needs)  -- array-read-choose
+    (λ c κs. search needs)  -- choose-requires-2
+    (λ c. search needs)  -- mul-choose-2
+    (λ c. search needs)  -- array-read-choose-2
+    (λ c κs. search needs)  -- choose-requires-3
+    (λ c. search needs)  -- mul-new-parent
+    (λ c. search needs)  -- array-write-new-parent
+    (λ c. search needs)  -- mul-new-dist
+    (λ c. search needs)  -- array-write-new-dist
+    (λ c κs. search needs)  -- either-requires
+    (λ c. search needs)  -- add-v
+    (λ c. search needs)  -- loop-less
     loop-again
     returns)

@@ -46,18 +46,6 @@ few c =
     let l = found c .leap .ensures (fine c .right) in
     omega (arith, c .before .before .before .less .ensures, l .room, l .goal .few)
 
-leap-requires : tie.Need-leap-requires
-leap-requires c κs = search needs
-
-less-requires : tie.Need-less-requires
-less-requires c κs = search needs
-
-both-requires : tie.Need-both-requires
-both-requires c κs = search needs
-
-both-requires-2 : tie.Need-both-requires-2
-both-requires-2 c κs = search needs
-
 returns : tie.Need-returns
 returns c = λ t. absurd (false≢true t)
 
@@ -66,9 +54,6 @@ add-least-of c = record { fits = omega (arith, few (c .before .before)) }
 
 add-least-of-2 : tie.Need-add-least-of-2
 add-least-of-2 c = record { fits = omega (arith, few (c .before .before .before), ready (start (c .before .before .before)) .rounds) }
-
-least-of-requires : tie.Need-least-of-requires
-least-of-requires c κs = search needs
 
 add-t23 : tie.Need-add-t23
 add-t23 c = record { fits = omega (arith, few (c .before .before .before .before)) }
@@ -92,14 +77,14 @@ pub remaining-spec : {M : Type 1} → statement M
 remaining-spec =
     tie.close
     (tie.spec
-    leap-requires
-    less-requires
-    both-requires
-    both-requires-2
+    (λ c κs. search needs)  -- leap-requires
+    (λ c κs. search needs)  -- less-requires
+    (λ c κs. search needs)  -- both-requires
+    (λ c κs. search needs)  -- both-requires-2
     returns
     add-least-of
     add-least-of-2
-    least-of-requires
+    (λ c κs. search needs)  -- least-of-requires
     add-t23
     add-t25
     returns-2)

@@ -19,9 +19,6 @@ links c = omega (arith, c .pre .1)
 within : (c : tie.Start) → EndsWithin 256 (c .args .links) (c .args .ends .now)
 within c = (c .pre .2 .0, λ i h. omega (arith, c .pre .2 .1 i h, c .pre .0))
 
-take-over-requires : tie.Need-take-over-requires
-take-over-requires c κs = search needs
-
 returns : tie.Need-returns
 returns c =
     let p = c .before .before in
@@ -30,9 +27,6 @@ returns c =
     let e = rw (units s) at (p .take-over .ensures) in
     let l = after-plan (a .units) (a .links) (a .made) (a .given) (a .plan .now) (a .ends .now) (a .levels .now) (a .color .now) (a .dist) (a .parent) (p .before .if1 .taken) in
     (e .0 ∙ l .0, (e .1 ∙ l .1 .0, l .1 .1))
-
-round-requires : tie.Need-round-requires
-round-requires c κs = search needs
 
 returns-2 : tie.Need-returns-2
 returns-2 c =
@@ -49,4 +43,10 @@ returns-2 c =
     )
 
 pub round-spec : {M : Type 1} → statement M
-round-spec = tie.close (tie.spec take-over-requires returns round-requires returns-2)
+round-spec =
+    tie.close
+    (tie.spec
+    (λ c κs. search needs)  -- take-over-requires
+    returns
+    (λ c κs. search needs)  -- round-requires
+    returns-2)

@@ -23,23 +23,8 @@ go : (c : tie.Then1 Inv-loop μ-loop)
     → (let a = c .before .before .before .before .before .before .before .before .args in Goes (a .units) 2 (c .before .before .loop .made) (a .budget) (linksFit (a .units) (a .links) (a .ends .now)) (c .before .before .loop .c))
 go c = goes _ _ _ _ _ _ (rw (c .before .before .before .before .before .before .links-fit .ensures) at (sym (c .before .goes-on .ensures) ∙ c .if1 .taken))
 
-links-fit-requires : tie.Need-links-fit-requires Inv-loop μ-loop
-links-fit-requires c κs = search needs
-
-less-requires : tie.Need-less-requires Inv-loop μ-loop
-less-requires c κs = search needs
-
-less-requires-2 : tie.Need-less-requires-2 Inv-loop μ-loop
-less-requires-2 c κs = search needs
-
-choose-requires : tie.Need-choose-requires Inv-loop μ-loop
-choose-requires c κs = search needs
-
 loop-holds : tie.Need-loop-holds Inv-loop μ-loop
 loop-holds c = turns-begin _ _ _ _
-
-goes-on-requires : tie.Need-goes-on-requires Inv-loop μ-loop
-goes-on-requires c κs = search needs
 
 sub-remaining : tie.Need-sub-remaining Inv-loop μ-loop
 sub-remaining c = omega (arith, go (c .before) .below)
@@ -62,9 +47,6 @@ round-requires c κs =
     let lent = t .before .before .before .before .before .before .before in
     let a = lent .before .args in
     (g .few, fit-few (a .units) (a .links) (a .ends .now) (g .fit), fit-within (a .units) (a .links) (a .ends .now) (lent .links-fit-arg .given .0) (g .fit))
-
-ticked-requires : tie.Need-ticked-requires Inv-loop μ-loop
-ticked-requires c κs = search needs
 
 add-made : tie.Need-add-made Inv-loop μ-loop
 add-made c =
@@ -92,17 +74,17 @@ run-spec =
     (tie.spec
     Inv-loop
     μ-loop
-    links-fit-requires
-    less-requires
-    less-requires-2
-    choose-requires
+    (λ c κs. search needs)  -- links-fit-requires
+    (λ c κs. search needs)  -- less-requires
+    (λ c κs. search needs)  -- less-requires-2
+    (λ c κs. search needs)  -- choose-requires
     loop-holds
-    goes-on-requires
+    (λ c κs. search needs)  -- goes-on-requires
     sub-remaining
     remaining-requires
     returns
     round-requires
-    ticked-requires
+    (λ c κs. search needs)  -- ticked-requires
     add-made
     loop-less
     loop-again

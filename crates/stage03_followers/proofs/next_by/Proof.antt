@@ -19,42 +19,6 @@ Inv-loop units parent eldest later past new₀ v₀ new v =
 abbrev μ-loop : tie.MeasureT-loop
 μ-loop units parent eldest later past new₀ v₀ new v = units - v
 
-loop-holds : tie.Need-loop-holds Inv-loop μ-loop
-loop-holds c = search needs
-
-cast-at : tie.Need-cast-at Inv-loop μ-loop
-cast-at c = search needs
-
-mul-at : tie.Need-mul-at Inv-loop μ-loop
-mul-at c = search needs
-
-in-by-requires : tie.Need-in-by-requires Inv-loop μ-loop
-in-by-requires c κs = search needs
-
-out-by-requires : tie.Need-out-by-requires Inv-loop μ-loop
-out-by-requires c κs = search needs
-
-mul-new : tie.Need-mul-new Inv-loop μ-loop
-mul-new c = search needs
-
-array-write-new : tie.Need-array-write-new Inv-loop μ-loop
-array-write-new c = search needs
-
-add-new : tie.Need-add-new Inv-loop μ-loop
-add-new c = search needs
-
-mul-new-2 : tie.Need-mul-new-2 Inv-loop μ-loop
-mul-new-2 c = search needs
-
-array-write-new-2 : tie.Need-array-write-new-2 Inv-loop μ-loop
-array-write-new-2 c = search needs
-
-add-v : tie.Need-add-v Inv-loop μ-loop
-add-v c = search needs
-
-loop-less : tie.Need-loop-less Inv-loop μ-loop
-loop-less c = search needs
-
 loop-again : tie.Need-loop-again Inv-loop μ-loop
 loop-again c =
     let out = c in
@@ -90,17 +54,17 @@ next-by-spec =
     (tie.spec
     Inv-loop
     μ-loop
-    loop-holds
-    cast-at
-    mul-at
-    in-by-requires
-    out-by-requires
-    mul-new
-    array-write-new
-    add-new
-    mul-new-2
-    array-write-new-2
-    add-v
-    loop-less
+    (λ c. search needs)  -- loop-holds
+    (λ c. search needs)  -- cast-at
+    (λ c. search needs)  -- mul-at
+    (λ c κs. search needs)  -- in-by-requires
+    (λ c κs. search needs)  -- out-by-requires
+    (λ c. search needs)  -- mul-new
+    (λ c. search needs)  -- array-write-new
+    (λ c. search needs)  -- add-new
+    (λ c. search needs)  -- mul-new-2
+    (λ c. search needs)  -- array-write-new-2
+    (λ c. search needs)  -- add-v
+    (λ c. search needs)  -- loop-less
     loop-again
     returns)

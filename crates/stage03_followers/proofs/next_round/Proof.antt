@@ -15,12 +15,6 @@ passed c = rw (c .before .before .names-ok .ensures) at (sym (c .before .both .e
 parents : (c : tie.Else1) → (let a = c .before .before .before .before .args in Parents (a .units) (a .parent .now))
 parents c = let a = c .before .before .before .before .args in fit-parents (a .units) (a .parent .now) (c .before .before .before .names-ok-arg .given .0) (passed c)
 
-names-ok-requires : tie.Need-names-ok-requires
-names-ok-requires c κs = search needs
-
-both-requires : tie.Need-both-requires
-both-requires c κs = search needs
-
 returns : tie.Need-returns
 returns c = sym (cond-false _ _ _ (rw (c .before .before .names-ok .ensures) at (sym (c .before .both .ensures) ∙ not-true _ (c .if1 .taken))))
 
@@ -37,4 +31,12 @@ returns-2 : tie.Need-returns-2
 returns-2 c = c .next-by .ensures ∙ sym (cond-true _ _ _ (passed (c .before .before .before .before .before .before .before .before .before .before .before)))
 
 pub next-round-spec : {M : Type 1} → statement M
-next-round-spec = tie.close (tie.spec names-ok-requires both-requires returns scan-requires next-by-requires returns-2)
+next-round-spec =
+    tie.close
+    (tie.spec
+    (λ c κs. search needs)  -- names-ok-requires
+    (λ c κs. search needs)  -- both-requires
+    returns
+    scan-requires
+    next-by-requires
+    returns-2)

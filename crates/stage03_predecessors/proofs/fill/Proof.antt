@@ -18,34 +18,10 @@ Inv-loop count key first₀ k₀ first k =
 abbrev μ-loop : tie.MeasureT-loop
 μ-loop count key first₀ k₀ first k = k
 
-blank-arcs-requires : tie.Need-blank-arcs-requires Inv-loop μ-loop
-blank-arcs-requires c κs = search needs
-
 loop-holds : tie.Need-loop-holds Inv-loop μ-loop
 loop-holds c =
     let a = c .before .before .args in
     (search needs, search needs, eldest-none (a .count) (a .key .now) BUCKETS (c .blank-arcs .result) (c .blank-arcs .ensures))
-
-sub-k : tie.Need-sub-k Inv-loop μ-loop
-sub-k c = search needs
-
-cast-at : tie.Need-cast-at Inv-loop μ-loop
-cast-at c = search needs
-
-mul-q : tie.Need-mul-q Inv-loop μ-loop
-mul-q c = search needs
-
-shared-slice-read-q : tie.Need-shared-slice-read-q Inv-loop μ-loop
-shared-slice-read-q c = search needs
-
-slice-aggregate-store : tie.Need-slice-aggregate-store Inv-loop μ-loop
-slice-aggregate-store c = search needs
-
-store-requires : tie.Need-store-requires Inv-loop μ-loop
-store-requires c κs = search needs
-
-loop-less : tie.Need-loop-less Inv-loop μ-loop
-loop-less c = search needs
 
 loop-again : tie.Need-loop-again Inv-loop μ-loop
 loop-again c =
@@ -73,14 +49,14 @@ fill-spec =
     (tie.spec
     Inv-loop
     μ-loop
-    blank-arcs-requires
+    (λ c κs. search needs)  -- blank-arcs-requires
     loop-holds
-    sub-k
-    cast-at
-    mul-q
-    shared-slice-read-q
-    slice-aggregate-store
-    store-requires
-    loop-less
+    (λ c. search needs)  -- sub-k
+    (λ c. search needs)  -- cast-at
+    (λ c. search needs)  -- mul-q
+    (λ c. search needs)  -- shared-slice-read-q
+    (λ c. search needs)  -- slice-aggregate-store
+    (λ c κs. search needs)  -- store-requires
+    (λ c. search needs)  -- loop-less
     loop-again
     returns)

@@ -24,102 +24,6 @@ Inv-loop units parent next child first new-pred₀ new-jump₀ new-sum₀ v₀ n
 abbrev μ-loop : tie.MeasureT-loop
 μ-loop units parent next child first new-pred₀ new-jump₀ new-sum₀ v₀ new-pred new-jump new-sum v = units - v
 
-fill-requires : tie.Need-fill-requires Inv-loop μ-loop
-fill-requires c κs = search needs
-
-mul-fill : tie.Need-mul-fill Inv-loop μ-loop
-mul-fill c = search needs
-
-fill-requires-2 : tie.Need-fill-requires-2 Inv-loop μ-loop
-fill-requires-2 c κs = search needs
-
-loop-holds : tie.Need-loop-holds Inv-loop μ-loop
-loop-holds c = search needs
-
-cast-at : tie.Need-cast-at Inv-loop μ-loop
-cast-at c = search needs
-
-mul-at : tie.Need-mul-at Inv-loop μ-loop
-mul-at c = search needs
-
-slice-aggregate-pred-in : tie.Need-slice-aggregate-pred-in Inv-loop μ-loop
-slice-aggregate-pred-in c = search needs
-
-slice-aggregate-pred-in-2 : tie.Need-slice-aggregate-pred-in-2 Inv-loop μ-loop
-slice-aggregate-pred-in-2 c = search needs
-
-pred-in-requires : tie.Need-pred-in-requires Inv-loop μ-loop
-pred-in-requires c κs = search needs
-
-slice-aggregate-pred-out : tie.Need-slice-aggregate-pred-out Inv-loop μ-loop
-slice-aggregate-pred-out c = search needs
-
-pred-out-requires : tie.Need-pred-out-requires Inv-loop μ-loop
-pred-out-requires c κs = search needs
-
-cast-choose : tie.Need-cast-choose Inv-loop μ-loop
-cast-choose c = search needs
-
-mul-choose : tie.Need-mul-choose Inv-loop μ-loop
-mul-choose c = search needs
-
-shared-slice-read-choose : tie.Need-shared-slice-read-choose Inv-loop μ-loop
-shared-slice-read-choose c = search needs
-
-choose-requires : tie.Need-choose-requires Inv-loop μ-loop
-choose-requires c κs = search needs
-
-mul-new-pred : tie.Need-mul-new-pred Inv-loop μ-loop
-mul-new-pred c = search needs
-
-array-write-new-pred : tie.Need-array-write-new-pred Inv-loop μ-loop
-array-write-new-pred c = search needs
-
-add-new-pred : tie.Need-add-new-pred Inv-loop μ-loop
-add-new-pred c = search needs
-
-mul-new-pred-2 : tie.Need-mul-new-pred-2 Inv-loop μ-loop
-mul-new-pred-2 c = search needs
-
-array-write-new-pred-2 : tie.Need-array-write-new-pred-2 Inv-loop μ-loop
-array-write-new-pred-2 c = search needs
-
-mul-new-jump : tie.Need-mul-new-jump Inv-loop μ-loop
-mul-new-jump c = search needs
-
-array-write-new-jump : tie.Need-array-write-new-jump Inv-loop μ-loop
-array-write-new-jump c = search needs
-
-add-new-jump : tie.Need-add-new-jump Inv-loop μ-loop
-add-new-jump c = search needs
-
-mul-new-jump-2 : tie.Need-mul-new-jump-2 Inv-loop μ-loop
-mul-new-jump-2 c = search needs
-
-array-write-new-jump-2 : tie.Need-array-write-new-jump-2 Inv-loop μ-loop
-array-write-new-jump-2 c = search needs
-
-mul-new-sum : tie.Need-mul-new-sum Inv-loop μ-loop
-mul-new-sum c = search needs
-
-array-write-new-sum : tie.Need-array-write-new-sum Inv-loop μ-loop
-array-write-new-sum c = search needs
-
-add-new-sum : tie.Need-add-new-sum Inv-loop μ-loop
-add-new-sum c = search needs
-
-mul-new-sum-2 : tie.Need-mul-new-sum-2 Inv-loop μ-loop
-mul-new-sum-2 c = search needs
-
-array-write-new-sum-2 : tie.Need-array-write-new-sum-2 Inv-loop μ-loop
-array-write-new-sum-2 c = search needs
-
-add-v : tie.Need-add-v Inv-loop μ-loop
-add-v c = search needs
-
-loop-less : tie.Need-loop-less Inv-loop μ-loop
-loop-less c = search needs
-
 loop-again : tie.Need-loop-again Inv-loop μ-loop
 loop-again c =
     let out = c .before .before in
@@ -160,37 +64,37 @@ pred-by-spec =
     (tie.spec
     Inv-loop
     μ-loop
-    fill-requires
-    mul-fill
-    fill-requires-2
-    loop-holds
-    cast-at
-    mul-at
-    slice-aggregate-pred-in
-    slice-aggregate-pred-in-2
-    pred-in-requires
-    slice-aggregate-pred-out
-    pred-out-requires
-    cast-choose
-    mul-choose
-    shared-slice-read-choose
-    choose-requires
-    mul-new-pred
-    array-write-new-pred
-    add-new-pred
-    mul-new-pred-2
-    array-write-new-pred-2
-    mul-new-jump
-    array-write-new-jump
-    add-new-jump
-    mul-new-jump-2
-    array-write-new-jump-2
-    mul-new-sum
-    array-write-new-sum
-    add-new-sum
-    mul-new-sum-2
-    array-write-new-sum-2
-    add-v
-    loop-less
+    (λ c κs. search needs)  -- fill-requires
+    (λ c. search needs)  -- mul-fill
+    (λ c κs. search needs)  -- fill-requires-2
+    (λ c. search needs)  -- loop-holds
+    (λ c. search needs)  -- cast-at
+    (λ c. search needs)  -- mul-at
+    (λ c. search needs)  -- slice-aggregate-pred-in
+    (λ c. search needs)  -- slice-aggregate-pred-in-2
+    (λ c κs. search needs)  -- pred-in-requires
+    (λ c. search needs)  -- slice-aggregate-pred-out
+    (λ c κs. search needs)  -- pred-out-requires
+    (λ c. search needs)  -- cast-choose
+    (λ c. search needs)  -- mul-choose
+    (λ c. search needs)  -- shared-slice-read-choose
+    (λ c κs. search needs)  -- choose-requires
+    (λ c. search needs)  -- mul-new-pred
+    (λ c. search needs)  -- array-write-new-pred
+    (λ c. search needs)  -- add-new-pred
+    (λ c. search needs)  -- mul-new-pred-2
+    (λ c. search needs)  -- array-write-new-pred-2
+    (λ c. search needs)  -- mul-new-jump
+    (λ c. search needs)  -- array-write-new-jump
+    (λ c. search needs)  -- add-new-jump
+    (λ c. search needs)  -- mul-new-jump-2
+    (λ c. search needs)  -- array-write-new-jump-2
+    (λ c. search needs)  -- mul-new-sum
+    (λ c. search needs)  -- array-write-new-sum
+    (λ c. search needs)  -- add-new-sum
+    (λ c. search needs)  -- mul-new-sum-2
+    (λ c. search needs)  -- array-write-new-sum-2
+    (λ c. search needs)  -- add-v
+    (λ c. search needs)  -- loop-less
     loop-again
     returns)

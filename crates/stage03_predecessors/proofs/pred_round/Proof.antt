@@ -12,12 +12,6 @@ use Rattle.stage03_predecessors.proofs.pred_round.Tie as tie
 passed : (c : tie.Else1) → (let a = c .before .before .before .before .args in fits (a .units) (a .parent .now) ≡ true)
 passed c = rw (c .before .before .names-ok .ensures) at (sym (c .before .both .ensures) ∙ not-false _ (c .if1 .left))
 
-names-ok-requires : tie.Need-names-ok-requires
-names-ok-requires c κs = search needs
-
-both-requires : tie.Need-both-requires
-both-requires c κs = search needs
-
 returns : tie.Need-returns
 returns c =
     let off = rw (c .before .before .names-ok .ensures) at (sym (c .before .both .ensures) ∙ not-true _ (c .if1 .taken)) in
@@ -36,4 +30,11 @@ returns-2 c =
     (made .0 ∙ sym (cond-true _ _ _ on), (made .1 .0 ∙ sym (cond-true _ _ _ on), made .1 .1 ∙ sym (cond-true _ _ _ on)))
 
 pub pred-round-spec : {M : Type 1} → statement M
-pred-round-spec = tie.close (tie.spec names-ok-requires both-requires returns pred-by-requires returns-2)
+pred-round-spec =
+    tie.close
+    (tie.spec
+    (λ c κs. search needs)  -- names-ok-requires
+    (λ c κs. search needs)  -- both-requires
+    returns
+    pred-by-requires
+    returns-2)

@@ -26,20 +26,8 @@ go : (c : tie.Then1 Inv-loop μ-loop)
     → (let a = c .before .before .before .before .before .args in Goes (a .units) 3 (c .before .before .loop .made) (a .budget) (every (nameOk (a .units)) (a .parent .now)) (c .before .before .loop .c))
 go c = goes _ _ _ _ _ _ (rw (c .before .before .before .names-ok .ensures) at (sym (c .before .goes-on .ensures) ∙ c .if1 .taken))
 
-names-ok-requires : tie.Need-names-ok-requires Inv-loop μ-loop
-names-ok-requires c κs = search needs
-
 loop-holds : tie.Need-loop-holds Inv-loop μ-loop
 loop-holds c = turns-begin _ _ _ _
-
-goes-on-requires : tie.Need-goes-on-requires Inv-loop μ-loop
-goes-on-requires c κs = search needs
-
-ticked-requires : tie.Need-ticked-requires Inv-loop μ-loop
-ticked-requires c κs = search needs
-
-next-round-requires : tie.Need-next-round-requires Inv-loop μ-loop
-next-round-requires c κs = search needs
 
 add-made : tie.Need-add-made Inv-loop μ-loop
 add-made c =
@@ -59,9 +47,6 @@ loop-again c =
     let fit = and-true _ _ (le-leb _ _ (g .few)) (g .fit) in
     let new = c .next-round .ensures ∙ cond-true _ _ _ fit in
     turns-on _ _ _ _ _ _ _ (t .before .before .loop .inv) (g .test) (rw (new, k .ticked .ensures, g .inside, eq-eqb (t .before .before .loop .c .made) 0 (here .if2 .taken)))
-
-pred-round-requires : tie.Need-pred-round-requires Inv-loop μ-loop
-pred-round-requires c κs = search needs
 
 add-made-2 : tie.Need-add-made-2 Inv-loop μ-loop
 add-made-2 c =
@@ -92,15 +77,15 @@ run-spec =
     (tie.spec
     Inv-loop
     μ-loop
-    names-ok-requires
+    (λ c κs. search needs)  -- names-ok-requires
     loop-holds
-    goes-on-requires
-    ticked-requires
-    next-round-requires
+    (λ c κs. search needs)  -- goes-on-requires
+    (λ c κs. search needs)  -- ticked-requires
+    (λ c κs. search needs)  -- next-round-requires
     add-made
     loop-less
     loop-again
-    pred-round-requires
+    (λ c κs. search needs)  -- pred-round-requires
     add-made-2
     loop-less-2
     loop-again-2

@@ -8,15 +8,6 @@ use borrow.Author.Needs.{needs}
 use Rattle.stage04_ranking.proofs.at_once.Statement.{statement}
 use Rattle.stage04_ranking.proofs.at_once.Tie as tie
 
-leap-requires : tie.Need-leap-requires
-leap-requires c κs = search needs
-
-rounds-requires : tie.Need-rounds-requires
-rounds-requires c κs = search needs
-
-returns : tie.Need-returns
-returns c = search needs
-
 returns-2 : tie.Need-returns-2
 returns-2 c =
     let e = c .before .before .before in
@@ -27,4 +18,10 @@ returns-2 c =
     (l .leap .ensures (not-false _ (e .if1 .left))) (s .pre)
 
 pub at-once-spec : {M : Type 1} → statement M
-at-once-spec = tie.close (tie.spec leap-requires rounds-requires returns returns-2)
+at-once-spec =
+    tie.close
+    (tie.spec
+    (λ c κs. search needs)  -- leap-requires
+    (λ c κs. search needs)  -- rounds-requires
+    (λ c. search needs)  -- returns
+    returns-2)

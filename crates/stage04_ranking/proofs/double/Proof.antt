@@ -20,69 +20,12 @@ Inv-loop objects jump₀ sum₀ old-jump old-sum limit a₀ jump sum a =
 abbrev μ-loop : tie.MeasureT-loop
 μ-loop objects jump₀ sum₀ old-jump old-sum limit a₀ jump sum a = limit - a
 
-entries-of-requires : tie.Need-entries-of-requires Inv-loop μ-loop
-entries-of-requires c κs = search needs
-
-entries-of-requires-2 : tie.Need-entries-of-requires-2 Inv-loop μ-loop
-entries-of-requires-2 c κs = search needs
-
 -- a table lent as a slice is known to be full
 full-jump : (c : tie.After-entries-of2 Inv-loop μ-loop) → length (c .before .before .before .before .before .before .before .before .args .jump .now) ≡ 512
 full-jump c = c .before .before .before .before .entries-of-arg2 .given .0
 
 full-sum : (c : tie.After-entries-of2 Inv-loop μ-loop) → length (c .before .before .before .before .before .before .before .before .args .sum .now) ≡ 512
 full-sum c = c .before .entries-of-arg4 .given .0
-
-loop-holds : tie.Need-loop-holds Inv-loop μ-loop
-loop-holds c = search needs
-
-mul-before : tie.Need-mul-before Inv-loop μ-loop
-mul-before c = search needs
-
-array-read-before : tie.Need-array-read-before Inv-loop μ-loop
-array-read-before c = search needs
-
-cast-at : tie.Need-cast-at Inv-loop μ-loop
-cast-at c = search needs
-
-mul-bounded-sum : tie.Need-mul-bounded-sum Inv-loop μ-loop
-mul-bounded-sum c = search needs
-
-array-read-bounded-sum : tie.Need-array-read-bounded-sum Inv-loop μ-loop
-array-read-bounded-sum c = search needs
-
-mul-bounded-sum-2 : tie.Need-mul-bounded-sum-2 Inv-loop μ-loop
-mul-bounded-sum-2 c = search needs
-
-array-read-bounded-sum-2 : tie.Need-array-read-bounded-sum-2 Inv-loop μ-loop
-array-read-bounded-sum-2 c = search needs
-
-bounded-sum-requires : tie.Need-bounded-sum-requires Inv-loop μ-loop
-bounded-sum-requires c κs = search needs
-
-mul-sum : tie.Need-mul-sum Inv-loop μ-loop
-mul-sum c = search needs
-
-element-write-sum : tie.Need-element-write-sum Inv-loop μ-loop
-element-write-sum c = search needs
-
-mul-jump : tie.Need-mul-jump Inv-loop μ-loop
-mul-jump c = search needs
-
-array-read-jump : tie.Need-array-read-jump Inv-loop μ-loop
-array-read-jump c = search needs
-
-mul-jump-2 : tie.Need-mul-jump-2 Inv-loop μ-loop
-mul-jump-2 c = search needs
-
-element-write-jump : tie.Need-element-write-jump Inv-loop μ-loop
-element-write-jump c = search needs
-
-add-a : tie.Need-add-a Inv-loop μ-loop
-add-a c = search needs
-
-loop-less : tie.Need-loop-less Inv-loop μ-loop
-loop-less c = search needs
 
 loop-again : tie.Need-loop-again Inv-loop μ-loop
 loop-again c =
@@ -97,33 +40,6 @@ loop-again c =
       over-more a _ sum _ _ _ (inv .2) (sum-taken jump sum a (getD jump a 0) (getD sum a 0) refl refl _ (c .bounded-sum .ensures) (λ e. omega arith)) refl,
     )
 
-mul-bounded-sum-3 : tie.Need-mul-bounded-sum-3 Inv-loop μ-loop
-mul-bounded-sum-3 c = search needs
-
-array-read-bounded-sum-3 : tie.Need-array-read-bounded-sum-3 Inv-loop μ-loop
-array-read-bounded-sum-3 c = search needs
-
-bounded-sum-requires-2 : tie.Need-bounded-sum-requires-2 Inv-loop μ-loop
-bounded-sum-requires-2 c κs = search needs
-
-mul-sum-2 : tie.Need-mul-sum-2 Inv-loop μ-loop
-mul-sum-2 c = search needs
-
-element-write-sum-2 : tie.Need-element-write-sum-2 Inv-loop μ-loop
-element-write-sum-2 c = search needs
-
-mul-jump-3 : tie.Need-mul-jump-3 Inv-loop μ-loop
-mul-jump-3 c = search needs
-
-element-write-jump-2 : tie.Need-element-write-jump-2 Inv-loop μ-loop
-element-write-jump-2 c = search needs
-
-add-a-2 : tie.Need-add-a-2 Inv-loop μ-loop
-add-a-2 c = search needs
-
-loop-less-2 : tie.Need-loop-less-2 Inv-loop μ-loop
-loop-less-2 c = search needs
-
 loop-again-2 : tie.Need-loop-again-2 Inv-loop μ-loop
 loop-again-2 c =
     let s = c .before .before .before .before in
@@ -136,12 +52,6 @@ loop-again-2 c =
       over-more a _ jump _ _ _ (inv .1) (jump-past jump sum a (getD jump a 0) (getD sum a 0) refl refl (c .before .if2 .taken) (omega (arith, full-jump (s .before)))) refl,
       over-more a _ sum _ _ _ (inv .2) (sum-past jump sum a (getD jump a 0) (getD sum a 0) refl refl (c .before .if2 .taken) (omega (arith, full-sum (s .before))) _ (c .bounded-sum2 .ensures)) refl,
     )
-
-add-a-3 : tie.Need-add-a-3 Inv-loop μ-loop
-add-a-3 c = search needs
-
-loop-less-3 : tie.Need-loop-less-3 Inv-loop μ-loop
-loop-less-3 c = search needs
 
 loop-again-3 : tie.Need-loop-again-3 Inv-loop μ-loop
 loop-again-3 c =
@@ -175,37 +85,37 @@ double-spec =
     (tie.spec
     Inv-loop
     μ-loop
-    entries-of-requires
-    entries-of-requires-2
-    loop-holds
-    mul-before
-    array-read-before
-    cast-at
-    mul-bounded-sum
-    array-read-bounded-sum
-    mul-bounded-sum-2
-    array-read-bounded-sum-2
-    bounded-sum-requires
-    mul-sum
-    element-write-sum
-    mul-jump
-    array-read-jump
-    mul-jump-2
-    element-write-jump
-    add-a
-    loop-less
+    (λ c κs. search needs)  -- entries-of-requires
+    (λ c κs. search needs)  -- entries-of-requires-2
+    (λ c. search needs)  -- loop-holds
+    (λ c. search needs)  -- mul-before
+    (λ c. search needs)  -- array-read-before
+    (λ c. search needs)  -- cast-at
+    (λ c. search needs)  -- mul-bounded-sum
+    (λ c. search needs)  -- array-read-bounded-sum
+    (λ c. search needs)  -- mul-bounded-sum-2
+    (λ c. search needs)  -- array-read-bounded-sum-2
+    (λ c κs. search needs)  -- bounded-sum-requires
+    (λ c. search needs)  -- mul-sum
+    (λ c. search needs)  -- element-write-sum
+    (λ c. search needs)  -- mul-jump
+    (λ c. search needs)  -- array-read-jump
+    (λ c. search needs)  -- mul-jump-2
+    (λ c. search needs)  -- element-write-jump
+    (λ c. search needs)  -- add-a
+    (λ c. search needs)  -- loop-less
     loop-again
-    mul-bounded-sum-3
-    array-read-bounded-sum-3
-    bounded-sum-requires-2
-    mul-sum-2
-    element-write-sum-2
-    mul-jump-3
-    element-write-jump-2
-    add-a-2
-    loop-less-2
+    (λ c. search needs)  -- mul-bounded-sum-3
+    (λ c. search needs)  -- array-read-bounded-sum-3
+    (λ c κs. search needs)  -- bounded-sum-requires-2
+    (λ c. search needs)  -- mul-sum-2
+    (λ c. search needs)  -- element-write-sum-2
+    (λ c. search needs)  -- mul-jump-3
+    (λ c. search needs)  -- element-write-jump-2
+    (λ c. search needs)  -- add-a-2
+    (λ c. search needs)  -- loop-less-2
     loop-again-2
-    add-a-3
-    loop-less-3
+    (λ c. search needs)  -- add-a-3
+    (λ c. search needs)  -- loop-less-3
     loop-again-3
     returns)

@@ -15,33 +15,12 @@ Inv-loop objects jump limit made₀ a₀ made a = (a ≤ limit) × (made ≤ a) 
 abbrev μ-loop : tie.MeasureT-loop
 μ-loop objects jump limit made₀ a₀ made a = limit - a
 
-with-entries-requires : tie.Need-with-entries-requires Inv-loop μ-loop
-with-entries-requires c κs = search needs
-
-loop-holds : tie.Need-loop-holds Inv-loop μ-loop
-loop-holds c = search needs
-
-mul-choose : tie.Need-mul-choose Inv-loop μ-loop
-mul-choose c = search needs
-
-element-copy-out-choose : tie.Need-element-copy-out-choose Inv-loop μ-loop
-element-copy-out-choose c = search needs
-
-choose-requires : tie.Need-choose-requires Inv-loop μ-loop
-choose-requires c κs = search needs
-
 -- a turn adds at most one
 one : (c : tie.After-choose Inv-loop μ-loop) → c .choose .result ≤ 1
 one c = rw (c .choose .ensures) (cond-one (asks (c .before .before .before .before .before .args .jump .now) (c .before .before .before .loop .a)))
 
 add-made : tie.Need-add-made Inv-loop μ-loop
 add-made c = omega (arith, one c)
-
-add-a : tie.Need-add-a Inv-loop μ-loop
-add-a c = search needs
-
-loop-less : tie.Need-loop-less Inv-loop μ-loop
-loop-less c = search needs
 
 loop-again : tie.Need-loop-again Inv-loop μ-loop
 loop-again c =
@@ -63,13 +42,13 @@ requests-spec =
     (tie.spec
     Inv-loop
     μ-loop
-    with-entries-requires
-    loop-holds
-    mul-choose
-    element-copy-out-choose
-    choose-requires
+    (λ c κs. search needs)  -- with-entries-requires
+    (λ c. search needs)  -- loop-holds
+    (λ c. search needs)  -- mul-choose
+    (λ c. search needs)  -- element-copy-out-choose
+    (λ c κs. search needs)  -- choose-requires
     add-made
-    add-a
-    loop-less
+    (λ c. search needs)  -- add-a
+    (λ c. search needs)  -- loop-less
     loop-again
     returns)

@@ -22,23 +22,8 @@ abbrev μ-loop : tie.MeasureT-loop
 go : (c : tie.Then1 Inv-loop μ-loop) → Goes (c .before .before .before .args .units) 4 (c .before .before .loop .made) (c .before .before .before .args .budget) true (c .before .before .loop .c)
 go c = goes _ _ _ _ _ _ (sym (c .before .goes-on .ensures) ∙ c .if1 .taken)
 
-mul-arcs : tie.Need-mul-arcs Inv-loop μ-loop
-mul-arcs c = search needs
-
 loop-holds : tie.Need-loop-holds Inv-loop μ-loop
 loop-holds c = turns-begin _ _ _ _
-
-goes-on-requires : tie.Need-goes-on-requires Inv-loop μ-loop
-goes-on-requires c κs = search needs
-
-requests-requires : tie.Need-requests-requires Inv-loop μ-loop
-requests-requires c κs = search needs
-
-ticked-requires : tie.Need-ticked-requires Inv-loop μ-loop
-ticked-requires c κs = search needs
-
-double-requires : tie.Need-double-requires Inv-loop μ-loop
-double-requires c κs = search needs
 
 add-made : tie.Need-add-made Inv-loop μ-loop
 add-made c = omega (arith, go (c .before .before .before .before .before .before) .below, c .before .before .before .before .before .before .before .before .before .fits .budget)
@@ -66,12 +51,12 @@ rounds-spec =
     (tie.spec
     Inv-loop
     μ-loop
-    mul-arcs
+    (λ c. search needs)  -- mul-arcs
     loop-holds
-    goes-on-requires
-    requests-requires
-    ticked-requires
-    double-requires
+    (λ c κs. search needs)  -- goes-on-requires
+    (λ c κs. search needs)  -- requests-requires
+    (λ c κs. search needs)  -- ticked-requires
+    (λ c κs. search needs)  -- double-requires
     add-made
     loop-less
     loop-again

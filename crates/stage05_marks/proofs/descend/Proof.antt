@@ -15,69 +15,6 @@ Inv-loop units color parent rank nd₀ bucket absent n v₀ nd v = (v ≤ units)
 abbrev μ-loop : tie.MeasureT-loop
 μ-loop units color parent rank nd₀ bucket absent n v₀ nd v = units - v
 
-equal-table-requires : tie.Need-equal-table-requires Inv-loop μ-loop
-equal-table-requires c κs = search needs
-
-count-at-requires : tie.Need-count-at-requires Inv-loop μ-loop
-count-at-requires c κs = search needs
-
-loop-holds : tie.Need-loop-holds Inv-loop μ-loop
-loop-holds c = search needs
-
-mul-into : tie.Need-mul-into Inv-loop μ-loop
-mul-into c = search needs
-
-slice-aggregate-count-by : tie.Need-slice-aggregate-count-by Inv-loop μ-loop
-slice-aggregate-count-by c = search needs
-
-mul-count-by : tie.Need-mul-count-by Inv-loop μ-loop
-mul-count-by c = search needs
-
-element-copy-out-count-by : tie.Need-element-copy-out-count-by Inv-loop μ-loop
-element-copy-out-count-by c = search needs
-
-count-by-requires : tie.Need-count-by-requires Inv-loop μ-loop
-count-by-requires c κs = search needs
-
-mul-half-span : tie.Need-mul-half-span Inv-loop μ-loop
-mul-half-span c = search needs
-
-element-copy-out-half-span : tie.Need-element-copy-out-half-span Inv-loop μ-loop
-element-copy-out-half-span c = search needs
-
-add-half-span : tie.Need-add-half-span Inv-loop μ-loop
-add-half-span c = search needs
-
-mul-half-span-2 : tie.Need-mul-half-span-2 Inv-loop μ-loop
-mul-half-span-2 c = search needs
-
-element-copy-out-half-span-2 : tie.Need-element-copy-out-half-span-2 Inv-loop μ-loop
-element-copy-out-half-span-2 c = search needs
-
-half-span-requires : tie.Need-half-span-requires Inv-loop μ-loop
-half-span-requires c κs = search needs
-
-mul-choose : tie.Need-mul-choose Inv-loop μ-loop
-mul-choose c = search needs
-
-element-copy-out-choose : tie.Need-element-copy-out-choose Inv-loop μ-loop
-element-copy-out-choose c = search needs
-
-choose-requires : tie.Need-choose-requires Inv-loop μ-loop
-choose-requires c κs = search needs
-
-mul-nd : tie.Need-mul-nd Inv-loop μ-loop
-mul-nd c = search needs
-
-element-write-nd : tie.Need-element-write-nd Inv-loop μ-loop
-element-write-nd c = search needs
-
-add-v : tie.Need-add-v Inv-loop μ-loop
-add-v c = search needs
-
-loop-less : tie.Need-loop-less Inv-loop μ-loop
-loop-less c = search needs
-
 loop-again : tie.Need-loop-again Inv-loop μ-loop
 loop-again c =
     let span = c .before .before in
@@ -100,26 +37,26 @@ descend-spec =
     (tie.spec
     Inv-loop
     μ-loop
-    equal-table-requires
-    count-at-requires
-    loop-holds
-    mul-into
-    slice-aggregate-count-by
-    mul-count-by
-    element-copy-out-count-by
-    count-by-requires
-    mul-half-span
-    element-copy-out-half-span
-    add-half-span
-    mul-half-span-2
-    element-copy-out-half-span-2
-    half-span-requires
-    mul-choose
-    element-copy-out-choose
-    choose-requires
-    mul-nd
-    element-write-nd
-    add-v
-    loop-less
+    (λ c κs. search needs)  -- equal-table-requires
+    (λ c κs. search needs)  -- count-at-requires
+    (λ c. search needs)  -- loop-holds
+    (λ c. search needs)  -- mul-into
+    (λ c. search needs)  -- slice-aggregate-count-by
+    (λ c. search needs)  -- mul-count-by
+    (λ c. search needs)  -- element-copy-out-count-by
+    (λ c κs. search needs)  -- count-by-requires
+    (λ c. search needs)  -- mul-half-span
+    (λ c. search needs)  -- element-copy-out-half-span
+    (λ c. search needs)  -- add-half-span
+    (λ c. search needs)  -- mul-half-span-2
+    (λ c. search needs)  -- element-copy-out-half-span-2
+    (λ c κs. search needs)  -- half-span-requires
+    (λ c. search needs)  -- mul-choose
+    (λ c. search needs)  -- element-copy-out-choose
+    (λ c κs. search needs)  -- choose-requires
+    (λ c. search needs)  -- mul-nd
+    (λ c. search needs)  -- element-write-nd
+    (λ c. search needs)  -- add-v
+    (λ c. search needs)  -- loop-less
     loop-again
     returns)

@@ -16,57 +16,6 @@ Inv-loop units parent rank forward₀ n v₀ forward v = (v ≤ units) × (forwa
 abbrev μ-loop : tie.MeasureT-loop
 μ-loop units parent rank forward₀ n v₀ forward v = units - v
 
-loop-holds : tie.Need-loop-holds Inv-loop μ-loop
-loop-holds c = search needs
-
-mul-into : tie.Need-mul-into Inv-loop μ-loop
-mul-into c = search needs
-
-add-out : tie.Need-add-out Inv-loop μ-loop
-add-out c = search needs
-
-mul-arc : tie.Need-mul-arc Inv-loop μ-loop
-mul-arc c = search needs
-
-element-copy-out-arc : tie.Need-element-copy-out-arc Inv-loop μ-loop
-element-copy-out-arc c = search needs
-
-mul-down : tie.Need-mul-down Inv-loop μ-loop
-mul-down c = search needs
-
-element-copy-out-down : tie.Need-element-copy-out-down Inv-loop μ-loop
-element-copy-out-down c = search needs
-
-mul-up : tie.Need-mul-up Inv-loop μ-loop
-mul-up c = search needs
-
-element-copy-out-up : tie.Need-element-copy-out-up Inv-loop μ-loop
-element-copy-out-up c = search needs
-
-forward-mark-requires : tie.Need-forward-mark-requires Inv-loop μ-loop
-forward-mark-requires c κs = search needs
-
-mul-forward : tie.Need-mul-forward Inv-loop μ-loop
-mul-forward c = search needs
-
-element-write-forward : tie.Need-element-write-forward Inv-loop μ-loop
-element-write-forward c = search needs
-
-forward-mark-requires-2 : tie.Need-forward-mark-requires-2 Inv-loop μ-loop
-forward-mark-requires-2 c κs = search needs
-
-mul-forward-2 : tie.Need-mul-forward-2 Inv-loop μ-loop
-mul-forward-2 c = search needs
-
-element-write-forward-2 : tie.Need-element-write-forward-2 Inv-loop μ-loop
-element-write-forward-2 c = search needs
-
-add-v : tie.Need-add-v Inv-loop μ-loop
-add-v c = search needs
-
-loop-less : tie.Need-loop-less Inv-loop μ-loop
-loop-less c = search needs
-
 loop-again : tie.Need-loop-again Inv-loop μ-loop
 loop-again c =
     let first = c .before in
@@ -88,22 +37,22 @@ mark-spec =
     (tie.spec
     Inv-loop
     μ-loop
-    loop-holds
-    mul-into
-    add-out
-    mul-arc
-    element-copy-out-arc
-    mul-down
-    element-copy-out-down
-    mul-up
-    element-copy-out-up
-    forward-mark-requires
-    mul-forward
-    element-write-forward
-    forward-mark-requires-2
-    mul-forward-2
-    element-write-forward-2
-    add-v
-    loop-less
+    (λ c. search needs)  -- loop-holds
+    (λ c. search needs)  -- mul-into
+    (λ c. search needs)  -- add-out
+    (λ c. search needs)  -- mul-arc
+    (λ c. search needs)  -- element-copy-out-arc
+    (λ c. search needs)  -- mul-down
+    (λ c. search needs)  -- element-copy-out-down
+    (λ c. search needs)  -- mul-up
+    (λ c. search needs)  -- element-copy-out-up
+    (λ c κs. search needs)  -- forward-mark-requires
+    (λ c. search needs)  -- mul-forward
+    (λ c. search needs)  -- element-write-forward
+    (λ c κs. search needs)  -- forward-mark-requires-2
+    (λ c. search needs)  -- mul-forward-2
+    (λ c. search needs)  -- element-write-forward-2
+    (λ c. search needs)  -- add-v
+    (λ c. search needs)  -- loop-less
     loop-again
     returns)

@@ -26,12 +26,6 @@ go c = goes _ _ _ _ _ _ (sym (c .before .goes-on .ensures) ∙ c .if1 .taken)
 loop-holds : tie.Need-loop-holds Inv-loop μ-loop
 loop-holds c = turns-begin _ _ _ _
 
-goes-on-requires : tie.Need-goes-on-requires Inv-loop μ-loop
-goes-on-requires c κs = search needs
-
-ticked-requires : tie.Need-ticked-requires Inv-loop μ-loop
-ticked-requires c κs = search needs
-
 mark-requires : tie.Need-mark-requires Inv-loop μ-loop
 mark-requires c κs = go (c .before .before .before .before .before .before) .few
 
@@ -88,8 +82,8 @@ run-spec =
     Inv-loop
     μ-loop
     loop-holds
-    goes-on-requires
-    ticked-requires
+    (λ c κs. search needs)  -- goes-on-requires
+    (λ c κs. search needs)  -- ticked-requires
     mark-requires
     add-made
     loop-less

@@ -9,15 +9,6 @@ use borrow.Author.Needs.{needs}
 use Rattle.stage06_places.proofs.at_once.Statement.{statement}
 use Rattle.stage06_places.proofs.at_once.Tie as tie
 
-leap-requires : tie.Need-leap-requires
-leap-requires c κs = search needs
-
-rounds-requires : tie.Need-rounds-requires
-rounds-requires c κs = search needs
-
-returns : tie.Need-returns
-returns c = search needs
-
 number-requires : tie.Need-number-requires
 number-requires c κs =
     let s = c .before .before .before .before .before .before .before .before in
@@ -34,4 +25,11 @@ returns-2 c =
     (a .budget) (a .pre) (a .jump) (a .sum) (a .clock) _ _ _ _ (l .leap .ensures (not-false _ (e .if1 .left))) (s .pre))
 
 pub at-once-spec : {M : Type 1} → statement M
-at-once-spec = tie.close (tie.spec leap-requires rounds-requires returns number-requires returns-2)
+at-once-spec =
+    tie.close
+    (tie.spec
+    (λ c κs. search needs)  -- leap-requires
+    (λ c κs. search needs)  -- rounds-requires
+    (λ c. search needs)  -- returns
+    number-requires
+    returns-2)

@@ -15,60 +15,6 @@ Inv-loop units color parent sum pre₀ bucket absent n v₀ pre v = (v ≤ units
 abbrev μ-loop : tie.MeasureT-loop
 μ-loop units color parent sum pre₀ bucket absent n v₀ pre v = units - v
 
-below-table-requires : tie.Need-below-table-requires Inv-loop μ-loop
-below-table-requires c κs = search needs
-
-count-at-requires : tie.Need-count-at-requires Inv-loop μ-loop
-count-at-requires c κs = search needs
-
-loop-holds : tie.Need-loop-holds Inv-loop μ-loop
-loop-holds c = search needs
-
-slice-aggregate-count-by : tie.Need-slice-aggregate-count-by Inv-loop μ-loop
-slice-aggregate-count-by c = search needs
-
-mul-count-by : tie.Need-mul-count-by Inv-loop μ-loop
-mul-count-by c = search needs
-
-element-copy-out-count-by : tie.Need-element-copy-out-count-by Inv-loop μ-loop
-element-copy-out-count-by c = search needs
-
-count-by-requires : tie.Need-count-by-requires Inv-loop μ-loop
-count-by-requires c κs = search needs
-
-mul-choose : tie.Need-mul-choose Inv-loop μ-loop
-mul-choose c = search needs
-
-element-copy-out-choose : tie.Need-element-copy-out-choose Inv-loop μ-loop
-element-copy-out-choose c = search needs
-
-mul-choose-2 : tie.Need-mul-choose-2 Inv-loop μ-loop
-mul-choose-2 c = search needs
-
-mul-choose-3 : tie.Need-mul-choose-3 Inv-loop μ-loop
-mul-choose-3 c = search needs
-
-element-copy-out-choose-2 : tie.Need-element-copy-out-choose-2 Inv-loop μ-loop
-element-copy-out-choose-2 c = search needs
-
-choose-requires : tie.Need-choose-requires Inv-loop μ-loop
-choose-requires c κs = search needs
-
-bounded-sum-requires : tie.Need-bounded-sum-requires Inv-loop μ-loop
-bounded-sum-requires c κs = search needs
-
-mul-pre : tie.Need-mul-pre Inv-loop μ-loop
-mul-pre c = search needs
-
-element-write-pre : tie.Need-element-write-pre Inv-loop μ-loop
-element-write-pre c = search needs
-
-add-v : tie.Need-add-v Inv-loop μ-loop
-add-v c = search needs
-
-loop-less : tie.Need-loop-less Inv-loop μ-loop
-loop-less c = search needs
-
 loop-again : tie.Need-loop-again Inv-loop μ-loop
 loop-again c =
     let own = c .before in
@@ -91,23 +37,23 @@ number-spec =
     (tie.spec
     Inv-loop
     μ-loop
-    below-table-requires
-    count-at-requires
-    loop-holds
-    slice-aggregate-count-by
-    mul-count-by
-    element-copy-out-count-by
-    count-by-requires
-    mul-choose
-    element-copy-out-choose
-    mul-choose-2
-    mul-choose-3
-    element-copy-out-choose-2
-    choose-requires
-    bounded-sum-requires
-    mul-pre
-    element-write-pre
-    add-v
-    loop-less
+    (λ c κs. search needs)  -- below-table-requires
+    (λ c κs. search needs)  -- count-at-requires
+    (λ c. search needs)  -- loop-holds
+    (λ c. search needs)  -- slice-aggregate-count-by
+    (λ c. search needs)  -- mul-count-by
+    (λ c. search needs)  -- element-copy-out-count-by
+    (λ c κs. search needs)  -- count-by-requires
+    (λ c. search needs)  -- mul-choose
+    (λ c. search needs)  -- element-copy-out-choose
+    (λ c. search needs)  -- mul-choose-2
+    (λ c. search needs)  -- mul-choose-3
+    (λ c. search needs)  -- element-copy-out-choose-2
+    (λ c κs. search needs)  -- choose-requires
+    (λ c κs. search needs)  -- bounded-sum-requires
+    (λ c. search needs)  -- mul-pre
+    (λ c. search needs)  -- element-write-pre
+    (λ c. search needs)  -- add-v
+    (λ c. search needs)  -- loop-less
     loop-again
     returns)

@@ -23,29 +23,11 @@ abbrev μ-loop : tie.MeasureT-loop
 go : (c : tie.Then1 Inv-loop μ-loop) → Goes (c .before .before .before .args .units) 6 (c .before .before .loop .made) (c .before .before .before .args .budget) true (c .before .before .loop .c)
 go c = goes _ _ _ _ _ _ (sym (c .before .goes-on .ensures) ∙ c .if1 .taken)
 
-mul-arcs : tie.Need-mul-arcs Inv-loop μ-loop
-mul-arcs c = search needs
-
 loop-holds : tie.Need-loop-holds Inv-loop μ-loop
 loop-holds c = turns-begin _ _ _ _
 
-goes-on-requires : tie.Need-goes-on-requires Inv-loop μ-loop
-goes-on-requires c κs = search needs
-
-requests-requires : tie.Need-requests-requires Inv-loop μ-loop
-requests-requires c κs = search needs
-
-is-last-requires : tie.Need-is-last-requires Inv-loop μ-loop
-is-last-requires c κs = search needs
-
-ticked-requires : tie.Need-ticked-requires Inv-loop μ-loop
-ticked-requires c κs = search needs
-
 number-if-requires : tie.Need-number-if-requires Inv-loop μ-loop
 number-if-requires c κs = go (c .before .before .before .before .before .before) .few
-
-double-requires : tie.Need-double-requires Inv-loop μ-loop
-double-requires c κs = search needs
 
 add-made : tie.Need-add-made Inv-loop μ-loop
 add-made c =
@@ -78,14 +60,14 @@ rounds-spec =
     (tie.spec
     Inv-loop
     μ-loop
-    mul-arcs
+    (λ c. search needs)  -- mul-arcs
     loop-holds
-    goes-on-requires
-    requests-requires
-    is-last-requires
-    ticked-requires
+    (λ c κs. search needs)  -- goes-on-requires
+    (λ c κs. search needs)  -- requests-requires
+    (λ c κs. search needs)  -- is-last-requires
+    (λ c κs. search needs)  -- ticked-requires
     number-if-requires
-    double-requires
+    (λ c κs. search needs)  -- double-requires
     add-made
     loop-less
     loop-again

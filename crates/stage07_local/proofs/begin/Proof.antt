@@ -23,19 +23,10 @@ few c = leb-true _ _ (and-left _ _ (passed c))
 within : (c : tie.Else1) → (let a = c .before .before .before .before .args in EndsWithin (a .n) (a .links) (a .ends .now))
 within c = fit-within _ _ _ (c .before .before .before .links-fit-arg .given .0) (and-right (leb (c .before .before .before .before .args .n) 256) _ (passed c))
 
-links-fit-requires : tie.Need-links-fit-requires
-links-fit-requires c κs = search needs
-
-both-requires : tie.Need-both-requires
-both-requires c κs = search needs
-
 returns : tie.Need-returns
 returns c =
     let off = rw (c .before .before .links-fit .ensures) at (sym (c .before .both .ensures) ∙ not-true _ (c .if1 .taken)) in
     (sym (cond-false _ _ _ off), (sym (cond-false _ _ _ off), (sym (cond-false _ _ _ off), (sym (cond-false _ _ _ off), (sym (cond-false _ _ _ off), sym (cond-false _ _ _ off))))))
-
-firsts-requires : tie.Need-firsts-requires
-firsts-requires c κs = search needs
 
 locals-requires : tie.Need-locals-requires
 locals-requires c κs = (few (c .before .before .before), within (c .before .before .before))
@@ -85,10 +76,10 @@ pub begin-spec : {M : Type 1} → statement M
 begin-spec =
     tie.close
     (tie.spec
-    links-fit-requires
-    both-requires
+    (λ c κs. search needs)  -- links-fit-requires
+    (λ c κs. search needs)  -- both-requires
     returns
-    firsts-requires
+    (λ c κs. search needs)  -- firsts-requires
     locals-requires
     segments-begin-requires
     units-begin-requires

@@ -16,45 +16,6 @@ Inv-loop n nd pre little₀ big₀ count v₀ little big v = (v ≤ n) × (littl
 abbrev μ-loop : tie.MeasureT-loop
 μ-loop n nd pre little₀ big₀ count v₀ little big v = n - v
 
-loop-holds : tie.Need-loop-holds Inv-loop μ-loop
-loop-holds c = search needs
-
-mul-own : tie.Need-mul-own Inv-loop μ-loop
-mul-own c = search needs
-
-element-copy-out-own : tie.Need-element-copy-out-own Inv-loop μ-loop
-element-copy-out-own c = search needs
-
-mul-little : tie.Need-mul-little Inv-loop μ-loop
-mul-little c = search needs
-
-element-write-little : tie.Need-element-write-little Inv-loop μ-loop
-element-write-little c = search needs
-
-mul-end-place : tie.Need-mul-end-place Inv-loop μ-loop
-mul-end-place c = search needs
-
-element-copy-out-end-place : tie.Need-element-copy-out-end-place Inv-loop μ-loop
-element-copy-out-end-place c = search needs
-
-end-place-requires : tie.Need-end-place-requires Inv-loop μ-loop
-end-place-requires c κs = search needs
-
-last-place-requires : tie.Need-last-place-requires Inv-loop μ-loop
-last-place-requires c κs = search needs
-
-mul-big : tie.Need-mul-big Inv-loop μ-loop
-mul-big c = search needs
-
-element-write-big : tie.Need-element-write-big Inv-loop μ-loop
-element-write-big c = search needs
-
-add-v : tie.Need-add-v Inv-loop μ-loop
-add-v c = search needs
-
-loop-less : tie.Need-loop-less Inv-loop μ-loop
-loop-less c = search needs
-
 loop-again : tie.Need-loop-again Inv-loop μ-loop
 loop-again c =
     let s = c .before .before .before .before .before in (
@@ -76,18 +37,18 @@ ends-begin-spec =
     (tie.spec
     Inv-loop
     μ-loop
-    loop-holds
-    mul-own
-    element-copy-out-own
-    mul-little
-    element-write-little
-    mul-end-place
-    element-copy-out-end-place
-    end-place-requires
-    last-place-requires
-    mul-big
-    element-write-big
-    add-v
-    loop-less
+    (λ c. search needs)  -- loop-holds
+    (λ c. search needs)  -- mul-own
+    (λ c. search needs)  -- element-copy-out-own
+    (λ c. search needs)  -- mul-little
+    (λ c. search needs)  -- element-write-little
+    (λ c. search needs)  -- mul-end-place
+    (λ c. search needs)  -- element-copy-out-end-place
+    (λ c κs. search needs)  -- end-place-requires
+    (λ c κs. search needs)  -- last-place-requires
+    (λ c. search needs)  -- mul-big
+    (λ c. search needs)  -- element-write-big
+    (λ c. search needs)  -- add-v
+    (λ c. search needs)  -- loop-less
     loop-again
     returns)

@@ -7,33 +7,12 @@ use Rattle.spec_rules.specs.Basics.{offTree}
 use Rattle.stage07_local.proofs.hear_off.Statement.{statement}
 use Rattle.stage07_local.proofs.hear_off.Tie as tie
 
-mul-both : tie.Need-mul-both
-mul-both c = search needs
-
-element-copy-out-both : tie.Need-element-copy-out-both
-element-copy-out-both c = search needs
-
-mul-both-2 : tie.Need-mul-both-2
-mul-both-2 c = search needs
-
-element-copy-out-both-2 : tie.Need-element-copy-out-both-2
-element-copy-out-both-2 c = search needs
-
-both-requires : tie.Need-both-requires
-both-requires c κs = search needs
-
 returns : tie.Need-returns
 returns c =
     let s = c .before .before .before .before in
     let a = s .args in
     let on : offTree (a .parent .now) (a .a) (a .b) ≡ false = sym (c .before .both .ensures) ∙ not-true _ (c .if1 .taken) in
     rw on (refl, refl)
-
-hear-requires : tie.Need-hear-requires
-hear-requires c κs = search needs
-
-hear-requires-2 : tie.Need-hear-requires-2
-hear-requires-2 c κs = search needs
 
 returns-2 : tie.Need-returns-2
 returns-2 c =
@@ -46,12 +25,12 @@ pub hear-off-spec : {M : Type 1} → statement M
 hear-off-spec =
     tie.close
     (tie.spec
-    mul-both
-    element-copy-out-both
-    mul-both-2
-    element-copy-out-both-2
-    both-requires
+    (λ c. search needs)  -- mul-both
+    (λ c. search needs)  -- element-copy-out-both
+    (λ c. search needs)  -- mul-both-2
+    (λ c. search needs)  -- element-copy-out-both-2
+    (λ c κs. search needs)  -- both-requires
     returns
-    hear-requires
-    hear-requires-2
+    (λ c κs. search needs)  -- hear-requires
+    (λ c κs. search needs)  -- hear-requires-2
     returns-2)

@@ -20,27 +20,6 @@ loop-holds c =
     let a = c .before .before .before .args in
     (search needs, local-none false (a .ends .now) (a .parent .now) (a .pre .now), local-none true (a .ends .now) (a .parent .now) (a .pre .now))
 
-cast-at : tie.Need-cast-at Inv-loop μ-loop
-cast-at c = search needs
-
-mul-at : tie.Need-mul-at Inv-loop μ-loop
-mul-at c = search needs
-
-mul-a : tie.Need-mul-a Inv-loop μ-loop
-mul-a c = search needs
-
-shared-slice-read-a : tie.Need-shared-slice-read-a Inv-loop μ-loop
-shared-slice-read-a c = search needs
-
-add-b : tie.Need-add-b Inv-loop μ-loop
-add-b c = search needs
-
-mul-b : tie.Need-mul-b Inv-loop μ-loop
-mul-b c = search needs
-
-shared-slice-read-b : tie.Need-shared-slice-read-b Inv-loop μ-loop
-shared-slice-read-b c = search needs
-
 hear-off-requires : tie.Need-hear-off-requires Inv-loop μ-loop
 hear-off-requires c κs =
     let t = c .before .before .before .before in
@@ -49,12 +28,6 @@ hear-off-requires c κs =
     let one = start .pre .1 .1 (2 * s .loop .j) (omega (arith, t .loop-test .taken)) in
     let two = start .pre .1 .1 (2 * s .loop .j + 1) (omega (arith, t .loop-test .taken)) in
     (omega (arith, one, start .pre .0), omega (arith, two, start .pre .0))
-
-add-j : tie.Need-add-j Inv-loop μ-loop
-add-j c = search needs
-
-loop-less : tie.Need-loop-less Inv-loop μ-loop
-loop-less c = search needs
 
 loop-again : tie.Need-loop-again Inv-loop μ-loop
 loop-again c =
@@ -78,15 +51,15 @@ locals-spec =
     Inv-loop
     μ-loop
     loop-holds
-    cast-at
-    mul-at
-    mul-a
-    shared-slice-read-a
-    add-b
-    mul-b
-    shared-slice-read-b
+    (λ c. search needs)  -- cast-at
+    (λ c. search needs)  -- mul-at
+    (λ c. search needs)  -- mul-a
+    (λ c. search needs)  -- shared-slice-read-a
+    (λ c. search needs)  -- add-b
+    (λ c. search needs)  -- mul-b
+    (λ c. search needs)  -- shared-slice-read-b
     hear-off-requires
-    add-j
-    loop-less
+    (λ c. search needs)  -- add-j
+    (λ c. search needs)  -- loop-less
     loop-again
     returns)

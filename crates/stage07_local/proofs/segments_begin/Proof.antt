@@ -16,39 +16,6 @@ Inv-loop n first lows highs least₀ greatest₀ count q₀ least greatest q = (
 abbrev μ-loop : tie.MeasureT-loop
 μ-loop n first lows highs least₀ greatest₀ count q₀ least greatest q = n - q
 
-loop-holds : tie.Need-loop-holds Inv-loop μ-loop
-loop-holds c = search needs
-
-mul-u : tie.Need-mul-u Inv-loop μ-loop
-mul-u c = search needs
-
-element-copy-out-u : tie.Need-element-copy-out-u Inv-loop μ-loop
-element-copy-out-u c = search needs
-
-at-requires : tie.Need-at-requires Inv-loop μ-loop
-at-requires c κs = search needs
-
-mul-least : tie.Need-mul-least Inv-loop μ-loop
-mul-least c = search needs
-
-element-write-least : tie.Need-element-write-least Inv-loop μ-loop
-element-write-least c = search needs
-
-at-requires-2 : tie.Need-at-requires-2 Inv-loop μ-loop
-at-requires-2 c κs = search needs
-
-mul-greatest : tie.Need-mul-greatest Inv-loop μ-loop
-mul-greatest c = search needs
-
-element-write-greatest : tie.Need-element-write-greatest Inv-loop μ-loop
-element-write-greatest c = search needs
-
-add-q : tie.Need-add-q Inv-loop μ-loop
-add-q c = search needs
-
-loop-less : tie.Need-loop-less Inv-loop μ-loop
-loop-less c = search needs
-
 loop-again : tie.Need-loop-again Inv-loop μ-loop
 loop-again c =
     let t = c .before .before in
@@ -72,16 +39,16 @@ segments-begin-spec =
     (tie.spec
     Inv-loop
     μ-loop
-    loop-holds
-    mul-u
-    element-copy-out-u
-    at-requires
-    mul-least
-    element-write-least
-    at-requires-2
-    mul-greatest
-    element-write-greatest
-    add-q
-    loop-less
+    (λ c. search needs)  -- loop-holds
+    (λ c. search needs)  -- mul-u
+    (λ c. search needs)  -- element-copy-out-u
+    (λ c κs. search needs)  -- at-requires
+    (λ c. search needs)  -- mul-least
+    (λ c. search needs)  -- element-write-least
+    (λ c κs. search needs)  -- at-requires-2
+    (λ c. search needs)  -- mul-greatest
+    (λ c. search needs)  -- element-write-greatest
+    (λ c. search needs)  -- add-q
+    (λ c. search needs)  -- loop-less
     loop-again
     returns)

@@ -15,18 +15,6 @@ returns-2 c =
     let some : 1 ≤ a .end = omega (arith, c .before .if1 .left) in
     rw (le-leb 1 (a .end) some, lt-leb (a .end) (a .n) (c .if2 .taken))
 
-sub-at : tie.Need-sub-at
-sub-at c = search needs
-
-cast-at : tie.Need-cast-at
-cast-at c = search needs
-
-mul-result : tie.Need-mul-result
-mul-result c = search needs
-
-element-copy-out-result : tie.Need-element-copy-out-result
-element-copy-out-result c = search needs
-
 returns-3 : tie.Need-returns-3
 returns-3 c =
     let a = c .before .before .before .args in
@@ -36,4 +24,11 @@ returns-3 c =
 pub unit-before-spec : {M : Type 1} → statement M
 unit-before-spec =
     tie.close
-    (tie.spec returns returns-2 sub-at cast-at mul-result element-copy-out-result returns-3)
+    (tie.spec
+    returns
+    returns-2
+    (λ c. search needs)  -- sub-at
+    (λ c. search needs)  -- cast-at
+    (λ c. search needs)  -- mul-result
+    (λ c. search needs)  -- element-copy-out-result
+    returns-3)

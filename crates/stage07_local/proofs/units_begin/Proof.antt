@@ -18,51 +18,6 @@ Inv-loop n first lows highs nd pre low₀ high₀ count v₀ low high v = (v ≤
 abbrev μ-loop : tie.MeasureT-loop
 μ-loop n first lows highs nd pre low₀ high₀ count v₀ low high v = n - v
 
-loop-holds : tie.Need-loop-holds Inv-loop μ-loop
-loop-holds c = search needs
-
-mul-end-place : tie.Need-mul-end-place Inv-loop μ-loop
-mul-end-place c = search needs
-
-element-copy-out-end-place : tie.Need-element-copy-out-end-place Inv-loop μ-loop
-element-copy-out-end-place c = search needs
-
-mul-end-place-2 : tie.Need-mul-end-place-2 Inv-loop μ-loop
-mul-end-place-2 c = search needs
-
-element-copy-out-end-place-2 : tie.Need-element-copy-out-end-place-2 Inv-loop μ-loop
-element-copy-out-end-place-2 c = search needs
-
-end-place-requires : tie.Need-end-place-requires Inv-loop μ-loop
-end-place-requires c κs = search needs
-
-unit-before-requires : tie.Need-unit-before-requires Inv-loop μ-loop
-unit-before-requires c κs = search needs
-
-at-requires : tie.Need-at-requires Inv-loop μ-loop
-at-requires c κs = search needs
-
-mul-low : tie.Need-mul-low Inv-loop μ-loop
-mul-low c = search needs
-
-element-write-low : tie.Need-element-write-low Inv-loop μ-loop
-element-write-low c = search needs
-
-at-requires-2 : tie.Need-at-requires-2 Inv-loop μ-loop
-at-requires-2 c κs = search needs
-
-mul-high : tie.Need-mul-high Inv-loop μ-loop
-mul-high c = search needs
-
-element-write-high : tie.Need-element-write-high Inv-loop μ-loop
-element-write-high c = search needs
-
-add-v : tie.Need-add-v Inv-loop μ-loop
-add-v c = search needs
-
-loop-less : tie.Need-loop-less Inv-loop μ-loop
-loop-less c = search needs
-
 loop-again : tie.Need-loop-again Inv-loop μ-loop
 loop-again c =
     let t = c .before .before in
@@ -93,20 +48,20 @@ units-begin-spec =
     (tie.spec
     Inv-loop
     μ-loop
-    loop-holds
-    mul-end-place
-    element-copy-out-end-place
-    mul-end-place-2
-    element-copy-out-end-place-2
-    end-place-requires
-    unit-before-requires
-    at-requires
-    mul-low
-    element-write-low
-    at-requires-2
-    mul-high
-    element-write-high
-    add-v
-    loop-less
+    (λ c. search needs)  -- loop-holds
+    (λ c. search needs)  -- mul-end-place
+    (λ c. search needs)  -- element-copy-out-end-place
+    (λ c. search needs)  -- mul-end-place-2
+    (λ c. search needs)  -- element-copy-out-end-place-2
+    (λ c κs. search needs)  -- end-place-requires
+    (λ c κs. search needs)  -- unit-before-requires
+    (λ c κs. search needs)  -- at-requires
+    (λ c. search needs)  -- mul-low
+    (λ c. search needs)  -- element-write-low
+    (λ c κs. search needs)  -- at-requires-2
+    (λ c. search needs)  -- mul-high
+    (λ c. search needs)  -- element-write-high
+    (λ c. search needs)  -- add-v
+    (λ c. search needs)  -- loop-less
     loop-again
     returns)

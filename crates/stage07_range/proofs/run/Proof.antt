@@ -31,23 +31,8 @@ go : (c : tie.Then1 Inv-loop μ-loop)
     → (let a = called c .args in Goes (a .units) 7 (c .before .before .loop .made) (a .budget) (linksFit (a .units) (a .links) (a .ends .now)) (c .before .before .loop .c))
 go c = goes _ _ _ _ _ _ (rw (c .before .before .before .before .links-fit .ensures) at (sym (c .before .goes-on .ensures) ∙ c .if1 .taken))
 
-links-fit-requires : tie.Need-links-fit-requires Inv-loop μ-loop
-links-fit-requires c κs = search needs
-
-lg-requires : tie.Need-lg-requires Inv-loop μ-loop
-lg-requires c κs = search needs
-
 loop-holds : tie.Need-loop-holds Inv-loop μ-loop
 loop-holds c = turns-begin _ _ _ _
-
-goes-on-requires : tie.Need-goes-on-requires Inv-loop μ-loop
-goes-on-requires c κs = search needs
-
-ticked-requires : tie.Need-ticked-requires Inv-loop μ-loop
-ticked-requires c κs = search needs
-
-begin-requires : tie.Need-begin-requires Inv-loop μ-loop
-begin-requires c κs = search needs
 
 add-made : tie.Need-add-made Inv-loop μ-loop
 add-made c = let i = c .before .before .before .before .before .before .before .before .before .before .before in omega (arith, go i .below, called i .fits .budget)
@@ -69,12 +54,6 @@ loop-again c =
     turns-on _ _ _ _ _ _ _ (l .loop .inv) (g .test)
     (begun _ _ _ _ _ _ _ _ _ _ _ _ _ _ (e .if2 .taken) (made .0 ∙ cond-true _ _ _ fit) (made .1 .0 ∙ cond-true _ _ _ fit) (made .1 .1 .0 ∙ cond-true _ _ _ fit)
     (made .1 .1 .1 .0 ∙ cond-true _ _ _ fit) (made .1 .1 .1 .1 .0 ∙ cond-true _ _ _ fit) (made .1 .1 .1 .1 .1 ∙ cond-true _ _ _ fit) clock)
-
-sub-i : tie.Need-sub-i Inv-loop μ-loop
-sub-i c = search needs
-
-double-requires : tie.Need-double-requires Inv-loop μ-loop
-double-requires c κs = search needs
 
 add-made-2 : tie.Need-add-made-2 Inv-loop μ-loop
 add-made-2 c = let i = c .before .before .before .before .before .before .before .before .before .before .before .before in omega (arith, go i .below, called i .fits .budget)
@@ -106,17 +85,17 @@ run-spec =
     (tie.spec
     Inv-loop
     μ-loop
-    links-fit-requires
-    lg-requires
+    (λ c κs. search needs)  -- links-fit-requires
+    (λ c κs. search needs)  -- lg-requires
     loop-holds
-    goes-on-requires
-    ticked-requires
-    begin-requires
+    (λ c κs. search needs)  -- goes-on-requires
+    (λ c κs. search needs)  -- ticked-requires
+    (λ c κs. search needs)  -- begin-requires
     add-made
     loop-less
     loop-again
-    sub-i
-    double-requires
+    (λ c. search needs)  -- sub-i
+    (λ c κs. search needs)  -- double-requires
     add-made-2
     loop-less-2
     loop-again-2

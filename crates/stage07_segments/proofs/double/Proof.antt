@@ -11,12 +11,6 @@ returns c =
     let many = lt-leb (c .before .args .n) 256 (c .if1 .taken) in
     (sym (cond-false _ _ _ many), (sym (cond-false _ _ _ many), (sym (cond-false _ _ _ many), (sym (cond-false _ _ _ many), (sym (cond-false _ _ _ many), sym (cond-false _ _ _ many))))))
 
-units-move-requires : tie.Need-units-move-requires
-units-move-requires c κs = search needs
-
-segments-move-requires : tie.Need-segments-move-requires
-segments-move-requires c κs = search needs
-
 returns-2 : tie.Need-returns-2
 returns-2 c =
     let moved = c .before .before .before .units-move .ensures in
@@ -40,4 +34,10 @@ returns-2 c =
     )
 
 pub double-spec : {M : Type 1} → statement M
-double-spec = tie.close (tie.spec returns units-move-requires segments-move-requires returns-2)
+double-spec =
+    tie.close
+    (tie.spec
+    returns
+    (λ c κs. search needs)  -- units-move-requires
+    (λ c κs. search needs)  -- segments-move-requires
+    returns-2)

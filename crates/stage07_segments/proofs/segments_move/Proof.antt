@@ -21,71 +21,8 @@ Inv-loop i n low₀ high₀ span step period last q₀ low high q =
 abbrev μ-loop : tie.MeasureT-loop
 μ-loop i n low₀ high₀ span step period last q₀ low high q = last - q
 
-span-of-requires : tie.Need-span-of-requires Inv-loop μ-loop
-span-of-requires c κs = search needs
-
-cast-step : tie.Need-cast-step Inv-loop μ-loop
-cast-step c = search needs
-
-mul-period : tie.Need-mul-period Inv-loop μ-loop
-mul-period c = search needs
-
-less-step-requires : tie.Need-less-step-requires Inv-loop μ-loop
-less-step-requires c κs = search needs
-
-cast-last : tie.Need-cast-last Inv-loop μ-loop
-cast-last c = search needs
-
 loop-holds : tie.Need-loop-holds Inv-loop μ-loop
 loop-holds c = ((0, sym (zero-mul _)), refl, refl)
-
-add-next : tie.Need-add-next Inv-loop μ-loop
-add-next c = search needs
-
-mul-least-of : tie.Need-mul-least-of Inv-loop μ-loop
-mul-least-of c = search needs
-
-element-copy-out-least-of : tie.Need-element-copy-out-least-of Inv-loop μ-loop
-element-copy-out-least-of c = search needs
-
-mul-least-of-2 : tie.Need-mul-least-of-2 Inv-loop μ-loop
-mul-least-of-2 c = search needs
-
-element-copy-out-least-of-2 : tie.Need-element-copy-out-least-of-2 Inv-loop μ-loop
-element-copy-out-least-of-2 c = search needs
-
-least-of-requires : tie.Need-least-of-requires Inv-loop μ-loop
-least-of-requires c κs = search needs
-
-mul-low : tie.Need-mul-low Inv-loop μ-loop
-mul-low c = search needs
-
-element-write-low : tie.Need-element-write-low Inv-loop μ-loop
-element-write-low c = search needs
-
-mul-greatest-of : tie.Need-mul-greatest-of Inv-loop μ-loop
-mul-greatest-of c = search needs
-
-element-copy-out-greatest-of : tie.Need-element-copy-out-greatest-of Inv-loop μ-loop
-element-copy-out-greatest-of c = search needs
-
-mul-greatest-of-2 : tie.Need-mul-greatest-of-2 Inv-loop μ-loop
-mul-greatest-of-2 c = search needs
-
-element-copy-out-greatest-of-2 : tie.Need-element-copy-out-greatest-of-2 Inv-loop μ-loop
-element-copy-out-greatest-of-2 c = search needs
-
-greatest-of-requires : tie.Need-greatest-of-requires Inv-loop μ-loop
-greatest-of-requires c κs = search needs
-
-mul-high : tie.Need-mul-high Inv-loop μ-loop
-mul-high c = search needs
-
-element-write-high : tie.Need-element-write-high Inv-loop μ-loop
-element-write-high c = search needs
-
-add-q : tie.Need-add-q Inv-loop μ-loop
-add-q c = search needs
 
 loop-less : tie.Need-loop-less Inv-loop μ-loop
 loop-less c =
@@ -130,28 +67,28 @@ segments-move-spec =
     (tie.spec
     Inv-loop
     μ-loop
-    span-of-requires
-    cast-step
-    mul-period
-    less-step-requires
-    cast-last
+    (λ c κs. search needs)  -- span-of-requires
+    (λ c. search needs)  -- cast-step
+    (λ c. search needs)  -- mul-period
+    (λ c κs. search needs)  -- less-step-requires
+    (λ c. search needs)  -- cast-last
     loop-holds
-    add-next
-    mul-least-of
-    element-copy-out-least-of
-    mul-least-of-2
-    element-copy-out-least-of-2
-    least-of-requires
-    mul-low
-    element-write-low
-    mul-greatest-of
-    element-copy-out-greatest-of
-    mul-greatest-of-2
-    element-copy-out-greatest-of-2
-    greatest-of-requires
-    mul-high
-    element-write-high
-    add-q
+    (λ c. search needs)  -- add-next
+    (λ c. search needs)  -- mul-least-of
+    (λ c. search needs)  -- element-copy-out-least-of
+    (λ c. search needs)  -- mul-least-of-2
+    (λ c. search needs)  -- element-copy-out-least-of-2
+    (λ c κs. search needs)  -- least-of-requires
+    (λ c. search needs)  -- mul-low
+    (λ c. search needs)  -- element-write-low
+    (λ c. search needs)  -- mul-greatest-of
+    (λ c. search needs)  -- element-copy-out-greatest-of
+    (λ c. search needs)  -- mul-greatest-of-2
+    (λ c. search needs)  -- element-copy-out-greatest-of-2
+    (λ c κs. search needs)  -- greatest-of-requires
+    (λ c. search needs)  -- mul-high
+    (λ c. search needs)  -- element-write-high
+    (λ c. search needs)  -- add-q
     loop-less
     loop-again
     returns)

@@ -14,23 +14,11 @@ Inv-loop i last span₀ k₀ span k = (k ≤ last) × (span ≡ 2 ^ k)
 abbrev μ-loop : tie.MeasureT-loop
 μ-loop i last span₀ k₀ span k = last - k
 
-least-of-requires : tie.Need-least-of-requires Inv-loop μ-loop
-least-of-requires c κs = search needs
-
-loop-holds : tie.Need-loop-holds Inv-loop μ-loop
-loop-holds c = search needs
-
 mul-span : tie.Need-mul-span Inv-loop μ-loop
 mul-span c =
     let k = c .before .loop .k in
     let l : 2 ^ k ≤ 65536 = pow-mono {i = k} {j = 16} (omega (arith, c .before .before .least-of .ensures)) in
     omega (arith, c .before .loop .inv .1)
-
-add-k : tie.Need-add-k Inv-loop μ-loop
-add-k c = search needs
-
-loop-less : tie.Need-loop-less Inv-loop μ-loop
-loop-less c = search needs
 
 loop-again : tie.Need-loop-again Inv-loop μ-loop
 loop-again c = (search needs, rw (add-one (c .before .loop .k)) (omega (arith, c .before .loop .inv .1)))
@@ -48,10 +36,10 @@ span-of-spec =
     (tie.spec
     Inv-loop
     μ-loop
-    least-of-requires
-    loop-holds
+    (λ c κs. search needs)  -- least-of-requires
+    (λ c. search needs)  -- loop-holds
     mul-span
-    add-k
-    loop-less
+    (λ c. search needs)  -- add-k
+    (λ c. search needs)  -- loop-less
     loop-again
     returns)

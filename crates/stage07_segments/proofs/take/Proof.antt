@@ -5,15 +5,6 @@ use borrow.Author.Needs.{needs}
 use Rattle.stage07_segments.proofs.take.Statement.{statement}
 use Rattle.stage07_segments.proofs.take.Tie as tie
 
-with-segment-requires : tie.Need-with-segment-requires
-with-segment-requires c κs = search needs
-
-place-before-requires : tie.Need-place-before-requires
-place-before-requires c κs = search needs
-
-with-segment-requires-2 : tie.Need-with-segment-requires-2
-with-segment-requires-2 c κs = search needs
-
 returns : tie.Need-returns
 returns c =
     let b = c .before in
@@ -23,4 +14,10 @@ returns c =
     before-taken (opOf (a .greatest)) (a .left) (a .right) (a .span) (a .n) (a .global .now) (a .from) (a .to) (a .x) (y .with-segment .result) (b .place-before .result) (c .with-segment2 .result) (s .pre) (y .with-segment .ensures) (b .place-before .ensures) (c .with-segment2 .ensures)
 
 pub take-spec : {M : Type 1} → statement M
-take-spec = tie.close (tie.spec with-segment-requires place-before-requires with-segment-requires-2 returns)
+take-spec =
+    tie.close
+    (tie.spec
+    (λ c κs. search needs)  -- with-segment-requires
+    (λ c κs. search needs)  -- place-before-requires
+    (λ c κs. search needs)  -- with-segment-requires-2
+    returns)

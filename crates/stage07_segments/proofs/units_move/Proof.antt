@@ -25,35 +25,8 @@ Inv-loop i n least greatest low₀ high₀ little₀ big₀ span mask count v₀
 abbrev μ-loop : tie.MeasureT-loop
 μ-loop i n least greatest low₀ high₀ little₀ big₀ span mask count v₀ low high little big v = n - v
 
-span-of-requires : tie.Need-span-of-requires Inv-loop μ-loop
-span-of-requires c κs = search needs
-
-mul-mask : tie.Need-mul-mask Inv-loop μ-loop
-mul-mask c = search needs
-
 sub-mask : tie.Need-sub-mask Inv-loop μ-loop
 sub-mask c = omega (arith, c .span-of .ensures .0, pow-pos (min (c .before .args .i) 16))
-
-loop-holds : tie.Need-loop-holds Inv-loop μ-loop
-loop-holds c = search needs
-
-mul-from : tie.Need-mul-from Inv-loop μ-loop
-mul-from c = search needs
-
-element-copy-out-from : tie.Need-element-copy-out-from Inv-loop μ-loop
-element-copy-out-from c = search needs
-
-mul-to : tie.Need-mul-to Inv-loop μ-loop
-mul-to c = search needs
-
-element-copy-out-to : tie.Need-element-copy-out-to Inv-loop μ-loop
-element-copy-out-to c = search needs
-
-add-v : tie.Need-add-v Inv-loop μ-loop
-add-v c = search needs
-
-loop-less : tie.Need-loop-less Inv-loop μ-loop
-loop-less c = search needs
 
 loop-again : tie.Need-loop-again Inv-loop μ-loop
 loop-again c =
@@ -74,66 +47,6 @@ loop-again c =
       over-kept v _ little _ (inv .3) (little-stays span (2 * span) (a .n) little big v met),
       over-kept v _ big _ (inv .4) (big-stays span (2 * span) (a .n) little big v met),
     )
-
-is-odd-requires : tie.Need-is-odd-requires Inv-loop μ-loop
-is-odd-requires c κs = search needs
-
-is-odd-requires-2 : tie.Need-is-odd-requires-2 Inv-loop μ-loop
-is-odd-requires-2 c κs = search needs
-
-mul-take : tie.Need-mul-take Inv-loop μ-loop
-mul-take c = search needs
-
-element-copy-out-take : tie.Need-element-copy-out-take Inv-loop μ-loop
-element-copy-out-take c = search needs
-
-take-requires : tie.Need-take-requires Inv-loop μ-loop
-take-requires c κs = search needs
-
-mul-low : tie.Need-mul-low Inv-loop μ-loop
-mul-low c = search needs
-
-element-write-low : tie.Need-element-write-low Inv-loop μ-loop
-element-write-low c = search needs
-
-mul-take-2 : tie.Need-mul-take-2 Inv-loop μ-loop
-mul-take-2 c = search needs
-
-element-copy-out-take-2 : tie.Need-element-copy-out-take-2 Inv-loop μ-loop
-element-copy-out-take-2 c = search needs
-
-take-requires-2 : tie.Need-take-requires-2 Inv-loop μ-loop
-take-requires-2 c κs = search needs
-
-mul-high : tie.Need-mul-high Inv-loop μ-loop
-mul-high c = search needs
-
-element-write-high : tie.Need-element-write-high Inv-loop μ-loop
-element-write-high c = search needs
-
-step-on-requires : tie.Need-step-on-requires Inv-loop μ-loop
-step-on-requires c κs = search needs
-
-mul-little : tie.Need-mul-little Inv-loop μ-loop
-mul-little c = search needs
-
-element-write-little : tie.Need-element-write-little Inv-loop μ-loop
-element-write-little c = search needs
-
-step-back-requires : tie.Need-step-back-requires Inv-loop μ-loop
-step-back-requires c κs = search needs
-
-mul-big : tie.Need-mul-big Inv-loop μ-loop
-mul-big c = search needs
-
-element-write-big : tie.Need-element-write-big Inv-loop μ-loop
-element-write-big c = search needs
-
-add-v-2 : tie.Need-add-v-2 Inv-loop μ-loop
-add-v-2 c = search needs
-
-loop-less-2 : tie.Need-loop-less-2 Inv-loop μ-loop
-loop-less-2 c = search needs
 
 loop-again-2 : tie.Need-loop-again-2 Inv-loop μ-loop
 loop-again-2 c =
@@ -203,36 +116,36 @@ units-move-spec =
     (tie.spec
     Inv-loop
     μ-loop
-    span-of-requires
-    mul-mask
+    (λ c κs. search needs)  -- span-of-requires
+    (λ c. search needs)  -- mul-mask
     sub-mask
-    loop-holds
-    mul-from
-    element-copy-out-from
-    mul-to
-    element-copy-out-to
-    add-v
-    loop-less
+    (λ c. search needs)  -- loop-holds
+    (λ c. search needs)  -- mul-from
+    (λ c. search needs)  -- element-copy-out-from
+    (λ c. search needs)  -- mul-to
+    (λ c. search needs)  -- element-copy-out-to
+    (λ c. search needs)  -- add-v
+    (λ c. search needs)  -- loop-less
     loop-again
-    is-odd-requires
-    is-odd-requires-2
-    mul-take
-    element-copy-out-take
-    take-requires
-    mul-low
-    element-write-low
-    mul-take-2
-    element-copy-out-take-2
-    take-requires-2
-    mul-high
-    element-write-high
-    step-on-requires
-    mul-little
-    element-write-little
-    step-back-requires
-    mul-big
-    element-write-big
-    add-v-2
-    loop-less-2
+    (λ c κs. search needs)  -- is-odd-requires
+    (λ c κs. search needs)  -- is-odd-requires-2
+    (λ c. search needs)  -- mul-take
+    (λ c. search needs)  -- element-copy-out-take
+    (λ c κs. search needs)  -- take-requires
+    (λ c. search needs)  -- mul-low
+    (λ c. search needs)  -- element-write-low
+    (λ c. search needs)  -- mul-take-2
+    (λ c. search needs)  -- element-copy-out-take-2
+    (λ c κs. search needs)  -- take-requires-2
+    (λ c. search needs)  -- mul-high
+    (λ c. search needs)  -- element-write-high
+    (λ c κs. search needs)  -- step-on-requires
+    (λ c. search needs)  -- mul-little
+    (λ c. search needs)  -- element-write-little
+    (λ c κs. search needs)  -- step-back-requires
+    (λ c. search needs)  -- mul-big
+    (λ c. search needs)  -- element-write-big
+    (λ c. search needs)  -- add-v-2
+    (λ c. search needs)  -- loop-less-2
     loop-again-2
     returns)

@@ -15,30 +15,6 @@ Inv-loop units parent nd pre low high new₀ u₀ new u = (u ≤ units) × (leng
 abbrev μ-loop : tie.MeasureT-loop
 μ-loop units parent nd pre low high new₀ u₀ new u = units - u
 
-loop-holds : tie.Need-loop-holds Inv-loop μ-loop
-loop-holds c = search needs
-
-joins-parent-requires : tie.Need-joins-parent-requires Inv-loop μ-loop
-joins-parent-requires c κs = search needs
-
-choose-requires : tie.Need-choose-requires Inv-loop μ-loop
-choose-requires c κs = search needs
-
-cast-new : tie.Need-cast-new Inv-loop μ-loop
-cast-new c = search needs
-
-mul-new : tie.Need-mul-new Inv-loop μ-loop
-mul-new c = search needs
-
-array-write-new : tie.Need-array-write-new Inv-loop μ-loop
-array-write-new c = search needs
-
-add-u : tie.Need-add-u Inv-loop μ-loop
-add-u c = search needs
-
-loop-less : tie.Need-loop-less Inv-loop μ-loop
-loop-less c = search needs
-
 loop-again : tie.Need-loop-again Inv-loop μ-loop
 loop-again c =
     let s = c .before .before .before in
@@ -56,13 +32,13 @@ parent-joins-spec =
     (tie.spec
     Inv-loop
     μ-loop
-    loop-holds
-    joins-parent-requires
-    choose-requires
-    cast-new
-    mul-new
-    array-write-new
-    add-u
-    loop-less
+    (λ c. search needs)  -- loop-holds
+    (λ c κs. search needs)  -- joins-parent-requires
+    (λ c κs. search needs)  -- choose-requires
+    (λ c. search needs)  -- cast-new
+    (λ c. search needs)  -- mul-new
+    (λ c. search needs)  -- array-write-new
+    (λ c. search needs)  -- add-u
+    (λ c. search needs)  -- loop-less
     loop-again
     returns)

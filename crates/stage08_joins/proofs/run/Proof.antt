@@ -21,14 +21,8 @@ go : (c : tie.Then1 Inv-loop μ-loop)
     → (let a = c .before .before .before .before .before .args in Goes (a .units) 8 (c .before .before .loop .made) (a .budget) (linksFit (a .units) (a .links) (a .ends .now)) (c .before .before .loop .c))
 go c = goes _ _ _ _ _ _ (rw (c .before .before .before .links-fit .ensures) at (sym (c .before .goes-on .ensures) ∙ c .if1 .taken))
 
-links-fit-requires : tie.Need-links-fit-requires Inv-loop μ-loop
-links-fit-requires c κs = search needs
-
 loop-holds : tie.Need-loop-holds Inv-loop μ-loop
 loop-holds c = turns-begin _ _ _ _
-
-goes-on-requires : tie.Need-goes-on-requires Inv-loop μ-loop
-goes-on-requires c κs = search needs
 
 parent-joins-requires : tie.Need-parent-joins-requires Inv-loop μ-loop
 parent-joins-requires c κs = go c .few
@@ -38,9 +32,6 @@ link-joins-requires c κs =
     let g = go (c .before) in
     let a = c .before .before .before .before .before .before .args in
     (g .few, fit-few (a .units) (a .links) (a .ends .now) (g .fit), fit-within (a .units) (a .links) (a .ends .now) (search needs) (g .fit))
-
-ticked-requires : tie.Need-ticked-requires Inv-loop μ-loop
-ticked-requires c κs = search needs
 
 add-made : tie.Need-add-made Inv-loop μ-loop
 add-made c = omega (arith, go (c .before .before .before) .below, c .before .before .before .before .before .before .before .before .fits .budget)
@@ -64,12 +55,12 @@ run-spec =
     (tie.spec
     Inv-loop
     μ-loop
-    links-fit-requires
+    (λ c κs. search needs)  -- links-fit-requires
     loop-holds
-    goes-on-requires
+    (λ c κs. search needs)  -- goes-on-requires
     parent-joins-requires
     link-joins-requires
-    ticked-requires
+    (λ c κs. search needs)  -- ticked-requires
     add-made
     loop-less
     loop-again

@@ -19,15 +19,6 @@ go c =
     let g = c .before .before .before in
     goes _ _ _ _ _ _ (rw (g .before .pre) at (sym (g .goes-on .ensures) ∙ and-right (c .before .before .pays .result) (g .goes-on .result) (both c)))
 
-goes-on-requires : tie.Need-goes-on-requires
-goes-on-requires c κs = search needs
-
-pays-requires : tie.Need-pays-requires
-pays-requires c κs = search needs
-
-both-requires : tie.Need-both-requires
-both-requires c κs = search needs
-
 returns : tie.Need-returns
 returns c = λ e. absurd (false≢true e)
 
@@ -41,4 +32,12 @@ returns-2 : tie.Need-returns-2
 returns-2 c = c .over-pairs .ensures
 
 pub leapt-spec : {M : Type 1} → statement M
-leapt-spec = tie.close (tie.spec goes-on-requires pays-requires both-requires returns over-pairs-requires returns-2)
+leapt-spec =
+    tie.close
+    (tie.spec
+    (λ c κs. search needs)  -- goes-on-requires
+    (λ c κs. search needs)  -- pays-requires
+    (λ c κs. search needs)  -- both-requires
+    returns
+    over-pairs-requires
+    returns-2)

@@ -18,27 +18,6 @@ use borrow.Author.Needs.{needs}
 use Rattle.stage09_classes.proofs.over_pairs.Statement.{statement}
 use Rattle.stage09_classes.proofs.over_pairs.Tie as tie
 
-joins-requires : tie.Need-joins-requires
-joins-requires c κs = search needs
-
-said-requires : tie.Need-said-requires
-said-requires c κs = search needs
-
-without-roots-requires : tie.Need-without-roots-requires
-without-roots-requires c κs = search needs
-
-less-requires : tie.Need-less-requires
-less-requires c κs = search needs
-
-greatest-of-requires : tie.Need-greatest-of-requires
-greatest-of-requires c κs = search needs
-
-slice-aggregate-leap : tie.Need-slice-aggregate-leap
-slice-aggregate-leap c = search needs
-
-leap-requires : tie.Need-leap-requires
-leap-requires c κs = search needs
-
 returns : tie.Need-returns
 returns c =
     let m = c .before .before in
@@ -62,4 +41,14 @@ returns c =
     ∙ ap (λ (b : ℕ). stageRun (on (a .units) (a .links) (a .ends .now) (a .parent .now)) (one (a .units) (a .links) (a .ends .now) (a .parent .now) (a .linked .now) (a .parents .now)) b (ran (a .color) (a .clock) 0)) all
 
 pub over-pairs-spec : {M : Type 1} → statement M
-over-pairs-spec = tie.close (tie.spec joins-requires said-requires without-roots-requires less-requires greatest-of-requires slice-aggregate-leap leap-requires returns)
+over-pairs-spec =
+    tie.close
+    (tie.spec
+    (λ c κs. search needs)  -- joins-requires
+    (λ c κs. search needs)  -- said-requires
+    (λ c κs. search needs)  -- without-roots-requires
+    (λ c κs. search needs)  -- less-requires
+    (λ c κs. search needs)  -- greatest-of-requires
+    (λ c. search needs)  -- slice-aggregate-leap
+    (λ c κs. search needs)  -- leap-requires
+    returns)

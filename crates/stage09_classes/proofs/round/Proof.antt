@@ -11,21 +11,6 @@ use borrow.Author.Needs.{needs}
 use Rattle.stage09_classes.proofs.round.Statement.{statement}
 use Rattle.stage09_classes.proofs.round.Tie as tie
 
-said-requires : tie.Need-said-requires
-said-requires c κs = search needs
-
-without-roots-requires : tie.Need-without-roots-requires
-without-roots-requires c κs = search needs
-
-propagate-requires : tie.Need-propagate-requires
-propagate-requires c κs = search needs
-
-propagate-requires-2 : tie.Need-propagate-requires-2
-propagate-requires-2 c κs = search needs
-
-least-requires : tie.Need-least-requires
-least-requires c κs = search needs
-
 returns : tie.Need-returns
 returns c =
     let w = c .before .before .before .before .before .before .before .before .before in
@@ -48,9 +33,9 @@ pub round-spec : {M : Type 1} → statement M
 round-spec =
     tie.close
     (tie.spec
-    said-requires
-    without-roots-requires
-    propagate-requires
-    propagate-requires-2
-    least-requires
+    (λ c κs. search needs)  -- said-requires
+    (λ c κs. search needs)  -- without-roots-requires
+    (λ c κs. search needs)  -- propagate-requires
+    (λ c κs. search needs)  -- propagate-requires-2
+    (λ c κs. search needs)  -- least-requires
     returns)

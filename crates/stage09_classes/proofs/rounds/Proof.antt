@@ -39,14 +39,8 @@ by c =
     heads-exist (a .units) (a .parent .now) (a .parents .now) (h .of .result) (and-right (linksFit (a .units) (a .links) (a .ends .now)) (every (nameOk (a .units)) (a .parent .now)) (go c .fit))
     (λ u l. rw (lt-ltb u (min (a .units) 256) (omega (arith, l, go c .few))) at (h .of .ensures u (omega (arith, l, go c .few))))
 
-of-requires : tie.Need-of-requires Inv-loop μ-loop
-of-requires c κs = search needs
-
 loop-holds : tie.Need-loop-holds Inv-loop μ-loop
 loop-holds c = (search needs, turns-begin _ _ _ _)
-
-goes-on-requires : tie.Need-goes-on-requires Inv-loop μ-loop
-goes-on-requires c κs = search needs
 
 round-requires : tie.Need-round-requires Inv-loop μ-loop
 round-requires c κs =
@@ -55,18 +49,6 @@ round-requires c κs =
     let g = go t in
     let links = and-left (linksFit (a .units) (a .links) (a .ends .now)) (every (nameOk (a .units)) (a .parent .now)) (g .fit) in
     (g .few, fit-few (a .units) (a .links) (a .ends .now) links, fit-within (a .units) (a .links) (a .ends .now) (t .before .before .before .before .pre .1) links, by t .exist)
-
-slice-aggregate-ends : tie.Need-slice-aggregate-ends Inv-loop μ-loop
-slice-aggregate-ends c = search needs
-
-slice-aggregate-ends-2 : tie.Need-slice-aggregate-ends-2 Inv-loop μ-loop
-slice-aggregate-ends-2 c = search needs
-
-ends-requires : tie.Need-ends-requires Inv-loop μ-loop
-ends-requires c κs = search needs
-
-ticked-requires : tie.Need-ticked-requires Inv-loop μ-loop
-ticked-requires c κs = search needs
 
 add-made : tie.Need-add-made Inv-loop μ-loop
 add-made c =
@@ -95,14 +77,14 @@ rounds-spec =
     (tie.spec
     Inv-loop
     μ-loop
-    of-requires
+    (λ c κs. search needs)  -- of-requires
     loop-holds
-    goes-on-requires
+    (λ c κs. search needs)  -- goes-on-requires
     round-requires
-    slice-aggregate-ends
-    slice-aggregate-ends-2
-    ends-requires
-    ticked-requires
+    (λ c. search needs)  -- slice-aggregate-ends
+    (λ c. search needs)  -- slice-aggregate-ends-2
+    (λ c κs. search needs)  -- ends-requires
+    (λ c κs. search needs)  -- ticked-requires
     add-made
     loop-less
     loop-again

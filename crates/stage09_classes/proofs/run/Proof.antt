@@ -4,15 +4,6 @@ use borrow.Author.Needs.{needs}
 use Rattle.stage09_classes.proofs.run.Statement.{statement}
 use Rattle.stage09_classes.proofs.run.Tie as tie
 
-links-fit-requires : tie.Need-links-fit-requires
-links-fit-requires c κs = search needs
-
-names-ok-requires : tie.Need-names-ok-requires
-names-ok-requires c κs = search needs
-
-both-requires : tie.Need-both-requires
-both-requires c κs = search needs
-
 leapt-requires : tie.Need-leapt-requires
 leapt-requires c κs = rw (c .both .ensures, c .before .before .before .links-fit .ensures, c .before .names-ok .ensures) refl
 
@@ -31,4 +22,13 @@ returns-2 : tie.Need-returns-2
 returns-2 c = c .rounds .ensures
 
 pub run-spec : {M : Type 1} → statement M
-run-spec = tie.close (tie.spec links-fit-requires names-ok-requires both-requires leapt-requires returns rounds-requires returns-2)
+run-spec =
+    tie.close
+    (tie.spec
+    (λ c κs. search needs)  -- links-fit-requires
+    (λ c κs. search needs)  -- names-ok-requires
+    (λ c κs. search needs)  -- both-requires
+    leapt-requires
+    returns
+    rounds-requires
+    returns-2)

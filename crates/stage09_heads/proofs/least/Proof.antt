@@ -15,51 +15,6 @@ Inv-loop units parent told t count new₀ v₀ new v = (v ≤ count) × (length 
 abbrev μ-loop : tie.MeasureT-loop
 μ-loop units parent told t count new₀ v₀ new v = count - v
 
-least-of-requires : tie.Need-least-of-requires Inv-loop μ-loop
-least-of-requires c κs = search needs
-
-loop-holds : tie.Need-loop-holds Inv-loop μ-loop
-loop-holds c = search needs
-
-cast-at : tie.Need-cast-at Inv-loop μ-loop
-cast-at c = search needs
-
-mul-least-of : tie.Need-mul-least-of Inv-loop μ-loop
-mul-least-of c = search needs
-
-element-copy-out-least-of : tie.Need-element-copy-out-least-of Inv-loop μ-loop
-element-copy-out-least-of c = search needs
-
-mul-least-of-2 : tie.Need-mul-least-of-2 Inv-loop μ-loop
-mul-least-of-2 c = search needs
-
-element-copy-out-least-of-2 : tie.Need-element-copy-out-least-of-2 Inv-loop μ-loop
-element-copy-out-least-of-2 c = search needs
-
-least-of-requires-2 : tie.Need-least-of-requires-2 Inv-loop μ-loop
-least-of-requires-2 c κs = search needs
-
-mul-choose : tie.Need-mul-choose Inv-loop μ-loop
-mul-choose c = search needs
-
-element-copy-out-choose : tie.Need-element-copy-out-choose Inv-loop μ-loop
-element-copy-out-choose c = search needs
-
-choose-requires : tie.Need-choose-requires Inv-loop μ-loop
-choose-requires c κs = search needs
-
-mul-new : tie.Need-mul-new Inv-loop μ-loop
-mul-new c = search needs
-
-array-write-new : tie.Need-array-write-new Inv-loop μ-loop
-array-write-new c = search needs
-
-add-v : tie.Need-add-v Inv-loop μ-loop
-add-v c = search needs
-
-loop-less : tie.Need-loop-less Inv-loop μ-loop
-loop-less c = search needs
-
 loop-again : tie.Need-loop-again Inv-loop μ-loop
 loop-again c =
     let s = c .before .before .before .before .before .before in
@@ -76,20 +31,20 @@ least-spec =
     (tie.spec
     Inv-loop
     μ-loop
-    least-of-requires
-    loop-holds
-    cast-at
-    mul-least-of
-    element-copy-out-least-of
-    mul-least-of-2
-    element-copy-out-least-of-2
-    least-of-requires-2
-    mul-choose
-    element-copy-out-choose
-    choose-requires
-    mul-new
-    array-write-new
-    add-v
-    loop-less
+    (λ c κs. search needs)  -- least-of-requires
+    (λ c. search needs)  -- loop-holds
+    (λ c. search needs)  -- cast-at
+    (λ c. search needs)  -- mul-least-of
+    (λ c. search needs)  -- element-copy-out-least-of
+    (λ c. search needs)  -- mul-least-of-2
+    (λ c. search needs)  -- element-copy-out-least-of-2
+    (λ c κs. search needs)  -- least-of-requires-2
+    (λ c. search needs)  -- mul-choose
+    (λ c. search needs)  -- element-copy-out-choose
+    (λ c κs. search needs)  -- choose-requires
+    (λ c. search needs)  -- mul-new
+    (λ c. search needs)  -- array-write-new
+    (λ c. search needs)  -- add-v
+    (λ c. search needs)  -- loop-less
     loop-again
     returns)

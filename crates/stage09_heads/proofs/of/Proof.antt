@@ -28,54 +28,6 @@ Inv-loop units parent parents count new₀ u₀ new u = (u ≤ count) × (length
 abbrev μ-loop : tie.MeasureT-loop
 μ-loop units parent parents count new₀ u₀ new u = count - u
 
-least-of-requires : tie.Need-least-of-requires Inv-loop μ-loop
-least-of-requires c κs = search needs
-
-blank-requires : tie.Need-blank-requires Inv-loop μ-loop
-blank-requires c κs = search needs
-
-loop-holds : tie.Need-loop-holds Inv-loop μ-loop
-loop-holds c = search needs
-
-cast-at : tie.Need-cast-at Inv-loop μ-loop
-cast-at c = search needs
-
-mul-either : tie.Need-mul-either Inv-loop μ-loop
-mul-either c = search needs
-
-element-copy-out-either : tie.Need-element-copy-out-either Inv-loop μ-loop
-element-copy-out-either c = search needs
-
-mul-either-2 : tie.Need-mul-either-2 Inv-loop μ-loop
-mul-either-2 c = search needs
-
-element-copy-out-either-2 : tie.Need-element-copy-out-either-2 Inv-loop μ-loop
-element-copy-out-either-2 c = search needs
-
-either-requires : tie.Need-either-requires Inv-loop μ-loop
-either-requires c κs = search needs
-
-mul-choose : tie.Need-mul-choose Inv-loop μ-loop
-mul-choose c = search needs
-
-element-copy-out-choose : tie.Need-element-copy-out-choose Inv-loop μ-loop
-element-copy-out-choose c = search needs
-
-choose-requires : tie.Need-choose-requires Inv-loop μ-loop
-choose-requires c κs = search needs
-
-mul-new : tie.Need-mul-new Inv-loop μ-loop
-mul-new c = search needs
-
-array-write-new : tie.Need-array-write-new Inv-loop μ-loop
-array-write-new c = search needs
-
-add-u : tie.Need-add-u Inv-loop μ-loop
-add-u c = search needs
-
-loop-less : tie.Need-loop-less Inv-loop μ-loop
-loop-less c = search needs
-
 loop-again : tie.Need-loop-again Inv-loop μ-loop
 loop-again c =
     let s = c .before .before .before .before .before .before in
@@ -98,21 +50,21 @@ of-spec =
     (tie.spec
     Inv-loop
     μ-loop
-    least-of-requires
-    blank-requires
-    loop-holds
-    cast-at
-    mul-either
-    element-copy-out-either
-    mul-either-2
-    element-copy-out-either-2
-    either-requires
-    mul-choose
-    element-copy-out-choose
-    choose-requires
-    mul-new
-    array-write-new
-    add-u
-    loop-less
+    (λ c κs. search needs)  -- least-of-requires
+    (λ c κs. search needs)  -- blank-requires
+    (λ c. search needs)  -- loop-holds
+    (λ c. search needs)  -- cast-at
+    (λ c. search needs)  -- mul-either
+    (λ c. search needs)  -- element-copy-out-either
+    (λ c. search needs)  -- mul-either-2
+    (λ c. search needs)  -- element-copy-out-either-2
+    (λ c κs. search needs)  -- either-requires
+    (λ c. search needs)  -- mul-choose
+    (λ c. search needs)  -- element-copy-out-choose
+    (λ c κs. search needs)  -- choose-requires
+    (λ c. search needs)  -- mul-new
+    (λ c. search needs)  -- array-write-new
+    (λ c. search needs)  -- add-u
+    (λ c. search needs)  -- loop-less
     loop-again
     returns)

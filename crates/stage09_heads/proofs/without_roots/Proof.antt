@@ -6,13 +6,14 @@ use borrow.Author.Needs.{needs}
 use Rattle.stage09_heads.proofs.without_roots.Statement.{statement}
 use Rattle.stage09_heads.proofs.without_roots.Tie as tie
 
-least-requires : tie.Need-least-requires
-least-requires c κs = search needs
-
 returns : tie.Need-returns
 returns c =
     let a = c .before .before .before .args in
     c .least .ensures ∙ least-said (min (a .units) 256) (a .parent .now) (a .t3)
 
 pub without-roots-spec : {M : Type 1} → statement M
-without-roots-spec = tie.close (tie.spec least-requires returns)
+without-roots-spec =
+    tie.close
+    (tie.spec
+    (λ c κs. search needs)  -- least-requires
+    returns)

@@ -4,18 +4,6 @@ use borrow.Author.Needs.{needs}
 use Rattle.stage09_pairs.proofs.joins.Statement.{statement}
 use Rattle.stage09_pairs.proofs.joins.Tie as tie
 
-least-of-requires : tie.Need-least-of-requires
-least-of-requires c κs = search needs
-
-least-of-requires-2 : tie.Need-least-of-requires-2
-least-of-requires-2 c κs = search needs
-
-of-links-requires : tie.Need-of-links-requires
-of-links-requires c κs = search needs
-
-of-parents-requires : tie.Need-of-parents-requires
-of-parents-requires c κs = search needs
-
 returns : tie.Need-returns
 returns c =
     let l = c .before .before in
@@ -27,4 +15,9 @@ returns c =
 pub joins-spec : {M : Type 1} → statement M
 joins-spec =
     tie.close
-    (tie.spec least-of-requires least-of-requires-2 of-links-requires of-parents-requires returns)
+    (tie.spec
+    (λ c κs. search needs)  -- least-of-requires
+    (λ c κs. search needs)  -- least-of-requires-2
+    (λ c κs. search needs)  -- of-links-requires
+    (λ c κs. search needs)  -- of-parents-requires
+    returns)

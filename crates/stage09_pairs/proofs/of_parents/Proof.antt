@@ -24,21 +24,6 @@ loop-holds c =
     let a = c .before .args in
     (search needs, search needs, search needs, λ m ends linked h. joins-begin (a .had) m ends (a .parent .now) linked (a .parents .now) (a .pairs .now) h)
 
-cast-at : tie.Need-cast-at Inv-loop μ-loop
-cast-at c = search needs
-
-mul-if1 : tie.Need-mul-if1 Inv-loop μ-loop
-mul-if1 c = search needs
-
-element-copy-out-if1 : tie.Need-element-copy-out-if1 Inv-loop μ-loop
-element-copy-out-if1 c = search needs
-
-add-u : tie.Need-add-u Inv-loop μ-loop
-add-u c = search needs
-
-loop-less : tie.Need-loop-less Inv-loop μ-loop
-loop-less c = search needs
-
 loop-again : tie.Need-loop-again Inv-loop μ-loop
 loop-again c =
     let s = c .before .before .before in
@@ -51,25 +36,10 @@ loop-again c =
           (pairs-skip (a .parent .now) (s .loop .count) (at (a .parents .now) (s .loop .u)) (s .loop .u) (at (a .parent .now) (s .loop .u)) (s .loop .pairs) (s .loop .pairs) (joinsHeard (s .loop .u) m ends (a .parent .now) linked (a .parents .now)) (s .loop .inv .3 m ends linked h) (c .if1 .taken)),
     )
 
-mul-b : tie.Need-mul-b Inv-loop μ-loop
-mul-b c = search needs
-
-element-copy-out-b : tie.Need-element-copy-out-b Inv-loop μ-loop
-element-copy-out-b c = search needs
-
-no-roots-requires : tie.Need-no-roots-requires Inv-loop μ-loop
-no-roots-requires c κs = search needs
-
 push-requires : tie.Need-push-requires Inv-loop μ-loop
 push-requires c κs =
     let s = c .before .before .before .before .before in
     (omega (arith, s .before .loop .inv .1, s .loop-test .taken, s .before .before .before .pre .0, s .before .before .before .pre .1), s .before .loop .inv .2)
-
-add-u-2 : tie.Need-add-u-2 Inv-loop μ-loop
-add-u-2 c = search needs
-
-loop-less-2 : tie.Need-loop-less-2 Inv-loop μ-loop
-loop-less-2 c = search needs
 
 loop-again-2 : tie.Need-loop-again-2 Inv-loop μ-loop
 loop-again-2 c =
@@ -89,11 +59,28 @@ loop-again-2 c =
           (rw (ne-eqb (at (a .parents .now) (s .loop .u)) 0 (e .if1 .left)) (count ∙ ap (λ (t : Bool). cond t (s .loop .count + 1) (s .loop .count)) (r .no-roots .ensures)))),
     )
 
-same-length : tie.Need-same-length Inv-loop μ-loop
-same-length c = search needs
-
 returns : tie.Need-returns Inv-loop μ-loop
 returns c = λ m ends linked h. rw (le-antisymm (c .before .loop .inv .0) (c .loop-test .left)) at (c .before .loop .inv .3 m ends linked h)
 
 pub of-parents-spec : {M : Type 1} → statement M
-of-parents-spec = tie.close (tie.spec Inv-loop μ-loop loop-holds cast-at mul-if1 element-copy-out-if1 add-u loop-less loop-again mul-b element-copy-out-b no-roots-requires push-requires add-u-2 loop-less-2 loop-again-2 same-length returns)
+of-parents-spec =
+    tie.close
+    (tie.spec
+    Inv-loop
+    μ-loop
+    loop-holds
+    (λ c. search needs)  -- cast-at
+    (λ c. search needs)  -- mul-if1
+    (λ c. search needs)  -- element-copy-out-if1
+    (λ c. search needs)  -- add-u
+    (λ c. search needs)  -- loop-less
+    loop-again
+    (λ c. search needs)  -- mul-b
+    (λ c. search needs)  -- element-copy-out-b
+    (λ c κs. search needs)  -- no-roots-requires
+    push-requires
+    (λ c. search needs)  -- add-u-2
+    (λ c. search needs)  -- loop-less-2
+    loop-again-2
+    (λ c. search needs)  -- same-length
+    returns)

@@ -15,42 +15,6 @@ Inv-loop links class first absent new₀ j₀ new j = (j ≤ links) × (length n
 abbrev μ-loop : tie.MeasureT-loop
 μ-loop links class first absent new₀ j₀ new j = links - j
 
-firsts-requires : tie.Need-firsts-requires Inv-loop μ-loop
-firsts-requires c κs = search needs
-
-first-at-requires : tie.Need-first-at-requires Inv-loop μ-loop
-first-at-requires c κs = search needs
-
-loop-holds : tie.Need-loop-holds Inv-loop μ-loop
-loop-holds c = search needs
-
-cast-at : tie.Need-cast-at Inv-loop μ-loop
-cast-at c = search needs
-
-slice-aggregate-first-by : tie.Need-slice-aggregate-first-by Inv-loop μ-loop
-slice-aggregate-first-by c = search needs
-
-mul-first-by : tie.Need-mul-first-by Inv-loop μ-loop
-mul-first-by c = search needs
-
-element-copy-out-first-by : tie.Need-element-copy-out-first-by Inv-loop μ-loop
-element-copy-out-first-by c = search needs
-
-first-by-requires : tie.Need-first-by-requires Inv-loop μ-loop
-first-by-requires c κs = search needs
-
-mul-new : tie.Need-mul-new Inv-loop μ-loop
-mul-new c = search needs
-
-array-write-new : tie.Need-array-write-new Inv-loop μ-loop
-array-write-new c = search needs
-
-add-j : tie.Need-add-j Inv-loop μ-loop
-add-j c = search needs
-
-loop-less : tie.Need-loop-less Inv-loop μ-loop
-loop-less c = search needs
-
 loop-again : tie.Need-loop-again Inv-loop μ-loop
 loop-again c = (search needs, search needs, over-more _ _ _ _ _ _ (c .before .before .before .before .before .loop .inv .2) (c .first-by .ensures) refl)
 
@@ -68,17 +32,17 @@ label-round-spec =
     (tie.spec
     Inv-loop
     μ-loop
-    firsts-requires
-    first-at-requires
-    loop-holds
-    cast-at
-    slice-aggregate-first-by
-    mul-first-by
-    element-copy-out-first-by
-    first-by-requires
-    mul-new
-    array-write-new
-    add-j
-    loop-less
+    (λ c κs. search needs)  -- firsts-requires
+    (λ c κs. search needs)  -- first-at-requires
+    (λ c. search needs)  -- loop-holds
+    (λ c. search needs)  -- cast-at
+    (λ c. search needs)  -- slice-aggregate-first-by
+    (λ c. search needs)  -- mul-first-by
+    (λ c. search needs)  -- element-copy-out-first-by
+    (λ c κs. search needs)  -- first-by-requires
+    (λ c. search needs)  -- mul-new
+    (λ c. search needs)  -- array-write-new
+    (λ c. search needs)  -- add-j
+    (λ c. search needs)  -- loop-less
     loop-again
     returns)

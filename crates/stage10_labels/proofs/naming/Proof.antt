@@ -6,33 +6,6 @@ use borrow.Author.Needs.{needs}
 use Rattle.stage10_labels.proofs.naming.Statement.{statement}
 use Rattle.stage10_labels.proofs.naming.Tie as tie
 
-mul-up : tie.Need-mul-up
-mul-up c = search needs
-
-element-copy-out-up : tie.Need-element-copy-out-up
-element-copy-out-up c = search needs
-
-mul-down : tie.Need-mul-down
-mul-down c = search needs
-
-element-copy-out-down : tie.Need-element-copy-out-down
-element-copy-out-down c = search needs
-
-mul-before : tie.Need-mul-before
-mul-before c = search needs
-
-element-copy-out-before : tie.Need-element-copy-out-before
-element-copy-out-before c = search needs
-
-mul-before-2 : tie.Need-mul-before-2
-mul-before-2 c = search needs
-
-element-copy-out-before-2 : tie.Need-element-copy-out-before-2
-element-copy-out-before-2 c = search needs
-
-named-requires : tie.Need-named-requires
-named-requires c κs = search needs
-
 returns : tie.Need-returns
 unfolding namingUnit
 returns c =
@@ -45,13 +18,13 @@ pub naming-spec : {M : Type 1} → statement M
 naming-spec =
     tie.close
     (tie.spec
-    mul-up
-    element-copy-out-up
-    mul-down
-    element-copy-out-down
-    mul-before
-    element-copy-out-before
-    mul-before-2
-    element-copy-out-before-2
-    named-requires
+    (λ c. search needs)  -- mul-up
+    (λ c. search needs)  -- element-copy-out-up
+    (λ c. search needs)  -- mul-down
+    (λ c. search needs)  -- element-copy-out-down
+    (λ c. search needs)  -- mul-before
+    (λ c. search needs)  -- element-copy-out-before
+    (λ c. search needs)  -- mul-before-2
+    (λ c. search needs)  -- element-copy-out-before-2
+    (λ c κs. search needs)  -- named-requires
     returns)

@@ -22,17 +22,8 @@ go : (c : tie.Then1 Inv-loop μ-loop)
     → (let a = c .before .before .before .before .before .args in Goes (a .units) 10 (c .before .before .loop .made) (a .budget) (linksFit (a .units) (a .links) (a .ends .now)) (c .before .before .loop .c))
 go c = goes _ _ _ _ _ _ (rw (c .before .before .before .links-fit .ensures) at (sym (c .before .goes-on .ensures) ∙ c .if1 .taken))
 
-links-fit-requires : tie.Need-links-fit-requires Inv-loop μ-loop
-links-fit-requires c κs = search needs
-
 loop-holds : tie.Need-loop-holds Inv-loop μ-loop
 loop-holds c = turns-begin _ _ _ _
-
-goes-on-requires : tie.Need-goes-on-requires Inv-loop μ-loop
-goes-on-requires c κs = search needs
-
-ticked-requires : tie.Need-ticked-requires Inv-loop μ-loop
-ticked-requires c κs = search needs
 
 class-round-requires : tie.Need-class-round-requires Inv-loop μ-loop
 class-round-requires c κs =
@@ -90,10 +81,10 @@ run-spec =
     (tie.spec
     Inv-loop
     μ-loop
-    links-fit-requires
+    (λ c κs. search needs)  -- links-fit-requires
     loop-holds
-    goes-on-requires
-    ticked-requires
+    (λ c κs. search needs)  -- goes-on-requires
+    (λ c κs. search needs)  -- ticked-requires
     class-round-requires
     add-made
     loop-less

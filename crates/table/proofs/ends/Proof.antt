@@ -28,25 +28,16 @@ p8 s = sym (s .before .equal-ends .ensures) ∙ s .if2 .left
 small : (e : tie.Else1) → endMissing 256 (table (e .before .before)) ≡ false
 small e = let s = e .before .before in endMissing-more (units s) 256 (table s) (s .before .pre) (p7 e)
 
-end-missing-requires : tie.Need-end-missing-requires
-end-missing-requires c κs = search needs
-
 returns : tie.Need-returns
 returns c =
     let s = c .before .before in
     refused-7 (units s) (table s) (repeated s) (sym (c .before .end-missing .ensures) ∙ c .if1 .taken)
-
-equal-ends-requires : tie.Need-equal-ends-requires
-equal-ends-requires c κs = search needs
 
 returns-2 : tie.Need-returns-2
 returns-2 c =
     let e = c .before .before in
     let s = e .before .before in
     refused-8 (units s) (table s) (repeated s) (p7 e) (sym (c .before .equal-ends .ensures) ∙ c .if2 .taken)
-
-repeated-requires : tie.Need-repeated-requires
-repeated-requires c κs = search needs
 
 returns-3 : tie.Need-returns-3
 returns-3 c =
@@ -66,10 +57,10 @@ pub ends-spec : {M : Type 1} → statement M
 ends-spec =
     tie.close
     (tie.spec
-    end-missing-requires
+    (λ c κs. search needs)  -- end-missing-requires
     returns
-    equal-ends-requires
+    (λ c κs. search needs)  -- equal-ends-requires
     returns-2
-    repeated-requires
+    (λ c κs. search needs)  -- repeated-requires
     returns-3
     returns-4)

@@ -18,9 +18,6 @@ returns c =
     let a = c .before .before .args in
     refused-15 (a .table .now) (a .levels .now) (rw (ne-eqb (length (a .levels .now)) (length (a .table .now) / 2) (c .if1 .taken)) refl)
 
-all-in-range-requires : tie.Need-all-in-range-requires
-all-in-range-requires c κs = search needs
-
 returns-2 : tie.Need-returns-2
 returns-2 c =
     let s = c .before .before in
@@ -34,4 +31,10 @@ returns-3 c =
     refused-16 (a .table .now) (a .levels .now) (p15 s) (sym (c .before .all-in-range .ensures) ∙ c .if2 .left)
 
 pub levelled-spec : {M : Type 1} → statement M
-levelled-spec = tie.close (tie.spec returns all-in-range-requires returns-2 returns-3)
+levelled-spec =
+    tie.close
+    (tie.spec
+    returns
+    (λ c κs. search needs)  -- all-in-range-requires
+    returns-2
+    returns-3)

@@ -11,9 +11,6 @@ use Rattle.table.proofs.refusal.Tie as tie
 none : (c : tie.Else1) → storedRefusal (c .before .before .before .args .units) (c .before .before .before .args .table .now) (c .before .before .before .args .levels .now) ≡ 0
 none c = sym (c .before .stored-refusal .ensures) ∙ c .if1 .left
 
-stored-refusal-requires : tie.Need-stored-refusal-requires
-stored-refusal-requires c κs = search needs
-
 returns : tie.Need-returns
 returns c =
     let a = c .before .before .before .args in
@@ -47,4 +44,12 @@ returns-4 c =
     as-linked (a .fresh) (a .units) (a .table .now) (a .levels .now) (not-false (a .fresh) (f .if2 .left)) (none e) (sym (c .before .unlinked .ensures) ∙ c .if3 .left)
 
 pub refusal-spec : {M : Type 1} → statement M
-refusal-spec = tie.close (tie.spec stored-refusal-requires returns returns-2 unlinked-requires returns-3 returns-4)
+refusal-spec =
+    tie.close
+    (tie.spec
+    (λ c κs. search needs)  -- stored-refusal-requires
+    returns
+    returns-2
+    unlinked-requires
+    returns-3
+    returns-4)

@@ -5,14 +5,13 @@ use Rattle.table.specs.MarkLaws.{found-blank}
 use Rattle.table.proofs.repeated.Statement.{statement}
 use Rattle.table.proofs.repeated.Tie as tie
 
-slice-aggregate-found : tie.Need-slice-aggregate-found
-slice-aggregate-found c = search needs
-
-found-requires : tie.Need-found-requires
-found-requires c κs = search needs
-
 returns : tie.Need-returns
 returns c h = c .before .found .ensures ∙ (let a = c .before .before .before .before .args in found-blank (a .ordered) 8192 refl (a .table .now) h)
 
 pub repeated-spec : {M : Type 1} → statement M
-repeated-spec = tie.close (tie.spec slice-aggregate-found found-requires returns)
+repeated-spec =
+    tie.close
+    (tie.spec
+    (λ c. search needs)  -- slice-aggregate-found
+    (λ c κs. search needs)  -- found-requires
+    returns)

@@ -13,17 +13,11 @@ passed : (s : tie.Else2)
     → levelRefusal (s .before .before .before .before .before .args .table .now) (s .before .before .before .before .before .args .levels .now) ≡ 0
 passed s = sym (s .before .levelled .ensures) ∙ s .if2 .left
 
-counts-requires : tie.Need-counts-requires
-counts-requires c κs = search needs
-
 returns : tie.Need-returns
 returns c =
     let a = c .before .before .before .args in
     let e = c .before .counts .ensures in
     e ∙ table-counts (a .units) (a .table .now) (a .levels .now) (λ z. c .if1 .taken (e ∙ z))
-
-levelled-requires : tie.Need-levelled-requires
-levelled-requires c κs = search needs
 
 returns-2 : tie.Need-returns-2
 returns-2 c =
@@ -45,4 +39,10 @@ returns-3 c =
 pub stored-refusal-spec : {M : Type 1} → statement M
 stored-refusal-spec =
     tie.close
-    (tie.spec counts-requires returns levelled-requires returns-2 ends-requires returns-3)
+    (tie.spec
+    (λ c κs. search needs)  -- counts-requires
+    returns
+    (λ c κs. search needs)  -- levelled-requires
+    returns-2
+    ends-requires
+    returns-3)

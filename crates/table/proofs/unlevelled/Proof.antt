@@ -9,9 +9,6 @@ use Rattle.table.proofs.unlevelled.Tie as tie
 counted : (s : tie.Else1) → countRefusal (s .before .before .before .args .units) (s .before .before .before .args .table .now) ≡ 0
 counted s = sym (s .before .counts .ensures) ∙ s .if1 .left
 
-counts-requires : tie.Need-counts-requires
-counts-requires c κs = search needs
-
 returns : tie.Need-returns
 returns c =
     let a = c .before .before .before .args in
@@ -29,4 +26,10 @@ returns-2 c =
     c .ends .ensures ∙ unlevelled-ends (a .units) (a .table .now) (a .ordered) (counted (c .before))
 
 pub unlevelled-spec : {M : Type 1} → statement M
-unlevelled-spec = tie.close (tie.spec counts-requires returns ends-requires returns-2)
+unlevelled-spec =
+    tie.close
+    (tie.spec
+    (λ c κs. search needs)  -- counts-requires
+    returns
+    ends-requires
+    returns-2)

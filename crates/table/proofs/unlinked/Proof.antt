@@ -8,18 +8,6 @@ use Rattle.table.proofs.unlinked.Tie as tie
 returns : tie.Need-returns
 returns c = let a = c .before .before .args in alone-linked (a .units) (a .table .now) (c .if1 .taken)
 
-slice-aggregate-mark-ends : tie.Need-slice-aggregate-mark-ends
-slice-aggregate-mark-ends c = search needs
-
-mark-ends-requires : tie.Need-mark-ends-requires
-mark-ends-requires c κs = search needs
-
-slice-aggregate-some-blank : tie.Need-slice-aggregate-some-blank
-slice-aggregate-some-blank c = search needs
-
-some-blank-requires : tie.Need-some-blank-requires
-some-blank-requires c κs = search needs
-
 returns-2 : tie.Need-returns-2
 returns-2 c =
     let m = c .before .before .before in
@@ -32,8 +20,8 @@ unlinked-spec =
     tie.close
     (tie.spec
     returns
-    slice-aggregate-mark-ends
-    mark-ends-requires
-    slice-aggregate-some-blank
-    some-blank-requires
+    (λ c. search needs)  -- slice-aggregate-mark-ends
+    (λ c κs. search needs)  -- mark-ends-requires
+    (λ c. search needs)  -- slice-aggregate-some-blank
+    (λ c κs. search needs)  -- some-blank-requires
     returns-2)

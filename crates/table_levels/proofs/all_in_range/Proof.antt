@@ -22,24 +22,6 @@ abbrev μ-loop : tie.MeasureT-loop
 loop-holds : tie.Need-loop-holds Inv-loop μ-loop
 loop-holds c = (search needs, refl)
 
-mul-level : tie.Need-mul-level Inv-loop μ-loop
-mul-level c = search needs
-
-shared-slice-copy-out-level : tie.Need-shared-slice-copy-out-level Inv-loop μ-loop
-shared-slice-copy-out-level c = search needs
-
-in-range-requires : tie.Need-in-range-requires Inv-loop μ-loop
-in-range-requires c κs = search needs
-
-both-requires : tie.Need-both-requires Inv-loop μ-loop
-both-requires c κs = search needs
-
-add-i : tie.Need-add-i Inv-loop μ-loop
-add-i c = search needs
-
-loop-less : tie.Need-loop-less Inv-loop μ-loop
-loop-less c = search needs
-
 loop-again : tie.Need-loop-again Inv-loop μ-loop
 loop-again c =
     let s = c .before .before .before .before in
@@ -62,11 +44,11 @@ all-in-range-spec =
     Inv-loop
     μ-loop
     loop-holds
-    mul-level
-    shared-slice-copy-out-level
-    in-range-requires
-    both-requires
-    add-i
-    loop-less
+    (λ c. search needs)  -- mul-level
+    (λ c. search needs)  -- shared-slice-copy-out-level
+    (λ c κs. search needs)  -- in-range-requires
+    (λ c κs. search needs)  -- both-requires
+    (λ c. search needs)  -- add-i
+    (λ c. search needs)  -- loop-less
     loop-again
     returns)

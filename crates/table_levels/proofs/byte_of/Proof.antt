@@ -8,16 +8,15 @@ use Rattle.table_levels.specs.LevelLaws.{raised-byte}
 use Rattle.table_levels.proofs.byte_of.Statement.{statement}
 use Rattle.table_levels.proofs.byte_of.Tie as tie
 
-raised-requires : tie.Need-raised-requires
-raised-requires c κs = search needs
-
-cast-result : tie.Need-cast-result
-cast-result c = search needs
-
 returns : tie.Need-returns
 returns c =
     let z = c .before .args .level in
     rw (c .raised .ensures ∙ ap raisedOf (toZ-ofZ w16 z (c .before .fits .level))) (raised-byte z (c .before .fits .level .sfits))
 
 pub byte-of-spec : {M : Type 1} → statement M
-byte-of-spec = tie.close (tie.spec raised-requires cast-result returns)
+byte-of-spec =
+    tie.close
+    (tie.spec
+    (λ c κs. search needs)  -- raised-requires
+    (λ c. search needs)  -- cast-result
+    returns)

@@ -28,27 +28,6 @@ abbrev μ-loop : tie.MeasureT-loop
 loop-holds : tie.Need-loop-holds Inv-loop μ-loop
 loop-holds c = (omega arith, refl, none-words (c .before .args .words .now), back-none (c .before .args .levels .now))
 
-mul-level : tie.Need-mul-level Inv-loop μ-loop
-mul-level c = search needs
-
-shared-slice-copy-out-level : tie.Need-shared-slice-copy-out-level Inv-loop μ-loop
-shared-slice-copy-out-level c = search needs
-
-word-of-requires : tie.Need-word-of-requires Inv-loop μ-loop
-word-of-requires c κs = search needs
-
-mul-words : tie.Need-mul-words Inv-loop μ-loop
-mul-words c = search needs
-
-slice-write-words : tie.Need-slice-write-words Inv-loop μ-loop
-slice-write-words c = search needs
-
-add-i : tie.Need-add-i Inv-loop μ-loop
-add-i c = search needs
-
-loop-less : tie.Need-loop-less Inv-loop μ-loop
-loop-less c = search needs
-
 loop-again : tie.Need-loop-again Inv-loop μ-loop
 loop-again c =
     let l = c .before .before .before in
@@ -63,9 +42,6 @@ loop-again c =
       rw (l .loop .inv .2) (words-next ls (s .args .words .now) i (c .word-of .result) w h (s .pre)),
       back-next ls i h f (l .loop .inv .3),
     )
-
-same-length : tie.Need-same-length Inv-loop μ-loop
-same-length c = search needs
 
 returns : tie.Need-returns Inv-loop μ-loop
 returns c =
@@ -84,13 +60,13 @@ lay-spec =
     Inv-loop
     μ-loop
     loop-holds
-    mul-level
-    shared-slice-copy-out-level
-    word-of-requires
-    mul-words
-    slice-write-words
-    add-i
-    loop-less
+    (λ c. search needs)  -- mul-level
+    (λ c. search needs)  -- shared-slice-copy-out-level
+    (λ c κs. search needs)  -- word-of-requires
+    (λ c. search needs)  -- mul-words
+    (λ c. search needs)  -- slice-write-words
+    (λ c. search needs)  -- add-i
+    (λ c. search needs)  -- loop-less
     loop-again
-    same-length
+    (λ c. search needs)  -- same-length
     returns)

@@ -12,12 +12,6 @@ use Rattle.table_levels.specs.LevelLaws.{signed-few, lower-sum, signed-f
 use Rattle.table_levels.proofs.of_byte.Statement.{statement}
 use Rattle.table_levels.proofs.of_byte.Tie as tie
 
-cast-result : tie.Need-cast-result
-cast-result c = search needs
-
-cast-result-2 : tie.Need-cast-result-2
-cast-result-2 c = search needs
-
 -- a byte as a level
 read : (c : tie.Start) → toZ w16 (c .args .b) ≡ pos (c .args .b)
 read c = toZ-ofZ w16 (pos (c .args .b)) (record { sfits = omega (arith, c .fits .b .fits) })
@@ -38,4 +32,11 @@ returns-2 : tie.Need-returns-2
 returns-2 c = toZ-ofZ w16 _ (sub-result c) ∙ difference c
 
 pub of-byte-spec : {M : Type 1} → statement M
-of-byte-spec = tie.close (tie.spec cast-result cast-result-2 sub-result returns returns-2)
+of-byte-spec =
+    tie.close
+    (tie.spec
+    (λ c. search needs)  -- cast-result
+    (λ c. search needs)  -- cast-result-2
+    sub-result
+    returns
+    returns-2)

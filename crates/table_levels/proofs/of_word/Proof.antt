@@ -12,12 +12,6 @@ use Rattle.table_levels.specs.LevelLaws.{signed-few, lower-sum, signed-f
 use Rattle.table_levels.proofs.of_word.Statement.{statement}
 use Rattle.table_levels.proofs.of_word.Tie as tie
 
-cast-result : tie.Need-cast-result
-cast-result c = search needs
-
-cast-result-2 : tie.Need-cast-result-2
-cast-result-2 c = search needs
-
 difference : (c : tie.Else1) → toZ w32 (c .before .args .w) -ℤ pos 65536 ≡ signed 65536 (c .before .args .w)
 difference c =
     ap (λ (z : ℤ). z -ℤ pos 65536) (toZ-ofZ w32 (pos (c .before .args .w)) (record { sfits = omega (arith, c .before .fits .w .fits) }))
@@ -43,4 +37,12 @@ returns-2 : tie.Need-returns-2
 returns-2 c = toZ-ofZ w16 _ (cast-result-3 c) ∙ back c
 
 pub of-word-spec : {M : Type 1} → statement M
-of-word-spec = tie.close (tie.spec cast-result cast-result-2 sub-result cast-result-3 returns returns-2)
+of-word-spec =
+    tie.close
+    (tie.spec
+    (λ c. search needs)  -- cast-result
+    (λ c. search needs)  -- cast-result-2
+    sub-result
+    cast-result-3
+    returns
+    returns-2)

@@ -3,12 +3,6 @@ use borrow.Author.Needs.{needs}
 use Rattle.table_values.proofs.op_of.Statement.{statement}
 use Rattle.table_values.proofs.op_of.Tie as tie
 
-greatest-of-requires : tie.Need-greatest-of-requires
-greatest-of-requires c κs = search needs
-
-least-of-requires : tie.Need-least-of-requires
-least-of-requires c κs = search needs
-
 returns : tie.Need-returns
 returns c = rw (c .before .if1 .taken) (c .greatest-of .ensures)
 
@@ -16,4 +10,10 @@ returns-2 : tie.Need-returns-2
 returns-2 c = rw (c .before .if1 .left) (c .least-of .ensures)
 
 pub op-of-spec : {M : Type 1} → statement M
-op-of-spec = tie.close (tie.spec greatest-of-requires least-of-requires returns returns-2)
+op-of-spec =
+    tie.close
+    (tie.spec
+    (λ c κs. search needs)  -- greatest-of-requires
+    (λ c κs. search needs)  -- least-of-requires
+    returns
+    returns-2)

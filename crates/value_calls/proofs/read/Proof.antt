@@ -7,17 +7,8 @@ use Rattle.survey.specs.View.{of}
 use Rattle.value_calls.proofs.read.Statement.{statement}
 use Rattle.value_calls.proofs.read.Tie as tie
 
-read-requires : tie.Need-read-requires
-read-requires c κs = search needs
-
 read-reply-requires : tie.Need-read-reply-requires
 read-reply-requires c κs = tt
-
-same-length : tie.Need-same-length
-same-length c = search needs
-
-same-length-2 : tie.Need-same-length-2
-same-length-2 c = search needs
 
 returns : tie.Need-returns
 returns c =
@@ -29,4 +20,9 @@ returns c =
 
 pub read-spec : {M : Type 1} → statement M
 read-spec =
-    tie.close (tie.spec read-requires read-reply-requires same-length same-length-2 returns)
+    tie.close (tie.spec
+    (λ c κs. search needs)  -- read-requires
+    read-reply-requires
+    (λ c. search needs)  -- same-length
+    (λ c. search needs)  -- same-length-2
+    returns)

@@ -11,15 +11,9 @@ use borrow.Author.Needs.{needs}
 use Rattle.value_calls.proofs.report.Statement.{statement}
 use Rattle.value_calls.proofs.report.Tie as tie
 
-well-formed-requires : tie.Need-well-formed-requires
-well-formed-requires c κs = search needs
-
 -- the refusal is the report's
 told : (r : tie.After-report-refusal) → r .report-refusal .result ≡ reportRefusal (of (r .before .before .before .args .t1)) (length (r .before .before .before .args .out .now))
 told r = report-told (of (r .before .before .before .args .t1)) _ _ _ (r .before .well-formed .ensures) (r .report-refusal .ensures)
-
-report-refusal-requires : tie.Need-report-refusal-requires
-report-refusal-requires c κs = search needs
 
 returns : tie.Need-returns
 unfolding reportAnswer reported
@@ -27,30 +21,6 @@ returns c =
     let a = c .before .before .before .before .args in
     let r = c .before .report-refusal in
     (answered-refused _ (r .result) (of (a .t1)) _ _ (told (c .before)) (c .if1 .taken), written-refused _ (report (of (a .t1))) (a .out .now) (λ z. c .if1 .taken (told (c .before) ∙ z)))
-
-cast-length : tie.Need-cast-length
-cast-length c = search needs
-
-mul-length : tie.Need-mul-length
-mul-length c = search needs
-
-add-length : tie.Need-add-length
-add-length c = search needs
-
-cast-length-2 : tie.Need-cast-length-2
-cast-length-2 c = search needs
-
-mul-length-2 : tie.Need-mul-length-2
-mul-length-2 c = search needs
-
-add-length-2 : tie.Need-add-length-2
-add-length-2 c = search needs
-
-report-lines-requires : tie.Need-report-lines-requires
-report-lines-requires c κs = search needs
-
-same-length : tie.Need-same-length
-same-length c = search needs
 
 returns-2 : tie.Need-returns-2
 unfolding reportAnswer
@@ -63,15 +33,15 @@ pub report-spec : {M : Type 1} → statement M
 report-spec =
     tie.close
     (tie.spec
-    well-formed-requires
-    report-refusal-requires
+    (λ c κs. search needs)  -- well-formed-requires
+    (λ c κs. search needs)  -- report-refusal-requires
     returns
-    cast-length
-    mul-length
-    add-length
-    cast-length-2
-    mul-length-2
-    add-length-2
-    report-lines-requires
-    same-length
+    (λ c. search needs)  -- cast-length
+    (λ c. search needs)  -- mul-length
+    (λ c. search needs)  -- add-length
+    (λ c. search needs)  -- cast-length-2
+    (λ c. search needs)  -- mul-length-2
+    (λ c. search needs)  -- add-length-2
+    (λ c κs. search needs)  -- report-lines-requires
+    (λ c. search needs)  -- same-length
     returns-2)

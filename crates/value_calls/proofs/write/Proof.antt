@@ -7,14 +7,8 @@ use Rattle.survey.specs.View.{of}
 use Rattle.value_calls.proofs.write.Statement.{statement}
 use Rattle.value_calls.proofs.write.Tie as tie
 
-write-requires : tie.Need-write-requires
-write-requires c κs = search needs
-
 write-reply-requires : tie.Need-write-reply-requires
 write-reply-requires c κs = tt
-
-same-length : tie.Need-same-length
-same-length c = search needs
 
 returns : tie.Need-returns
 returns c =
@@ -24,4 +18,10 @@ returns c =
     (writing-told s (w .write .result) (c .write-reply .ensures) ∙ ap (writingAnswer s) (w .write .ensures .0) ∙ write-answer (record { units = a .units; words = a .words .now; levels = a .levels .now }) (length (a .out .now)) s, w .write .ensures .1 .0)
 
 pub write-spec : {M : Type 1} → statement M
-write-spec = tie.close (tie.spec write-requires write-reply-requires same-length returns)
+write-spec =
+    tie.close
+    (tie.spec
+    (λ c κs. search needs)  -- write-requires
+    write-reply-requires
+    (λ c. search needs)  -- same-length
+    returns)

@@ -5,12 +5,6 @@ use Rattle.value_calls.specs.FileAnswers.{writingReply}
 use Rattle.value_calls.proofs.write_reply.Statement.{statement}
 use Rattle.value_calls.proofs.write_reply.Tie as tie
 
-enum-known-done : tie.Need-enum-known-done
-enum-known-done c = search needs
-
-enum-known-done-2 : tie.Need-enum-known-done-2
-enum-known-done-2 c = search needs
-
 returns : tie.Need-returns
 returns c = ap writingReply (sym (c .before .done .given .1))
 
@@ -18,4 +12,10 @@ returns-2 : tie.Need-returns-2
 returns-2 c = ap writingReply (sym (c .before .done2 .given .1))
 
 pub write-reply-spec : {M : Type 1} → statement M
-write-reply-spec = tie.close (tie.spec enum-known-done enum-known-done-2 returns returns-2)
+write-reply-spec =
+    tie.close
+    (tie.spec
+    (λ c. search needs)  -- enum-known-done
+    (λ c. search needs)  -- enum-known-done-2
+    returns
+    returns-2)

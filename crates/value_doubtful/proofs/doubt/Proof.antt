@@ -8,24 +8,12 @@ use borrow.Author.Needs.{needs}
 use Rattle.value_doubtful.proofs.doubt.Statement.{statement}
 use Rattle.value_doubtful.proofs.doubt.Tie as tie
 
-cast-differ : tie.Need-cast-differ
-cast-differ c = search needs
-
-well-formed-requires : tie.Need-well-formed-requires
-well-formed-requires c κs = search needs
-
-two-links-requires : tie.Need-two-links-requires
-two-links-requires c κs = search needs
-
 returns : tie.Need-returns
 unfolding doubtRefusal
 returns c =
     let t = c .before in
     let a = t .before .before .before .args in
     doubt-refused (a .first) (a .second) (a .marks .now) (of (a .t1)) (t .two-links .result) (rw (t .before .well-formed .ensures) at (t .two-links .ensures)) (c .if1 .taken)
-
-judged-requires : tie.Need-judged-requires
-judged-requires c κs = search needs
 
 returns-2 : tie.Need-returns-2
 unfolding doubtRefusal
@@ -36,4 +24,12 @@ returns-2 c =
     doubt-told (a .first) (a .second) (a .marks .now) (of (a .t1)) (c .judged .result) (sym (rw (i .before .before .well-formed .ensures) at (i .before .two-links .ensures)) ∙ i .if1 .left) long (c .judged .ensures .0) (c .judged .ensures .1)
 
 pub doubt-spec : {M : Type 1} → statement M
-doubt-spec = tie.close (tie.spec cast-differ well-formed-requires two-links-requires returns judged-requires returns-2)
+doubt-spec =
+    tie.close
+    (tie.spec
+    (λ c. search needs)  -- cast-differ
+    (λ c κs. search needs)  -- well-formed-requires
+    (λ c κs. search needs)  -- two-links-requires
+    returns
+    (λ c κs. search needs)  -- judged-requires
+    returns-2)

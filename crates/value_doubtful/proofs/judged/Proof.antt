@@ -5,23 +5,11 @@ use borrow.Author.Needs.{needs}
 use Rattle.value_doubtful.proofs.judged.Statement.{statement}
 use Rattle.value_doubtful.proofs.judged.Tie as tie
 
-ringed-requires : tie.Need-ringed-requires
-ringed-requires c κs = search needs
-
 returns : tie.Need-returns
 returns c =
     let x = c .before in
     let a = x .before .before .before .args in
     (refl, told-always (a .units) (a .links) (a .ends .now) (a .first) (a .second) (a .marks .now) (x .ringed .result) (x .ringed .ensures) (c .if1 .taken))
-
-unmarked-requires : tie.Need-unmarked-requires
-unmarked-requires c κs = search needs
-
-slice-aggregate-ringed : tie.Need-slice-aggregate-ringed
-slice-aggregate-ringed c = search needs
-
-ringed-requires-2 : tie.Need-ringed-requires-2
-ringed-requires-2 c κs = search needs
 
 returns-2 : tie.Need-returns-2
 returns-2 c =
@@ -43,10 +31,10 @@ pub judged-spec : {M : Type 1} → statement M
 judged-spec =
     tie.close
     (tie.spec
-    ringed-requires
+    (λ c κs. search needs)  -- ringed-requires
     returns
-    unmarked-requires
-    slice-aggregate-ringed
-    ringed-requires-2
+    (λ c κs. search needs)  -- unmarked-requires
+    (λ c. search needs)  -- slice-aggregate-ringed
+    (λ c κs. search needs)  -- ringed-requires-2
     returns-2
     returns-3)

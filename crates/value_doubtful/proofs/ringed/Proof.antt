@@ -5,15 +5,6 @@ use borrow.Author.Needs.{needs}
 use Rattle.value_doubtful.proofs.ringed.Statement.{statement}
 use Rattle.value_doubtful.proofs.ringed.Tie as tie
 
-zeros-requires : tie.Need-zeros-requires
-zeros-requires c κs = search needs
-
-slice-aggregate-ring : tie.Need-slice-aggregate-ring
-slice-aggregate-ring c = search needs
-
-ring-requires : tie.Need-ring-requires
-ring-requires c κs = search needs
-
 returns : tie.Need-returns
 returns c =
     let x = c .before in
@@ -22,4 +13,10 @@ returns c =
     ringed-told (a .units) (a .links) (a .ends .now) (a .first) (a .second) (sure (a .marks .now)) (z .zeros .result) (x .ring .last .1 .1 .1 .1 .1 .1 .0) (x .ring .result) (search (z .zeros .ok, needs)) (x .ring .ensures)
 
 pub ringed-spec : {M : Type 1} → statement M
-ringed-spec = tie.close (tie.spec zeros-requires slice-aggregate-ring ring-requires returns)
+ringed-spec =
+    tie.close
+    (tie.spec
+    (λ c κs. search needs)  -- zeros-requires
+    (λ c. search needs)  -- slice-aggregate-ring
+    (λ c κs. search needs)  -- ring-requires
+    returns)

@@ -8,9 +8,6 @@ use borrow.Author.Needs.{needs}
 use Rattle.value_handsets.proofs.shown.Statement.{statement}
 use Rattle.value_handsets.proofs.shown.Tie as tie
 
-well-formed-requires : tie.Need-well-formed-requires
-well-formed-requires c κs = search needs
-
 returns : tie.Need-returns
 returns c =
     let w = c .before in
@@ -19,12 +16,6 @@ returns c =
 
 status-of-requires : tie.Need-status-of-requires
 status-of-requires c κs = sym (c .before .well-formed .ensures) ∙ not-false _ (c .if1 .left)
-
-write-requires : tie.Need-write-requires
-write-requires c κs = search needs
-
-same-length : tie.Need-same-length
-same-length c = search needs
 
 returns-2 : tie.Need-returns-2
 returns-2 c =
@@ -37,9 +28,6 @@ returns-2 c =
 
 length-requires : tie.Need-length-requires
 length-requires c κs = tt
-
-same-length-2 : tie.Need-same-length-2
-same-length-2 c = search needs
 
 returns-3 : tie.Need-returns-3
 returns-3 c =
@@ -54,12 +42,12 @@ pub shown-spec : {M : Type 1} → statement M
 shown-spec =
     tie.close
     (tie.spec
-    well-formed-requires
+    (λ c κs. search needs)  -- well-formed-requires
     returns
     status-of-requires
-    write-requires
-    same-length
+    (λ c κs. search needs)  -- write-requires
+    (λ c. search needs)  -- same-length
     returns-2
     length-requires
-    same-length-2
+    (λ c. search needs)  -- same-length-2
     returns-3)

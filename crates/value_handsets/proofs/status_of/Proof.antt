@@ -6,13 +6,14 @@ use borrow.Author.Needs.{needs}
 use Rattle.value_handsets.proofs.status_of.Statement.{statement}
 use Rattle.value_handsets.proofs.status_of.Tie as tie
 
-countdown-requires : tie.Need-countdown-requires
-countdown-requires c κs = search needs
-
 returns : tie.Need-returns
 returns c =
     let start = c .before .before in
     rw (c .countdown .ensures ∙ kept-countdown (of (start .args .s)) (start .pre)) refl
 
 pub status-of-spec : {M : Type 1} → statement M
-status-of-spec = tie.close (tie.spec countdown-requires returns)
+status-of-spec =
+    tie.close
+    (tie.spec
+    (λ c κs. search needs)  -- countdown-requires
+    returns)

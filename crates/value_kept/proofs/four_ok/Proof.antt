@@ -4,17 +4,14 @@ use borrow.Author.Needs.{needs}
 use Rattle.value_kept.proofs.four_ok.Statement.{statement}
 use Rattle.value_kept.proofs.four_ok.Tie as tie
 
-within-requires : tie.Need-within-requires
-within-requires c κs = search needs
-
-three-ok-requires : tie.Need-three-ok-requires
-three-ok-requires c κs = search needs
-
-both-requires : tie.Need-both-requires
-both-requires c κs = search needs
-
 returns : tie.Need-returns
 returns c = λ p tells. rw (c .both .ensures, c .before .before .within .ensures p tells, c .before .three-ok .ensures p tells) refl
 
 pub four-ok-spec : {M : Type 1} → statement M
-four-ok-spec = tie.close (tie.spec within-requires three-ok-requires both-requires returns)
+four-ok-spec =
+    tie.close
+    (tie.spec
+    (λ c κs. search needs)  -- within-requires
+    (λ c κs. search needs)  -- three-ok-requires
+    (λ c κs. search needs)  -- both-requires
+    returns)

@@ -14,83 +14,8 @@ the s =
     let a = s .args in
     record { table = record { units = a .units; links = a .links; ends = a .ends .now; levels = a .levels .now }; clock = a .clock; components = record { color = a .color .now }; plan = record { given = a .given; parent = a .plan .now }; tree = record { parent = a .parent .now; dist = a .dist .now }; tour = record { next = a .next .now; pred = a .pred .now }; ranking = record { jump = a .jump .now; sum = a .sum .now }; order = record { forward = a .forward .now; nd = a .nd .now; pre = a .pre .now }; range = record { low = a .low .now; high = a .high .now; little = a .little .now; big = a .big .now }; global = record { low = a .least .now; high = a .greatest .now }; aux = record { parents = a .parents .now; links = a .linked .now; color = a .classes .now }; labels = record { class = a .class .now; label = a .label .now } }
 
-front-ok-requires : tie.Need-front-ok-requires
-front-ok-requires c κs = search needs
-
 returns : tie.Need-returns
 returns c = sym (kept-front (the (c .before .before .before)) (sym (c .before .front-ok .ensures) ∙ not-true _ (c .if1 .taken)))
-
-names-requires : tie.Need-names-requires
-names-requires c κs = search needs
-
-within-requires : tie.Need-within-requires
-within-requires c κs = search needs
-
-within-requires-2 : tie.Need-within-requires-2
-within-requires-2 c κs = search needs
-
-four-ok-requires : tie.Need-four-ok-requires
-four-ok-requires c κs = search needs
-
-both-requires : tie.Need-both-requires
-both-requires c κs = search needs
-
-mul-names : tie.Need-mul-names
-mul-names c = search needs
-
-names-requires-2 : tie.Need-names-requires-2
-names-requires-2 c κs = search needs
-
-three-ok-requires : tie.Need-three-ok-requires
-three-ok-requires c κs = search needs
-
-names-ok-requires : tie.Need-names-ok-requires
-names-ok-requires c κs = search needs
-
-dists-ok-requires : tie.Need-dists-ok-requires
-dists-ok-requires c κs = search needs
-
-numbers-requires : tie.Need-numbers-requires
-numbers-requires c κs = search needs
-
-four-ok-requires-2 : tie.Need-four-ok-requires-2
-four-ok-requires-2 c κs = search needs
-
-four-ok-requires-3 : tie.Need-four-ok-requires-3
-four-ok-requires-3 c κs = search needs
-
-four-ok-requires-4 : tie.Need-four-ok-requires-4
-four-ok-requires-4 c κs = search needs
-
-all-in-range-requires : tie.Need-all-in-range-requires
-all-in-range-requires c κs = search needs
-
-both-requires-2 : tie.Need-both-requires-2
-both-requires-2 c κs = search needs
-
-both-requires-3 : tie.Need-both-requires-3
-both-requires-3 c κs = search needs
-
-both-requires-4 : tie.Need-both-requires-4
-both-requires-4 c κs = search needs
-
-both-requires-5 : tie.Need-both-requires-5
-both-requires-5 c κs = search needs
-
-both-requires-6 : tie.Need-both-requires-6
-both-requires-6 c κs = search needs
-
-both-requires-7 : tie.Need-both-requires-7
-both-requires-7 c κs = search needs
-
-both-requires-8 : tie.Need-both-requires-8
-both-requires-8 c κs = search needs
-
-both-requires-9 : tie.Need-both-requires-9
-both-requires-9 c κs = search needs
-
-both-requires-10 : tie.Need-both-requires-10
-both-requires-10 c κs = search needs
 
 returns-2 : tie.Need-returns-2
 returns-2 c =
@@ -120,30 +45,30 @@ pub kept-spec : {M : Type 1} → statement M
 kept-spec =
     tie.close
     (tie.spec
-    front-ok-requires
+    (λ c κs. search needs)  -- front-ok-requires
     returns
-    names-requires
-    within-requires
-    within-requires-2
-    four-ok-requires
-    both-requires
-    mul-names
-    names-requires-2
-    three-ok-requires
-    names-ok-requires
-    dists-ok-requires
-    numbers-requires
-    four-ok-requires-2
-    four-ok-requires-3
-    four-ok-requires-4
-    all-in-range-requires
-    both-requires-2
-    both-requires-3
-    both-requires-4
-    both-requires-5
-    both-requires-6
-    both-requires-7
-    both-requires-8
-    both-requires-9
-    both-requires-10
+    (λ c κs. search needs)  -- names-requires
+    (λ c κs. search needs)  -- within-requires
+    (λ c κs. search needs)  -- within-requires-2
+    (λ c κs. search needs)  -- four-ok-requires
+    (λ c κs. search needs)  -- both-requires
+    (λ c. search needs)  -- mul-names
+    (λ c κs. search needs)  -- names-requires-2
+    (λ c κs. search needs)  -- three-ok-requires
+    (λ c κs. search needs)  -- names-ok-requires
+    (λ c κs. search needs)  -- dists-ok-requires
+    (λ c κs. search needs)  -- numbers-requires
+    (λ c κs. search needs)  -- four-ok-requires-2
+    (λ c κs. search needs)  -- four-ok-requires-3
+    (λ c κs. search needs)  -- four-ok-requires-4
+    (λ c κs. search needs)  -- all-in-range-requires
+    (λ c κs. search needs)  -- both-requires-2
+    (λ c κs. search needs)  -- both-requires-3
+    (λ c κs. search needs)  -- both-requires-4
+    (λ c κs. search needs)  -- both-requires-5
+    (λ c κs. search needs)  -- both-requires-6
+    (λ c κs. search needs)  -- both-requires-7
+    (λ c κs. search needs)  -- both-requires-8
+    (λ c κs. search needs)  -- both-requires-9
+    (λ c κs. search needs)  -- both-requires-10
     returns-2)

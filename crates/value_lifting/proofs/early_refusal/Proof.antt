@@ -7,9 +7,6 @@ use borrow.Author.Needs.{needs}
 use Rattle.value_lifting.proofs.early_refusal.Statement.{statement}
 use Rattle.value_lifting.proofs.early_refusal.Tie as tie
 
-well-formed-requires : tie.Need-well-formed-requires
-well-formed-requires c κs = search needs
-
 returns : tie.Need-returns
 returns c =
     let w = c .before in
@@ -26,4 +23,10 @@ returns-3 c =
     early-none (of (w .before .args .s)) (sym (w .well-formed .ensures) ∙ not-false _ (c .before .before .if1 .left)) (c .if2 .left)
 
 pub early-refusal-spec : {M : Type 1} → statement M
-early-refusal-spec = tie.close (tie.spec well-formed-requires returns returns-2 returns-3)
+early-refusal-spec =
+    tie.close
+    (tie.spec
+    (λ c κs. search needs)  -- well-formed-requires
+    returns
+    returns-2
+    returns-3)

@@ -24,45 +24,6 @@ abbrev μ-loop : tie.MeasureT-loop
 loop-holds : tie.Need-loop-holds Inv-loop μ-loop
 loop-holds c = (c .before .before .before .good .1 .0 .1, omega arith, refl, refl, refl)
 
-mul-word : tie.Need-mul-word Inv-loop μ-loop
-mul-word c = search needs
-
-word-requires : tie.Need-word-requires Inv-loop μ-loop
-word-requires c κs = search needs
-
-mul-word-2 : tie.Need-mul-word-2 Inv-loop μ-loop
-mul-word-2 c = search needs
-
-add-word : tie.Need-add-word Inv-loop μ-loop
-add-word c = search needs
-
-word-requires-2 : tie.Need-word-requires-2 Inv-loop μ-loop
-word-requires-2 c κs = search needs
-
-mul-word-3 : tie.Need-mul-word-3 Inv-loop μ-loop
-mul-word-3 c = search needs
-
-add-word-2 : tie.Need-add-word-2 Inv-loop μ-loop
-add-word-2 c = search needs
-
-word-requires-3 : tie.Need-word-requires-3 Inv-loop μ-loop
-word-requires-3 c κs = search needs
-
-call-requires : tie.Need-call-requires Inv-loop μ-loop
-call-requires c κs = search needs
-
-mul-store : tie.Need-mul-store Inv-loop μ-loop
-mul-store c = search needs
-
-store-requires : tie.Need-store-requires Inv-loop μ-loop
-store-requires c κs = search needs
-
-add-i : tie.Need-add-i Inv-loop μ-loop
-add-i c = search needs
-
-loop-less : tie.Need-loop-less Inv-loop μ-loop
-loop-less c = search needs
-
 loop-again : tie.Need-loop-again Inv-loop μ-loop
 loop-again c =
     let l = c .before .before .before .before .before .before .before .before .before .before .before .before .before in
@@ -75,12 +36,6 @@ loop-again c =
     let made =
     call-made (drop (3 * (w .i + 1)) (a .calls .now)) (w .i) _ _ _ (of (w .s)) (w .replies) (w .out) _ _ _ (answerOf (m .result)) _ _ (c .before .before .before .before .before .before .before .before .before .before .before .word .ensures) (c .before .before .before .before .before .before .before .before .before .before .word2 .ensures) (c .before .before .before .before .before .before .before .before .before .word3 .ensures) (m .ensures .0) (t .ensures) (m .ensures .1) in
     (w .inv .0, search needs, search needs, search needs, w .inv .4 ∙ next ∙ made)
-
-same-length : tie.Need-same-length Inv-loop μ-loop
-same-length c = search needs
-
-same-length-2 : tie.Need-same-length-2 Inv-loop μ-loop
-same-length-2 c = search needs
 
 returns : tie.Need-returns Inv-loop μ-loop
 returns c =
@@ -96,20 +51,20 @@ play-spec =
     Inv-loop
     μ-loop
     loop-holds
-    mul-word
-    word-requires
-    mul-word-2
-    add-word
-    word-requires-2
-    mul-word-3
-    add-word-2
-    word-requires-3
-    call-requires
-    mul-store
-    store-requires
-    add-i
-    loop-less
+    (λ c. search needs)  -- mul-word
+    (λ c κs. search needs)  -- word-requires
+    (λ c. search needs)  -- mul-word-2
+    (λ c. search needs)  -- add-word
+    (λ c κs. search needs)  -- word-requires-2
+    (λ c. search needs)  -- mul-word-3
+    (λ c. search needs)  -- add-word-2
+    (λ c κs. search needs)  -- word-requires-3
+    (λ c κs. search needs)  -- call-requires
+    (λ c. search needs)  -- mul-store
+    (λ c κs. search needs)  -- store-requires
+    (λ c. search needs)  -- add-i
+    (λ c. search needs)  -- loop-less
     loop-again
-    same-length
-    same-length-2
+    (λ c. search needs)  -- same-length
+    (λ c. search needs)  -- same-length-2
     returns)

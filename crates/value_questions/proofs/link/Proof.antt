@@ -6,17 +6,11 @@ use Rattle.spec_machine.specs.AnswerLaws.{answered-refused, answered-made}
 use Rattle.value_questions.proofs.link.Statement.{statement}
 use Rattle.value_questions.proofs.link.Tie as tie
 
-question-refusal-requires : tie.Need-question-refusal-requires
-question-refusal-requires c κs = search needs
-
 returns : tie.Need-returns
 unfolding linkAnswer linkRefusal
 returns c =
     let r = c .before .question-refusal in
     answered-refused _ (r .result) _ _ _ (r .ensures) (c .if1 .taken)
-
-link-reply-requires : tie.Need-link-reply-requires
-link-reply-requires c κs = search needs
 
 returns-2 : tie.Need-returns-2
 unfolding linkAnswer linkRefusal
@@ -25,4 +19,10 @@ returns-2 c =
     rw (c .link-reply .ensures) (answered-made _ _ _ _ (sym (r .ensures) ∙ c .before .if1 .left))
 
 pub link-spec : {M : Type 1} → statement M
-link-spec = tie.close (tie.spec question-refusal-requires returns link-reply-requires returns-2)
+link-spec =
+    tie.close
+    (tie.spec
+    (λ c κs. search needs)  -- question-refusal-requires
+    returns
+    (λ c κs. search needs)  -- link-reply-requires
+    returns-2)

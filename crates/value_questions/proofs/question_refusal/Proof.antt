@@ -7,9 +7,6 @@ use Rattle.report_write.specs.AskLaws.{question-malformed, question-early, ques
 use Rattle.value_questions.proofs.question_refusal.Statement.{statement}
 use Rattle.value_questions.proofs.question_refusal.Tie as tie
 
-well-formed-requires : tie.Need-well-formed-requires
-well-formed-requires c κs = search needs
-
 returns : tie.Need-returns
 returns c =
     let w = c .before in
@@ -31,4 +28,11 @@ returns-4 c =
     question-missing (of (w .before .args .s)) _ (sym (w .well-formed .ensures) ∙ not-false _ (c .before .before .before .if1 .left)) (c .before .if2 .left) (c .if3 .left)
 
 pub question-refusal-spec : {M : Type 1} → statement M
-question-refusal-spec = tie.close (tie.spec well-formed-requires returns returns-2 returns-3 returns-4)
+question-refusal-spec =
+    tie.close
+    (tie.spec
+    (λ c κs. search needs)  -- well-formed-requires
+    returns
+    returns-2
+    returns-3
+    returns-4)

@@ -33,49 +33,16 @@ ended r =
     (ap (λ (a : Answer). a .state) (r .before .before .before .before .load-stored .ensures))
     (ap (λ (a : Answer). a .state) (r .run .ensures))
 
-refusal-requires : tie.Need-refusal-requires
-refusal-requires c κs = search needs
-
-same-length : tie.Need-same-length
-same-length c = search needs
-
 returns : tie.Need-returns
 returns c =
     let r = c .before .before .refusal in
     rw (read-refused _ _ (c .before .before .before .before .if1 .taken)) (r .ensures .0, r .ensures .1)
-
-new-requires : tie.Need-new-requires
-new-requires c κs = search needs
-
-load-stored-requires : tie.Need-load-stored-requires
-load-stored-requires c κs = search needs
-
-number-of-requires : tie.Need-number-of-requires
-number-of-requires c κs = search needs
-
-refusal-requires-2 : tie.Need-refusal-requires-2
-refusal-requires-2 c κs = search needs
-
-same-length-2 : tie.Need-same-length-2
-same-length-2 c = search needs
 
 returns-2 : tie.Need-returns-2
 returns-2 c =
     let n = c .before .before .before .before .before in
     let r = c .before .before .refusal2 in
     rw (read-taken _ (taken n) (n .before .before .before .if1 .left), table-refused (taken n) (λ z. c .before .before .before .before .if2 .taken (told n ∙ z)), sym (told n)) (r .ensures .0, r .ensures .1)
-
-run-requires : tie.Need-run-requires
-run-requires c κs = search needs
-
-report-requires : tie.Need-report-requires
-report-requires c κs = search needs
-
-count-of-requires : tie.Need-count-of-requires
-count-of-requires c κs = search needs
-
-same-length-3 : tie.Need-same-length-3
-same-length-3 c = search needs
 
 returns-3 : tie.Need-returns-3
 returns-3 c =
@@ -90,17 +57,17 @@ pub surveyed-spec : {M : Type 1} → statement M
 surveyed-spec =
     tie.close
     (tie.spec
-    refusal-requires
-    same-length
+    (λ c κs. search needs)  -- refusal-requires
+    (λ c. search needs)  -- same-length
     returns
-    new-requires
-    load-stored-requires
-    number-of-requires
-    refusal-requires-2
-    same-length-2
+    (λ c κs. search needs)  -- new-requires
+    (λ c κs. search needs)  -- load-stored-requires
+    (λ c κs. search needs)  -- number-of-requires
+    (λ c κs. search needs)  -- refusal-requires-2
+    (λ c. search needs)  -- same-length-2
     returns-2
-    run-requires
-    report-requires
-    count-of-requires
-    same-length-3
+    (λ c κs. search needs)  -- run-requires
+    (λ c κs. search needs)  -- report-requires
+    (λ c κs. search needs)  -- count-of-requires
+    (λ c. search needs)  -- same-length-3
     returns-3)

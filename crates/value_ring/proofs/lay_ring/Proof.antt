@@ -4,30 +4,6 @@ use borrow.Author.Needs.{needs}
 use Rattle.value_ring.proofs.lay_ring.Statement.{statement}
 use Rattle.value_ring.proofs.lay_ring.Tie as tie
 
-unmarked-requires : tie.Need-unmarked-requires
-unmarked-requires c κs = search needs
-
-zeros-requires : tie.Need-zeros-requires
-zeros-requires c κs = search needs
-
-slice-aggregate-ring : tie.Need-slice-aggregate-ring
-slice-aggregate-ring c = search needs
-
-slice-aggregate-ring-2 : tie.Need-slice-aggregate-ring-2
-slice-aggregate-ring-2 c = search needs
-
-ring-requires : tie.Need-ring-requires
-ring-requires c κs = search needs
-
-slice-aggregate-lay-first : tie.Need-slice-aggregate-lay-first
-slice-aggregate-lay-first c = search needs
-
-lay-first-requires : tie.Need-lay-first-requires
-lay-first-requires c κs = search needs
-
-same-length : tie.Need-same-length
-same-length c = search needs
-
 returns : tie.Need-returns
 returns c =
     let l = c .before .before in
@@ -41,12 +17,12 @@ pub lay-ring-spec : {M : Type 1} → statement M
 lay-ring-spec =
     tie.close
     (tie.spec
-    unmarked-requires
-    zeros-requires
-    slice-aggregate-ring
-    slice-aggregate-ring-2
-    ring-requires
-    slice-aggregate-lay-first
-    lay-first-requires
-    same-length
+    (λ c κs. search needs)  -- unmarked-requires
+    (λ c κs. search needs)  -- zeros-requires
+    (λ c. search needs)  -- slice-aggregate-ring
+    (λ c. search needs)  -- slice-aggregate-ring-2
+    (λ c κs. search needs)  -- ring-requires
+    (λ c. search needs)  -- slice-aggregate-lay-first
+    (λ c κs. search needs)  -- lay-first-requires
+    (λ c. search needs)  -- same-length
     returns)

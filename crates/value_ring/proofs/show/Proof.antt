@@ -8,24 +8,12 @@ use borrow.Author.Needs.{needs}
 use Rattle.value_ring.proofs.show.Statement.{statement}
 use Rattle.value_ring.proofs.show.Tie as tie
 
-cast-short : tie.Need-cast-short
-cast-short c = search needs
-
-well-formed-requires : tie.Need-well-formed-requires
-well-formed-requires c κs = search needs
-
-two-links-requires : tie.Need-two-links-requires
-two-links-requires c κs = search needs
-
 returns : tie.Need-returns
 unfolding shownRefusal
 returns c =
     let t = c .before in
     let a = t .before .before .before .args in
     shown-refused (a .first) (a .second) (of (a .t1)) (a .out .now) (t .two-links .result) (rw (t .before .well-formed .ensures) at (t .two-links .ensures)) (c .if1 .taken)
-
-lay-ring-requires : tie.Need-lay-ring-requires
-lay-ring-requires c κs = search needs
 
 -- not refused, and the table is whole
 passed : (l : tie.After-lay-ring)
@@ -36,17 +24,11 @@ passed l =
     let i = l .before .before .before .before .before in
     (sym (rw (i .before .before .well-formed .ensures) at (i .before .two-links .ensures)) ∙ i .if1 .left, search (l .before .lay-ring-arg3 .given, l .before .before .lay-ring-arg2 .given, l .before .before .before .lay-ring-arg .given, needs))
 
-same-length : tie.Need-same-length
-same-length c = search needs
-
 returns-2 : tie.Need-returns-2
 returns-2 c =
     let l = c .before .before .before in
     let a = l .before .before .before .before .before .before .before .before .before .args in
     shown-none (a .first) (a .second) (of (a .t1)) (a .out .now) _ (l .lay-ring .result) (passed l .0) (passed l .1) (l .lay-ring .ensures .0) (c .if2 .taken)
-
-same-length-2 : tie.Need-same-length-2
-same-length-2 c = search needs
 
 returns-3 : tie.Need-returns-3
 returns-3 c =
@@ -58,12 +40,12 @@ pub show-spec : {M : Type 1} → statement M
 show-spec =
     tie.close
     (tie.spec
-    cast-short
-    well-formed-requires
-    two-links-requires
+    (λ c. search needs)  -- cast-short
+    (λ c κs. search needs)  -- well-formed-requires
+    (λ c κs. search needs)  -- two-links-requires
     returns
-    lay-ring-requires
-    same-length
+    (λ c κs. search needs)  -- lay-ring-requires
+    (λ c. search needs)  -- same-length
     returns-2
-    same-length-2
+    (λ c. search needs)  -- same-length-2
     returns-3)

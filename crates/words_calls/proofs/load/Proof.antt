@@ -9,12 +9,6 @@ use borrow.Author.Needs.{needs}
 use Rattle.words_calls.proofs.load.Statement.{statement}
 use Rattle.words_calls.proofs.load.Tie as tie
 
-load-requires : tie.Need-load-requires
-load-requires c κs = search needs
-
-cast-result : tie.Need-cast-result
-cast-result c = search needs
-
 returns : tie.Need-returns
 unfolding loadAnswer
 returns c =
@@ -26,4 +20,9 @@ returns c =
     )
 
 pub load-spec : {M : Type 1} → statement M
-load-spec = tie.close (tie.spec load-requires cast-result returns)
+load-spec =
+    tie.close
+    (tie.spec
+    (λ c κs. search needs)  -- load-requires
+    (λ c. search needs)  -- cast-result
+    returns)

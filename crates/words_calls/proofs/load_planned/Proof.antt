@@ -9,12 +9,6 @@ use borrow.Author.Needs.{needs}
 use Rattle.words_calls.proofs.load_planned.Statement.{statement}
 use Rattle.words_calls.proofs.load_planned.Tie as tie
 
-load-planned-requires : tie.Need-load-planned-requires
-load-planned-requires c κs = search needs
-
-cast-result : tie.Need-cast-result
-cast-result c = search needs
-
 returns : tie.Need-returns
 unfolding plannedLoadAnswer
 returns c =
@@ -26,4 +20,9 @@ returns c =
     )
 
 pub load-planned-spec : {M : Type 1} → statement M
-load-planned-spec = tie.close (tie.spec load-planned-requires cast-result returns)
+load-planned-spec =
+    tie.close
+    (tie.spec
+    (λ c κs. search needs)  -- load-planned-requires
+    (λ c. search needs)  -- cast-result
+    returns)

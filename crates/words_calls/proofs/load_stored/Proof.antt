@@ -9,12 +9,6 @@ use borrow.Author.Needs.{needs}
 use Rattle.words_calls.proofs.load_stored.Statement.{statement}
 use Rattle.words_calls.proofs.load_stored.Tie as tie
 
-load-stored-requires : tie.Need-load-stored-requires
-load-stored-requires c κs = search needs
-
-cast-result : tie.Need-cast-result
-cast-result c = search needs
-
 returns : tie.Need-returns
 unfolding storedLoadAnswer
 returns c =
@@ -26,4 +20,9 @@ returns c =
     )
 
 pub load-stored-spec : {M : Type 1} → statement M
-load-stored-spec = tie.close (tie.spec load-stored-requires cast-result returns)
+load-stored-spec =
+    tie.close
+    (tie.spec
+    (λ c κs. search needs)  -- load-stored-requires
+    (λ c. search needs)  -- cast-result
+    returns)

@@ -18,45 +18,12 @@ told r =
     report-told (stateOf (r .before .before .before .before .before .args .state .now)) _ _ _ (r .before .kept .ensures)
     (rw (r .before .before .clock-at .ensures, r .before .before .before .table-at .ensures) at (r .report-refusal .ensures))
 
-table-at-requires : tie.Need-table-at-requires
-table-at-requires c κs = search needs
-
-clock-at-requires : tie.Need-clock-at-requires
-clock-at-requires c κs = search needs
-
-kept-requires : tie.Need-kept-requires
-kept-requires c κs = search needs
-
-report-refusal-requires : tie.Need-report-refusal-requires
-report-refusal-requires c κs = search needs
-
-cast-result : tie.Need-cast-result
-cast-result c = search needs
-
 returns : tie.Need-returns
 unfolding reportAnswer reported
 returns c =
     let r = c .before .report-refusal in
     let a = c .before .before .before .before .before .before .args in
     (rw (sym (told (c .before)), ne-eqb (r .result) 0 (c .if1 .taken)) refl, written-refused _ (report (stateOf (a .state .now))) (a .out .now) (λ z. c .if1 .taken (told (c .before) ∙ z)))
-
-labels-at-requires : tie.Need-labels-at-requires
-labels-at-requires c κs = search needs
-
-components-at-requires : tie.Need-components-at-requires
-components-at-requires c κs = search needs
-
-tree-at-requires : tie.Need-tree-at-requires
-tree-at-requires c κs = search needs
-
-order-at-requires : tie.Need-order-at-requires
-order-at-requires c κs = search needs
-
-report-lines-requires : tie.Need-report-lines-requires
-report-lines-requires c κs = search needs
-
-same-length : tie.Need-same-length
-same-length c = search needs
 
 returns-2 : tie.Need-returns-2
 unfolding reportAnswer
@@ -71,16 +38,16 @@ pub report-spec : {M : Type 1} → statement M
 report-spec =
     tie.close
     (tie.spec
-    table-at-requires
-    clock-at-requires
-    kept-requires
-    report-refusal-requires
-    cast-result
+    (λ c κs. search needs)  -- table-at-requires
+    (λ c κs. search needs)  -- clock-at-requires
+    (λ c κs. search needs)  -- kept-requires
+    (λ c κs. search needs)  -- report-refusal-requires
+    (λ c. search needs)  -- cast-result
     returns
-    labels-at-requires
-    components-at-requires
-    tree-at-requires
-    order-at-requires
-    report-lines-requires
-    same-length
+    (λ c κs. search needs)  -- labels-at-requires
+    (λ c κs. search needs)  -- components-at-requires
+    (λ c κs. search needs)  -- tree-at-requires
+    (λ c κs. search needs)  -- order-at-requires
+    (λ c κs. search needs)  -- report-lines-requires
+    (λ c. search needs)  -- same-length
     returns-2)

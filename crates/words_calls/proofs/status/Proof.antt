@@ -6,9 +6,6 @@ use borrow.Author.Needs.{needs}
 use Rattle.words_calls.proofs.status.Statement.{statement}
 use Rattle.words_calls.proofs.status.Tie as tie
 
-kept-requires : tie.Need-kept-requires
-kept-requires c κs = search needs
-
 returns : tie.Need-returns
 unfolding statusAnswer statusRefusal
 returns c = rw (sym (c .before .kept .ensures) ∙ not-true _ (c .if1 .taken)) (refl, refl)
@@ -22,4 +19,10 @@ returns-2 c =
     rw (sym (c .before .before .kept .ensures) ∙ not-false _ (c .before .if1 .left)) (refl, c .status-values .ensures)
 
 pub status-spec : {M : Type 1} → statement M
-status-spec = tie.close (tie.spec kept-requires returns status-values-requires returns-2)
+status-spec =
+    tie.close
+    (tie.spec
+    (λ c κs. search needs)  -- kept-requires
+    returns
+    status-values-requires
+    returns-2)

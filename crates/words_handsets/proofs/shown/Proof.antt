@@ -8,27 +8,12 @@ use borrow.Author.Needs.{needs}
 use Rattle.words_handsets.proofs.shown.Statement.{statement}
 use Rattle.words_handsets.proofs.shown.Tie as tie
 
-status-requires : tie.Need-status-requires
-status-requires c κs = search needs
-
 returns : tie.Need-returns
 returns c =
     let r = c .before .status in
     let a = c .before .before .before .before .args in
     let s = stateOf (a .state .now) in
     told-status s (lineNeeded (a .service)) (lineIn (a .service) s) (a .out .now) (r .result) (r .ensures .0) (c .if1 .taken)
-
-record-of-requires : tie.Need-record-of-requires
-record-of-requires c κs = search needs
-
-write-requires : tie.Need-write-requires
-write-requires c κs = search needs
-
-cast-result : tie.Need-cast-result
-cast-result c = search needs
-
-same-length : tie.Need-same-length
-same-length c = search needs
 
 returns-2 : tie.Need-returns-2
 returns-2 c =
@@ -45,10 +30,10 @@ pub shown-spec : {M : Type 1} → statement M
 shown-spec =
     tie.close
     (tie.spec
-    status-requires
+    (λ c κs. search needs)  -- status-requires
     returns
-    record-of-requires
-    write-requires
-    cast-result
-    same-length
+    (λ c κs. search needs)  -- record-of-requires
+    (λ c κs. search needs)  -- write-requires
+    (λ c. search needs)  -- cast-result
+    (λ c. search needs)  -- same-length
     returns-2)

@@ -11,15 +11,6 @@ use borrow.Author.Needs.{needs}
 use Rattle.words_live.proofs.add.Statement.{statement}
 use Rattle.words_live.proofs.add.Tie as tie
 
-live-at-requires : tie.Need-live-at-requires
-live-at-requires c κs = search needs
-
-add-requires : tie.Need-add-requires
-add-requires c κs = search needs
-
-put-requires : tie.Need-put-requires
-put-requires c κs = search needs
-
 returns : tie.Need-returns
 returns c =
     let m = c .before .before in
@@ -31,4 +22,10 @@ returns c =
     (p .0, (p .1 .0, p .1 .1 ∙ add-left (a .a) (a .b) (a .level) (liveIn (a .live .now))))
 
 pub add-spec : {M : Type 1} → statement M
-add-spec = tie.close (tie.spec live-at-requires add-requires put-requires returns)
+add-spec =
+    tie.close
+    (tie.spec
+    (λ c κs. search needs)  -- live-at-requires
+    (λ c κs. search needs)  -- add-requires
+    (λ c κs. search needs)  -- put-requires
+    returns)

@@ -6,20 +6,11 @@ use borrow.Author.Needs.{needs}
 use Rattle.words_live.proofs.lay_live.Statement.{statement}
 use Rattle.words_live.proofs.lay_live.Tie as tie
 
-slice-aggregate-lay : tie.Need-slice-aggregate-lay
-slice-aggregate-lay c = search needs
-
 lay-requires : tie.Need-lay-requires
 lay-requires c κs = tt
 
 lay-requires-2 : tie.Need-lay-requires-2
 lay-requires-2 c κs = tt
-
-words-of-requires : tie.Need-words-of-requires
-words-of-requires c κs = search needs
-
-slice-aggregate-lay-2 : tie.Need-slice-aggregate-lay-2
-slice-aggregate-lay-2 c = search needs
 
 lay-requires-3 : tie.Need-lay-requires-3
 lay-requires-3 c κs = tt
@@ -40,11 +31,11 @@ pub lay-live-spec : {M : Type 1} → statement M
 lay-live-spec =
     tie.close
     (tie.spec
-    slice-aggregate-lay
+    (λ c. search needs)  -- slice-aggregate-lay
     lay-requires
     lay-requires-2
-    words-of-requires
-    slice-aggregate-lay-2
+    (λ c κs. search needs)  -- words-of-requires
+    (λ c. search needs)  -- slice-aggregate-lay-2
     lay-requires-3
     lay-requires-4
     returns)

@@ -16,12 +16,6 @@ levels-at-requires c κs = tt
 units-at-requires : tie.Need-units-at-requires
 units-at-requires c κs = tt
 
-element-copy-out-t13 : tie.Need-element-copy-out-t13
-element-copy-out-t13 c = search needs
-
-element-copy-out-t16 : tie.Need-element-copy-out-t16
-element-copy-out-t16 c = search needs
-
 returns : tie.Need-returns
 unfolding liveIn
 returns c =
@@ -38,6 +32,6 @@ live-at-spec =
     ends-at-requires
     levels-at-requires
     units-at-requires
-    element-copy-out-t13
-    element-copy-out-t16
+    (λ c. search needs)  -- element-copy-out-t13
+    (λ c. search needs)  -- element-copy-out-t16
     returns)

@@ -5,12 +5,6 @@ use borrow.Author.Needs.{needs}
 use Rattle.words_live.proofs.opened.Statement.{statement}
 use Rattle.words_live.proofs.opened.Tie as tie
 
-opened-requires : tie.Need-opened-requires
-opened-requires c κs = search needs
-
-put-requires : tie.Need-put-requires
-put-requires c κs = search needs
-
 returns : tie.Need-returns
 returns c =
     let m = c .before .before in
@@ -18,4 +12,9 @@ returns c =
     left-by (answerOf (m .opened .result)) _ (a .live .now) _ _ (m .opened .ensures) (c .put .ensures)
 
 pub opened-spec : {M : Type 1} → statement M
-opened-spec = tie.close (tie.spec opened-requires put-requires returns)
+opened-spec =
+    tie.close
+    (tie.spec
+    (λ c κs. search needs)  -- opened-requires
+    (λ c κs. search needs)  -- put-requires
+    returns)

@@ -5,16 +5,10 @@ use borrow.Author.Needs.{needs}
 use Rattle.words_live.proofs.put.Statement.{statement}
 use Rattle.words_live.proofs.put.Tie as tie
 
-cast-result : tie.Need-cast-result
-cast-result c = search needs
-
 returns : tie.Need-returns
 returns c =
     let a = c .before .args in
     left-refused (answerOf (a .made)) (a .words .now) (c .if1 .taken)
-
-lay-live-requires : tie.Need-lay-live-requires
-lay-live-requires c κs = search needs
 
 returns-2 : tie.Need-returns-2
 returns-2 c =
@@ -23,4 +17,10 @@ returns-2 c =
     left-made (answerOf (a .made)) (a .words .now) _ (i .if1 .left) (c .lay-live .ensures .0) (c .lay-live .ensures .1)
 
 pub put-spec : {M : Type 1} → statement M
-put-spec = tie.close (tie.spec cast-result returns lay-live-requires returns-2)
+put-spec =
+    tie.close
+    (tie.spec
+    (λ c. search needs)  -- cast-result
+    returns
+    (λ c κs. search needs)  -- lay-live-requires
+    returns-2)

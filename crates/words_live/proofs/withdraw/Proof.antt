@@ -8,15 +8,6 @@ use borrow.Author.Needs.{needs}
 use Rattle.words_live.proofs.withdraw.Statement.{statement}
 use Rattle.words_live.proofs.withdraw.Tie as tie
 
-live-at-requires : tie.Need-live-at-requires
-live-at-requires c κs = search needs
-
-withdraw-requires : tie.Need-withdraw-requires
-withdraw-requires c κs = search needs
-
-put-requires : tie.Need-put-requires
-put-requires c κs = search needs
-
 returns : tie.Need-returns
 returns c =
     let m = c .before .before in
@@ -26,4 +17,10 @@ returns c =
     (p .0, (p .1 .0, p .1 .1 ∙ withdraw-left (a .a) (a .b) (liveIn (a .live .now))))
 
 pub withdraw-spec : {M : Type 1} → statement M
-withdraw-spec = tie.close (tie.spec live-at-requires withdraw-requires put-requires returns)
+withdraw-spec =
+    tie.close
+    (tie.spec
+    (λ c κs. search needs)  -- live-at-requires
+    (λ c κs. search needs)  -- withdraw-requires
+    (λ c κs. search needs)  -- put-requires
+    returns)

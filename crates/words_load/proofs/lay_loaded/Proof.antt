@@ -7,21 +7,6 @@ use borrow.Author.Needs.{needs}
 use Rattle.words_load.proofs.lay_loaded.Statement.{statement}
 use Rattle.words_load.proofs.lay_loaded.Tie as tie
 
-lay-table-requires : tie.Need-lay-table-requires
-lay-table-requires c κs = search needs
-
-clock-requires : tie.Need-clock-requires
-clock-requires c κs = search needs
-
-lay-clock-requires : tie.Need-lay-clock-requires
-lay-clock-requires c κs = search needs
-
-front-requires : tie.Need-front-requires
-front-requires c κs = search needs
-
-back-requires : tie.Need-back-requires
-back-requires c κs = search needs
-
 returns : tie.Need-returns
 unfolding loaded begun
 returns c =
@@ -34,9 +19,9 @@ pub lay-loaded-spec : {M : Type 1} → statement M
 lay-loaded-spec =
     tie.close
     (tie.spec
-    lay-table-requires
-    clock-requires
-    lay-clock-requires
-    front-requires
-    back-requires
+    (λ c κs. search needs)  -- lay-table-requires
+    (λ c κs. search needs)  -- clock-requires
+    (λ c κs. search needs)  -- lay-clock-requires
+    (λ c κs. search needs)  -- front-requires
+    (λ c κs. search needs)  -- back-requires
     returns)

@@ -25,12 +25,6 @@ few s =
 lay-loaded-requires : tie.Need-lay-loaded-requires
 lay-loaded-requires c κs = accepted (c .before .before .before) .stored
 
-plan-requires : tie.Need-plan-requires
-plan-requires c κs = search needs
-
-lay-plan-requires : tie.Need-lay-plan-requires
-lay-plan-requires c κs = search needs
-
 returns : tie.Need-returns
 unfolding plannedLoaded
 returns c =
@@ -40,4 +34,10 @@ returns c =
     rw (c .lay-plan .ensures, p .plan .ensures, l .lay-loaded .ensures, take-all 256 (s .args .parents .now) (few s)) refl
 
 pub lay-planned-spec : {M : Type 1} → statement M
-lay-planned-spec = tie.close (tie.spec lay-loaded-requires plan-requires lay-plan-requires returns)
+lay-planned-spec =
+    tie.close
+    (tie.spec
+    lay-loaded-requires
+    (λ c κs. search needs)  -- plan-requires
+    (λ c κs. search needs)  -- lay-plan-requires
+    returns)

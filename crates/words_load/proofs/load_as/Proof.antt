@@ -6,9 +6,6 @@ use borrow.Author.Needs.{needs}
 use Rattle.words_load.proofs.load_as.Statement.{statement}
 use Rattle.words_load.proofs.load_as.Tie as tie
 
-refusal-requires : tie.Need-refusal-requires
-refusal-requires c κs = search needs
-
 returns : tie.Need-returns
 returns c =
     let r = c .before .refusal in
@@ -26,4 +23,10 @@ returns-2 c =
     (sym none, rw none (c .lay-loaded .ensures))
 
 pub load-as-spec : {M : Type 1} → statement M
-load-as-spec = tie.close (tie.spec refusal-requires returns lay-loaded-requires returns-2)
+load-as-spec =
+    tie.close
+    (tie.spec
+    (λ c κs. search needs)  -- refusal-requires
+    returns
+    lay-loaded-requires
+    returns-2)

@@ -5,9 +5,6 @@ use borrow.Author.Needs.{needs}
 use Rattle.words_load.proofs.load_planned.Statement.{statement}
 use Rattle.words_load.proofs.load_planned.Tie as tie
 
-refusal-requires : tie.Need-refusal-requires
-refusal-requires c κs = search needs
-
 returns : tie.Need-returns
 returns c =
     let r = c .before .refusal in
@@ -23,4 +20,10 @@ returns-2 c =
     (sym none, rw none (c .lay-planned .ensures))
 
 pub load-planned-spec : {M : Type 1} → statement M
-load-planned-spec = tie.close (tie.spec refusal-requires returns lay-planned-requires returns-2)
+load-planned-spec =
+    tie.close
+    (tie.spec
+    (λ c κs. search needs)  -- refusal-requires
+    returns
+    lay-planned-requires
+    returns-2)

@@ -7,35 +7,11 @@ use borrow.Author.Needs.{needs}
 use Rattle.words_report.proofs.report.Statement.{statement}
 use Rattle.words_report.proofs.report.Tie as tie
 
-slice-aggregate-taken : tie.Need-slice-aggregate-taken
-slice-aggregate-taken c = search needs
-
-slice-aggregate-taken-2 : tie.Need-slice-aggregate-taken-2
-slice-aggregate-taken-2 c = search needs
-
-taken-requires : tie.Need-taken-requires
-taken-requires c κs = search needs
-
-mul-end : tie.Need-mul-end
-mul-end c = search needs
-
-array-share-prefix-words : tie.Need-array-share-prefix-words
-array-share-prefix-words c = search needs
-
 slice-aggregate-surveyed : tie.Need-slice-aggregate-surveyed
 slice-aggregate-surveyed c = sym (length-take-le _ _ (search needs))
 
-array-share-prefix-levels : tie.Need-array-share-prefix-levels
-array-share-prefix-levels c = search needs
-
 slice-aggregate-surveyed-2 : tie.Need-slice-aggregate-surveyed-2
 slice-aggregate-surveyed-2 c = sym (length-take-le _ _ (search needs))
-
-surveyed-requires : tie.Need-surveyed-requires
-surveyed-requires c κs = search needs
-
-same-length : tie.Need-same-length
-same-length c = search needs
 
 returns : tie.Need-returns
 unfolding printed
@@ -48,14 +24,14 @@ pub report-spec : {M : Type 1} → statement M
 report-spec =
     tie.close
     (tie.spec
-    slice-aggregate-taken
-    slice-aggregate-taken-2
-    taken-requires
-    mul-end
-    array-share-prefix-words
+    (λ c. search needs)  -- slice-aggregate-taken
+    (λ c. search needs)  -- slice-aggregate-taken-2
+    (λ c κs. search needs)  -- taken-requires
+    (λ c. search needs)  -- mul-end
+    (λ c. search needs)  -- array-share-prefix-words
     slice-aggregate-surveyed
-    array-share-prefix-levels
+    (λ c. search needs)  -- array-share-prefix-levels
     slice-aggregate-surveyed-2
-    surveyed-requires
-    same-length
+    (λ c κs. search needs)  -- surveyed-requires
+    (λ c. search needs)  -- same-length
     returns)

@@ -40,28 +40,13 @@ ended r = survey-left (taken (r .before .before .before .before)) (accepted (r .
 laid : (r : tie.After-report) → r .report .last .1 .0 ≡ laidOver (printedTable (taken (r .before .before .before .before .before .before .before))) (r .before .before .before .before .before .before .before .before .before .before .before .before .args .out .now)
 laid r = rw (ended (r .before .before .before)) at (r .report .ensures .1) ∙ report-laid (taken (r .before .before .before .before .before .before .before)) (accepted (r .before .before .before .before .before .before)) _
 
-refusal-requires : tie.Need-refusal-requires
-refusal-requires c κs = search needs
-
-same-length : tie.Need-same-length
-same-length c = search needs
-
 returns : tie.Need-returns
 returns c =
     let r = c .before .before .refusal in
     rw (read-refused _ _ (c .before .before .before .before .if1 .taken)) (r .ensures .0, r .ensures .1)
 
-load-stored-requires : tie.Need-load-stored-requires
-load-stored-requires c κs = search needs
-
 cast-number : tie.Need-cast-number
 cast-number c = omega (arith, told (c .before), number-byte (taken (c .before)))
-
-refusal-requires-2 : tie.Need-refusal-requires-2
-refusal-requires-2 c κs = search needs
-
-same-length-2 : tie.Need-same-length-2
-same-length-2 c = search needs
 
 returns-2 : tie.Need-returns-2
 returns-2 c =
@@ -69,27 +54,12 @@ returns-2 c =
     let r = c .before .before .refusal2 in
     rw (read-taken _ (taken l) (l .before .before .if1 .left), table-refused (taken l) (λ z. c .before .before .before .before .if2 .taken (told l ∙ z)), sym (told l)) (r .ensures .0, r .ensures .1)
 
-run-requires : tie.Need-run-requires
-run-requires c κs = search needs
-
-report-requires : tie.Need-report-requires
-report-requires c κs = search needs
-
-same-length-3 : tie.Need-same-length-3
-same-length-3 c = search needs
-
 returns-3 : tie.Need-returns-3
 returns-3 c =
     let e = c .before .before .before .before .before .before .before .before .before in
     let told = rw (ended (c .before .before .before .before .before .before)) at (c .before .before .before .report .ensures .0) in
     rw (read-taken _ (taken (e .before)) (e .before .before .before .if1 .left))
     (report-none (taken (e .before)) (accepted e) _ (λ z. c .if3 .taken (told ∙ z)), laid (c .before .before .before))
-
-mul-result : tie.Need-mul-result
-mul-result c = search needs
-
-add-result : tie.Need-add-result
-add-result c = search needs
 
 cast-result : tie.Need-cast-result
 cast-result c = omega (arith, fits-in c)
@@ -99,9 +69,6 @@ mul-result-2 c = omega (arith, fits-in c)
 
 add-result-2 : tie.Need-add-result-2
 add-result-2 c = omega (arith, fits-in c)
-
-same-length-4 : tie.Need-same-length-4
-same-length-4 c = search needs
 
 returns-4 : tie.Need-returns-4
 returns-4 c =
@@ -114,22 +81,22 @@ pub surveyed-spec : {M : Type 1} → statement M
 surveyed-spec =
     tie.close
     (tie.spec
-    refusal-requires
-    same-length
+    (λ c κs. search needs)  -- refusal-requires
+    (λ c. search needs)  -- same-length
     returns
-    load-stored-requires
+    (λ c κs. search needs)  -- load-stored-requires
     cast-number
-    refusal-requires-2
-    same-length-2
+    (λ c κs. search needs)  -- refusal-requires-2
+    (λ c. search needs)  -- same-length-2
     returns-2
-    run-requires
-    report-requires
-    same-length-3
+    (λ c κs. search needs)  -- run-requires
+    (λ c κs. search needs)  -- report-requires
+    (λ c. search needs)  -- same-length-3
     returns-3
-    mul-result
-    add-result
+    (λ c. search needs)  -- mul-result
+    (λ c. search needs)  -- add-result
     cast-result
     mul-result-2
     add-result-2
-    same-length-4
+    (λ c. search needs)  -- same-length-4
     returns-4)

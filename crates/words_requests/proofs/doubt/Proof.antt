@@ -8,27 +8,12 @@ use borrow.Author.Needs.{needs}
 use Rattle.words_requests.proofs.doubt.Statement.{statement}
 use Rattle.words_requests.proofs.doubt.Tie as tie
 
-table-at-requires : tie.Need-table-at-requires
-table-at-requires c κs = search needs
-
-cast-differ : tie.Need-cast-differ
-cast-differ c = search needs
-
-two-links-requires : tie.Need-two-links-requires
-two-links-requires c κs = search needs
-
 returns : tie.Need-returns
 unfolding doubtRefusal
 returns c =
     let r = c .before in
     let a = r .before .before .before .args in
     doubt-not-asked (a .first) (a .second) (a .marks .now) (stateOf (a .state .now)) (a .verdict .now) (r .two-links .result) (rw (r .before .table-at .ensures) at (r .two-links .ensures)) (c .if1 .taken)
-
-judged-requires : tie.Need-judged-requires
-judged-requires c κs = search needs
-
-word-of-requires : tie.Need-word-of-requires
-word-of-requires c κs = search needs
 
 returns-2 : tie.Need-returns-2
 unfolding doubtRefusal
@@ -45,10 +30,10 @@ pub doubt-spec : {M : Type 1} → statement M
 doubt-spec =
     tie.close
     (tie.spec
-    table-at-requires
-    cast-differ
-    two-links-requires
+    (λ c κs. search needs)  -- table-at-requires
+    (λ c. search needs)  -- cast-differ
+    (λ c κs. search needs)  -- two-links-requires
     returns
-    judged-requires
-    word-of-requires
+    (λ c κs. search needs)  -- judged-requires
+    (λ c κs. search needs)  -- word-of-requires
     returns-2)

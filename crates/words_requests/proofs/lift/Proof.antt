@@ -7,26 +7,11 @@ use borrow.Author.Needs.{needs}
 use Rattle.words_requests.proofs.lift.Statement.{statement}
 use Rattle.words_requests.proofs.lift.Tie as tie
 
-refusal-requires : tie.Need-refusal-requires
-refusal-requires c κs = search needs
-
 returns : tie.Need-returns
 returns c =
     let r = c .before .refusal in
     let a = c .before .before .before .before .args in
     lifting-early (stateOf (a .state .now)) (a .pairs .now) (a .out .now) (r .result) (r .ensures) (c .if1 .taken)
-
-table-at-requires : tie.Need-table-at-requires
-table-at-requires c κs = search needs
-
-write-requires : tie.Need-write-requires
-write-requires c κs = search needs
-
-cast-result : tie.Need-cast-result
-cast-result c = search needs
-
-same-length : tie.Need-same-length
-same-length c = search needs
 
 returns-2 : tie.Need-returns-2
 returns-2 c =
@@ -43,10 +28,10 @@ pub lift-spec : {M : Type 1} → statement M
 lift-spec =
     tie.close
     (tie.spec
-    refusal-requires
+    (λ c κs. search needs)  -- refusal-requires
     returns
-    table-at-requires
-    write-requires
-    cast-result
-    same-length
+    (λ c κs. search needs)  -- table-at-requires
+    (λ c κs. search needs)  -- write-requires
+    (λ c. search needs)  -- cast-result
+    (λ c. search needs)  -- same-length
     returns-2)

@@ -8,27 +8,12 @@ use borrow.Author.Needs.{needs}
 use Rattle.words_requests.proofs.ring.Statement.{statement}
 use Rattle.words_requests.proofs.ring.Tie as tie
 
-table-at-requires : tie.Need-table-at-requires
-table-at-requires c κs = search needs
-
-cast-short : tie.Need-cast-short
-cast-short c = search needs
-
-two-links-requires : tie.Need-two-links-requires
-two-links-requires c κs = search needs
-
 returns : tie.Need-returns
 unfolding shownRefusal
 returns c =
     let r = c .before in
     let a = r .before .before .before .args in
     ring-refused (a .first) (a .second) (stateOf (a .state .now)) (a .out .now) (a .count .now) (r .two-links .result) (rw (r .before .table-at .ensures) at (r .two-links .ensures)) (c .if1 .taken)
-
-lay-ring-requires : tie.Need-lay-ring-requires
-lay-ring-requires c κs = search needs
-
-same-length : tie.Need-same-length
-same-length c = search needs
 
 returns-2 : tie.Need-returns-2
 unfolding shownRefusal
@@ -45,10 +30,10 @@ pub ring-spec : {M : Type 1} → statement M
 ring-spec =
     tie.close
     (tie.spec
-    table-at-requires
-    cast-short
-    two-links-requires
+    (λ c κs. search needs)  -- table-at-requires
+    (λ c. search needs)  -- cast-short
+    (λ c κs. search needs)  -- two-links-requires
     returns
-    lay-ring-requires
-    same-length
+    (λ c κs. search needs)  -- lay-ring-requires
+    (λ c. search needs)  -- same-length
     returns-2)

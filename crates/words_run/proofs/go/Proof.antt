@@ -59,9 +59,6 @@ late c =
 loop-holds : tie.Need-loop-holds Inv-loop μ-loop
 loop-holds c = begins _ _ (c .pre)
 
-clock-at-requires : tie.Need-clock-at-requires Inv-loop μ-loop
-clock-at-requires c κs = search needs
-
 returns : tie.Need-returns Inv-loop μ-loop
 returns c =
     let k = c .before in
@@ -181,7 +178,7 @@ go-spec =
     Inv-loop
     μ-loop
     loop-holds
-    clock-at-requires
+    (λ c κs. search needs)  -- clock-at-requires
     returns
     sub-components-stage
     components-stage-requires

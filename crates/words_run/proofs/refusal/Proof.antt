@@ -6,15 +6,9 @@ use borrow.Author.Needs.{needs}
 use Rattle.words_run.proofs.refusal.Statement.{statement}
 use Rattle.words_run.proofs.refusal.Tie as tie
 
-kept-requires : tie.Need-kept-requires
-kept-requires c κs = search needs
-
 returns : tie.Need-returns
 unfolding roundRefusal
 returns c = rw (sym (c .before .kept .ensures) ∙ not-true _ (c .if1 .taken)) refl
-
-clock-at-requires : tie.Need-clock-at-requires
-clock-at-requires c κs = search needs
 
 returns-2 : tie.Need-returns-2
 unfolding roundRefusal
@@ -29,4 +23,11 @@ returns-3 c =
     rw (sym (k .before .before .kept .ensures) ∙ not-false _ (k .before .if1 .left), ne-eqb _ 11 (rw (k .clock-at .ensures) at (c .if2 .left))) refl
 
 pub refusal-spec : {M : Type 1} → statement M
-refusal-spec = tie.close (tie.spec kept-requires returns clock-at-requires returns-2 returns-3)
+refusal-spec =
+    tie.close
+    (tie.spec
+    (λ c κs. search needs)  -- kept-requires
+    returns
+    (λ c κs. search needs)  -- clock-at-requires
+    returns-2
+    returns-3)

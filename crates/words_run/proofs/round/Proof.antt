@@ -38,17 +38,11 @@ taken k =
     let a = accepted _ none in
     (none, a .0, a .1)
 
-refusal-requires : tie.Need-refusal-requires
-refusal-requires c κs = search needs
-
 returns : tie.Need-returns
 unfolding roundAnswer
 returns c =
     let r = c .before .refusal in
     rw (sym (r .ensures), ne-eqb (r .result) 0 (c .if1 .taken)) (refl, refl)
-
-clock-at-requires : tie.Need-clock-at-requires
-clock-at-requires c κs = search needs
 
 components-stage-requires : tie.Need-components-stage-requires
 components-stage-requires c κs = shown (c .before .before) ∙ c .before .if2 .taken
@@ -105,9 +99,9 @@ pub round-spec : {M : Type 1} → statement M
 round-spec =
     tie.close
     (tie.spec
-    refusal-requires
+    (λ c κs. search needs)  -- refusal-requires
     returns
-    clock-at-requires
+    (λ c κs. search needs)  -- clock-at-requires
     components-stage-requires
     returns-2
     tree-stage-requires

@@ -9,9 +9,6 @@ use borrow.Author.Needs.{needs}
 use Rattle.words_run.proofs.run.Statement.{statement}
 use Rattle.words_run.proofs.run.Tie as tie
 
-refusal-requires : tie.Need-refusal-requires
-refusal-requires c κs = search needs
-
 returns : tie.Need-returns
 unfolding runAnswer
 returns c =
@@ -28,4 +25,10 @@ returns-2 c =
     rw none (refl, (sym (ap (λ (p : State × ℕ). p .0) (c .go .ensures)), sym (ap (λ (p : State × ℕ). p .1) (c .go .ensures))))
 
 pub run-spec : {M : Type 1} → statement M
-run-spec = tie.close (tie.spec refusal-requires returns go-requires returns-2)
+run-spec =
+    tie.close
+    (tie.spec
+    (λ c κs. search needs)  -- refusal-requires
+    returns
+    go-requires
+    returns-2)

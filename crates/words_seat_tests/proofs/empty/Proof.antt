@@ -7,12 +7,13 @@ use borrow.Author.Needs.{needs}
 use Rattle.words_seat_tests.proofs.empty.Statement.{statement}
 use Rattle.words_seat_tests.proofs.empty.Tie as tie
 
-element-copy-out-result : tie.Need-element-copy-out-result
-element-copy-out-result c = search needs
-
 returns : tie.Need-returns
 unfolding stateOf
 returns c = rw (sym (number-in 0 2 0 (c .before .args .seat .now) (lit< tt))) refl
 
 pub empty-spec : {M : Type 1} → statement M
-empty-spec = tie.close (tie.spec element-copy-out-result returns)
+empty-spec =
+    tie.close
+    (tie.spec
+    (λ c. search needs)  -- element-copy-out-result
+    returns)

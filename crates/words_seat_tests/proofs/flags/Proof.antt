@@ -9,54 +9,6 @@ use borrow.Author.Needs.{needs}
 use Rattle.words_seat_tests.proofs.flags.Statement.{statement}
 use Rattle.words_seat_tests.proofs.flags.Tie as tie
 
-index-1-waiting : tie.Need-index-1-waiting
-index-1-waiting c = search needs
-
-waiting-requires : tie.Need-waiting-requires
-waiting-requires c κs = search needs
-
-index-1-waiting-2 : tie.Need-index-1-waiting-2
-index-1-waiting-2 c = search needs
-
-waiting-requires-2 : tie.Need-waiting-requires-2
-waiting-requires-2 c κs = search needs
-
-index-1-waiting-3 : tie.Need-index-1-waiting-3
-index-1-waiting-3 c = search needs
-
-waiting-requires-3 : tie.Need-waiting-requires-3
-waiting-requires-3 c κs = search needs
-
-index-1-waiting-4 : tie.Need-index-1-waiting-4
-index-1-waiting-4 c = search needs
-
-waiting-requires-4 : tie.Need-waiting-requires-4
-waiting-requires-4 c κs = search needs
-
-index-1-waiting-5 : tie.Need-index-1-waiting-5
-index-1-waiting-5 c = search needs
-
-waiting-requires-5 : tie.Need-waiting-requires-5
-waiting-requires-5 c κs = search needs
-
-index-1-waiting-6 : tie.Need-index-1-waiting-6
-index-1-waiting-6 c = search needs
-
-waiting-requires-6 : tie.Need-waiting-requires-6
-waiting-requires-6 c κs = search needs
-
-index-1-waiting-7 : tie.Need-index-1-waiting-7
-index-1-waiting-7 c = search needs
-
-waiting-requires-7 : tie.Need-waiting-requires-7
-waiting-requires-7 c κs = search needs
-
-index-1-waiting-8 : tie.Need-index-1-waiting-8
-index-1-waiting-8 c = search needs
-
-waiting-requires-8 : tie.Need-waiting-requires-8
-waiting-requires-8 c κs = search needs
-
 returns : tie.Need-returns
 returns c =
     let w7 = c .before .before in
@@ -74,20 +26,20 @@ pub flags-spec : {M : Type 1} → statement M
 flags-spec =
     tie.close
     (tie.spec
-    index-1-waiting
-    waiting-requires
-    index-1-waiting-2
-    waiting-requires-2
-    index-1-waiting-3
-    waiting-requires-3
-    index-1-waiting-4
-    waiting-requires-4
-    index-1-waiting-5
-    waiting-requires-5
-    index-1-waiting-6
-    waiting-requires-6
-    index-1-waiting-7
-    waiting-requires-7
-    index-1-waiting-8
-    waiting-requires-8
+    (λ c. search needs)  -- index-1-waiting
+    (λ c κs. search needs)  -- waiting-requires
+    (λ c. search needs)  -- index-1-waiting-2
+    (λ c κs. search needs)  -- waiting-requires-2
+    (λ c. search needs)  -- index-1-waiting-3
+    (λ c κs. search needs)  -- waiting-requires-3
+    (λ c. search needs)  -- index-1-waiting-4
+    (λ c κs. search needs)  -- waiting-requires-4
+    (λ c. search needs)  -- index-1-waiting-5
+    (λ c κs. search needs)  -- waiting-requires-5
+    (λ c. search needs)  -- index-1-waiting-6
+    (λ c κs. search needs)  -- waiting-requires-6
+    (λ c. search needs)  -- index-1-waiting-7
+    (λ c κs. search needs)  -- waiting-requires-7
+    (λ c. search needs)  -- index-1-waiting-8
+    (λ c κs. search needs)  -- waiting-requires-8
     returns)

@@ -27,20 +27,11 @@ abbrev μ-loop : tie.MeasureT-loop
 loop-holds : tie.Need-loop-holds Inv-loop μ-loop
 loop-holds c = (search needs, refl)
 
-other-spoilt-requires : tie.Need-other-spoilt-requires Inv-loop μ-loop
-other-spoilt-requires c κs = search needs
-
 returns : tie.Need-returns Inv-loop μ-loop
 returns c =
     let l = c .before .before .before in
     let a = l .before .args in
     search-found (other (a .seats .now) (a .but)) (l .loop .i) (length (a .seats .now)) (search needs) (sym (c .before .other-spoilt .ensures) ∙ c .if1 .taken)
-
-add-i : tie.Need-add-i Inv-loop μ-loop
-add-i c = search needs
-
-loop-less : tie.Need-loop-less Inv-loop μ-loop
-loop-less c = search needs
 
 loop-again : tie.Need-loop-again Inv-loop μ-loop
 loop-again c =
@@ -56,4 +47,13 @@ returns-2 c =
 
 pub others-sound-spec : {M : Type 1} → statement M
 others-sound-spec =
-    tie.close (tie.spec Inv-loop μ-loop loop-holds other-spoilt-requires returns add-i loop-less loop-again returns-2)
+    tie.close (tie.spec
+    Inv-loop
+    μ-loop
+    loop-holds
+    (λ c κs. search needs)  -- other-spoilt-requires
+    returns
+    (λ c. search needs)  -- add-i
+    (λ c. search needs)  -- loop-less
+    loop-again
+    returns-2)

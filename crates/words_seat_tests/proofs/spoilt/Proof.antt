@@ -6,19 +6,19 @@ use borrow.Author.Needs.{needs}
 use Rattle.words_seat_tests.proofs.spoilt.Statement.{statement}
 use Rattle.words_seat_tests.proofs.spoilt.Tie as tie
 
-empty-requires : tie.Need-empty-requires
-empty-requires c κs = search needs
-
 returns : tie.Need-returns
 unfolding spoilt
 returns c = rw (sym (c .before .empty .ensures) ∙ c .if1 .taken) refl
-
-kept-requires : tie.Need-kept-requires
-kept-requires c κs = search needs
 
 returns-2 : tie.Need-returns-2
 unfolding spoilt
 returns-2 c = rw (sym (c .before .before .empty .ensures) ∙ c .before .if1 .left) (ap not (c .kept .ensures))
 
 pub spoilt-spec : {M : Type 1} → statement M
-spoilt-spec = tie.close (tie.spec empty-requires returns kept-requires returns-2)
+spoilt-spec =
+    tie.close
+    (tie.spec
+    (λ c κs. search needs)  -- empty-requires
+    returns
+    (λ c κs. search needs)  -- kept-requires
+    returns-2)

@@ -8,15 +8,9 @@ use borrow.Author.Needs.{needs}
 use Rattle.words_seat_tests.proofs.waiting.Statement.{statement}
 use Rattle.words_seat_tests.proofs.waiting.Tie as tie
 
-empty-requires : tie.Need-empty-requires
-empty-requires c κs = search needs
-
 returns : tie.Need-returns
 unfolding waiting
 returns c = rw (sym (c .before .empty .ensures) ∙ c .if1 .taken) refl
-
-clock-at-requires : tie.Need-clock-at-requires
-clock-at-requires c κs = search needs
 
 returns-2 : tie.Need-returns-2
 unfolding waiting
@@ -25,4 +19,10 @@ returns-2 c =
     (ap (λ (k : Clock). not (eqb (k .stage) 11)) (c .before .clock-at .ensures))
 
 pub waiting-spec : {M : Type 1} → statement M
-waiting-spec = tie.close (tie.spec empty-requires returns clock-at-requires returns-2)
+waiting-spec =
+    tie.close
+    (tie.spec
+    (λ c κs. search needs)  -- empty-requires
+    returns
+    (λ c κs. search needs)  -- clock-at-requires
+    returns-2)

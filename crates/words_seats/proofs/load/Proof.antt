@@ -9,18 +9,6 @@ returns c =
     let a = c .before .before .args in
     load-high (a .seats .now) (a .seat) _ (c .if1 .taken)
 
-mul-load : tie.Need-mul-load
-mul-load c = search needs
-
-index-1-load : tie.Need-index-1-load
-index-1-load c = search needs
-
-load-requires : tie.Need-load-requires
-load-requires c κs = search needs
-
-cast-result : tie.Need-cast-result
-cast-result c = search needs
-
 returns-2 : tie.Need-returns-2
 returns-2 c =
     let e = c .before .before in
@@ -28,4 +16,12 @@ returns-2 c =
     load-there (a .seats .now) (a .seat) _ (e .if1 .left) (c .load .result) _ (c .load .ensures .0) (c .load .ensures .1)
 
 pub load-spec : {M : Type 1} → statement M
-load-spec = tie.close (tie.spec returns mul-load index-1-load load-requires cast-result returns-2)
+load-spec =
+    tie.close
+    (tie.spec
+    returns
+    (λ c. search needs)  -- mul-load
+    (λ c. search needs)  -- index-1-load
+    (λ c κs. search needs)  -- load-requires
+    (λ c. search needs)  -- cast-result
+    returns-2)

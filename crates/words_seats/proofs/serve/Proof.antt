@@ -7,15 +7,6 @@ use Rattle.words_seats.proofs.serve.Tie as tie
 returns : tie.Need-returns
 returns c = told-high (c .before .args .last) (c .before .args .seats .now) (c .if1 .taken)
 
-flags-requires : tie.Need-flags-requires
-flags-requires c κs = search needs
-
-pick-requires : tie.Need-pick-requires
-pick-requires c κs = search needs
-
-others-sound-requires : tie.Need-others-sound-requires
-others-sound-requires c κs = search needs
-
 abbrev start : tie.After-others-sound → tie.Start
 start os = os .before .before .before .before .before .before .before
 
@@ -36,18 +27,6 @@ returns-2 c = told-others _ _ _ _ (judged (c .before)) (c .if2 .taken)
 returns-3 : tie.Need-returns-3
 returns-3 c = told-over _ _ _ _ (judged (c .before .before)) (c .before .if2 .left) (c .if3 .taken)
 
-cast-round : tie.Need-cast-round
-cast-round c = search needs
-
-mul-round : tie.Need-mul-round
-mul-round c = search needs
-
-index-1-round : tie.Need-index-1-round
-index-1-round c = search needs
-
-round-requires : tie.Need-round-requires
-round-requires c κs = search needs
-
 returns-4 : tie.Need-returns-4
 returns-4 c =
     let r = c .before in
@@ -65,14 +44,14 @@ serve-spec =
     tie.close
     (tie.spec
     returns
-    flags-requires
-    pick-requires
-    others-sound-requires
+    (λ c κs. search needs)  -- flags-requires
+    (λ c κs. search needs)  -- pick-requires
+    (λ c κs. search needs)  -- others-sound-requires
     returns-2
     returns-3
-    cast-round
-    mul-round
-    index-1-round
-    round-requires
+    (λ c. search needs)  -- cast-round
+    (λ c. search needs)  -- mul-round
+    (λ c. search needs)  -- index-1-round
+    (λ c κs. search needs)  -- round-requires
     returns-4
     returns-5)

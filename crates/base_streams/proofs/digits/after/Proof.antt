@@ -5,9 +5,6 @@ use borrow.Author.Needs.{needs}
 use Rattle.base_streams.proofs.digits.after.Statement.{statement}
 use Rattle.base_streams.proofs.digits.after.Tie as tie
 
-add-result : tie.Need-add-result
-add-result c = search needs
-
 returns : tie.Need-returns
 returns c =
     let o = c .before in
@@ -19,4 +16,9 @@ returns-2 c =
     rw (le-ltb (o .args .end) _ (c .if1 .left)) refl
 
 pub after-spec : {M : Type 1} → statement M
-after-spec = tie.close (tie.spec add-result returns returns-2)
+after-spec =
+    tie.close
+    (tie.spec
+    (λ c. search needs)  -- add-result
+    returns
+    returns-2)

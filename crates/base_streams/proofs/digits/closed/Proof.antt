@@ -10,9 +10,6 @@ returns c =
     let o = c .before .before in
     rw (le-leb _ (o .args .end) (c .if1 .taken)) refl
 
-byte-requires : tie.Need-byte-requires
-byte-requires c κs = search needs
-
 returns-2 : tie.Need-returns-2
 returns-2 c =
     let b = c .before in
@@ -28,4 +25,10 @@ returns-3 c =
     rw (lt-leb _ (o .args .end) (i .if1 .left), ← (b .byte .ensures), ne-eqb (b .byte .result) 32 (c .if2 .left)) refl
 
 pub closed-spec : {M : Type 1} → statement M
-closed-spec = tie.close (tie.spec returns byte-requires returns-2 returns-3)
+closed-spec =
+    tie.close
+    (tie.spec
+    returns
+    (λ c κs. search needs)  -- byte-requires
+    returns-2
+    returns-3)

@@ -18,15 +18,6 @@ abbrev μ-loop : tie.MeasureT-loop
 loop-holds : tie.Need-loop-holds Inv-loop μ-loop
 loop-holds c = (refl, refl)
 
-byte-requires : tie.Need-byte-requires Inv-loop μ-loop
-byte-requires c κs = search needs
-
-goes-requires : tie.Need-goes-requires Inv-loop μ-loop
-goes-requires c κs = search needs
-
-byte-requires-2 : tie.Need-byte-requires-2 Inv-loop μ-loop
-byte-requires-2 c κs = search needs
-
 more-requires : tie.Need-more-requires Inv-loop μ-loop
 more-requires c κs =
     let i = c .before in
@@ -87,9 +78,9 @@ read-spec =
     Inv-loop
     μ-loop
     loop-holds
-    byte-requires
-    goes-requires
-    byte-requires-2
+    (λ c κs. search needs)  -- byte-requires
+    (λ c κs. search needs)  -- goes-requires
+    (λ c κs. search needs)  -- byte-requires-2
     more-requires
     add-end
     loop-less

@@ -12,9 +12,6 @@ use Rattle.base_streams.specs.StreamLaws.{below-zero, signed-small}
 use Rattle.base_streams.proofs.digits.signed.Statement.{statement}
 use Rattle.base_streams.proofs.digits.signed.Tie as tie
 
-cast-v : tie.Need-cast-v
-cast-v c = search needs
-
 difference : (c : tie.Then1) → pos 0 -ℤ toZ w16 (c .before .args .value) ≡ signed true (c .before .args .value)
 difference c =
     ap (λ (z : ℤ). pos 0 -ℤ z) (toZ-ofZ w16 (pos (c .before .args .value)) (record { sfits = omega (arith, c .before .pre) }))
@@ -31,4 +28,10 @@ returns-2 : tie.Need-returns-2
 returns-2 c = rw (c .if1 .left) (toZ-ofZ w16 (pos (c .before .args .value)) (record { sfits = omega (arith, c .before .pre) }))
 
 pub signed-spec : {M : Type 1} → statement M
-signed-spec = tie.close (tie.spec cast-v sub-result returns returns-2)
+signed-spec =
+    tie.close
+    (tie.spec
+    (λ c. search needs)  -- cast-v
+    sub-result
+    returns
+    returns-2)

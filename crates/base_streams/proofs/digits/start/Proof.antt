@@ -11,12 +11,6 @@ returns c =
     let o = c .before .before in
     rw (past (o .args .stream .now) (o .args .at) (c .if1 .taken)) refl
 
-byte-requires : tie.Need-byte-requires
-byte-requires c κs = search needs
-
-add-result : tie.Need-add-result
-add-result c = search needs
-
 returns-2 : tie.Need-returns-2
 returns-2 c =
     let b = c .before in
@@ -28,4 +22,11 @@ returns-3 c =
     rw (← (b .byte .ensures), ne-eqb (b .byte .result) 45 (c .if2 .left)) refl
 
 pub start-spec : {M : Type 1} → statement M
-start-spec = tie.close (tie.spec returns byte-requires add-result returns-2 returns-3)
+start-spec =
+    tie.close
+    (tie.spec
+    returns
+    (λ c κs. search needs)  -- byte-requires
+    (λ c. search needs)  -- add-result
+    returns-2
+    returns-3)

@@ -11,12 +11,6 @@ next-number-requires c κs = tt
 levels-requires : tie.Need-levels-requires
 levels-requires c κs = tt
 
-cast-t8 : tie.Need-cast-t8
-cast-t8 c = search needs
-
-same-length : tie.Need-same-length
-same-length c = search needs
-
 returns : tie.Need-returns
 unfolding levelsAt
 returns c =
@@ -25,4 +19,11 @@ returns c =
     (rw (l .levels .ensures .0, n) refl, rw n at (l .levels .ensures .1))
 
 pub levels-spec : {M : Type 1} → statement M
-levels-spec = tie.close (tie.spec next-number-requires levels-requires cast-t8 same-length returns)
+levels-spec =
+    tie.close
+    (tie.spec
+    next-number-requires
+    levels-requires
+    (λ c. search needs)  -- cast-t8
+    (λ c. search needs)  -- same-length
+    returns)

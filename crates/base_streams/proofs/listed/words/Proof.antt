@@ -11,12 +11,6 @@ next-number-requires c κs = tt
 words-requires : tie.Need-words-requires
 words-requires c κs = tt
 
-cast-t8 : tie.Need-cast-t8
-cast-t8 c = search needs
-
-same-length : tie.Need-same-length
-same-length c = search needs
-
 returns : tie.Need-returns
 unfolding wordsAt
 returns c =
@@ -25,4 +19,11 @@ returns c =
     (rw (l .words .ensures .0, n) refl, rw n at (l .words .ensures .1))
 
 pub words-spec : {M : Type 1} → statement M
-words-spec = tie.close (tie.spec next-number-requires words-requires cast-t8 same-length returns)
+words-spec =
+    tie.close
+    (tie.spec
+    next-number-requires
+    words-requires
+    (λ c. search needs)  -- cast-t8
+    (λ c. search needs)  -- same-length
+    returns)

@@ -25,21 +25,6 @@ loop-holds : tie.Need-loop-holds Inv-loop μ-loop
 unfolding afterLevels
 loop-holds c = (omega arith, refl, refl)
 
-next-level-requires : tie.Need-next-level-requires Inv-loop μ-loop
-next-level-requires c κs = search needs
-
-cast-put-level : tie.Need-cast-put-level Inv-loop μ-loop
-cast-put-level c = search needs
-
-put-level-requires : tie.Need-put-level-requires Inv-loop μ-loop
-put-level-requires c κs = search needs
-
-add-i : tie.Need-add-i Inv-loop μ-loop
-add-i c = search needs
-
-loop-less : tie.Need-loop-less Inv-loop μ-loop
-loop-less c = search needs
-
 loop-again : tie.Need-loop-again Inv-loop μ-loop
 loop-again c =
     let p = c .before .before in
@@ -74,11 +59,11 @@ levels-spec =
     Inv-loop
     μ-loop
     loop-holds
-    next-level-requires
-    cast-put-level
-    put-level-requires
-    add-i
-    loop-less
+    (λ c κs. search needs)  -- next-level-requires
+    (λ c. search needs)  -- cast-put-level
+    (λ c κs. search needs)  -- put-level-requires
+    (λ c. search needs)  -- add-i
+    (λ c. search needs)  -- loop-less
     loop-again
     same-length
     returns)

@@ -12,15 +12,6 @@ returns c =
     let o = c .before .before in
     rw (lt-leb (o .args .at) _ (c .if1 .taken)) (refl, sym (set-out _ (o .args .at) (o .args .x) (omega (arith, c .if1 .taken))))
 
-put-byte-requires : tie.Need-put-byte-requires
-put-byte-requires c κs = search needs
-
-add-result : tie.Need-add-result
-add-result c = search needs
-
-same-length : tie.Need-same-length
-same-length c = search needs
-
 returns-2 : tie.Need-returns-2
 returns-2 c =
     let p = c .before .before in
@@ -29,4 +20,11 @@ returns-2 c =
     rw (le-leb (o .args .at) _ (i .if1 .left)) (refl, p .put-byte .ensures)
 
 pub byte-spec : {M : Type 1} → statement M
-byte-spec = tie.close (tie.spec returns put-byte-requires add-result same-length returns-2)
+byte-spec =
+    tie.close
+    (tie.spec
+    returns
+    (λ c κs. search needs)  -- put-byte-requires
+    (λ c. search needs)  -- add-result
+    (λ c. search needs)  -- same-length
+    returns-2)

@@ -10,24 +10,6 @@ returns c =
     let o = c .before .before in
     rw (lt-leb (o .args .power) (o .args .value) (c .if1 .taken)) (refl, refl)
 
-div-put-byte : tie.Need-div-put-byte
-div-put-byte c = search needs
-
-cast-put-byte : tie.Need-cast-put-byte
-cast-put-byte c = search needs
-
-add-put-byte : tie.Need-add-put-byte
-add-put-byte c = search needs
-
-put-byte-requires : tie.Need-put-byte-requires
-put-byte-requires c κs = search needs
-
-add-result : tie.Need-add-result
-add-result c = search needs
-
-same-length : tie.Need-same-length
-same-length c = search needs
-
 returns-2 : tie.Need-returns-2
 returns-2 c =
     let p = c .before .before in
@@ -40,10 +22,10 @@ digit-spec =
     tie.close
     (tie.spec
     returns
-    div-put-byte
-    cast-put-byte
-    add-put-byte
-    put-byte-requires
-    add-result
-    same-length
+    (λ c. search needs)  -- div-put-byte
+    (λ c. search needs)  -- cast-put-byte
+    (λ c. search needs)  -- add-put-byte
+    (λ c κs. search needs)  -- put-byte-requires
+    (λ c. search needs)  -- add-result
+    (λ c. search needs)  -- same-length
     returns-2)

@@ -32,12 +32,6 @@ digit-requires c κs =
     let s = c .before .before in
     (rw (s .loop .inv .2) (tens-positive (s .loop .k)), search needs)
 
-sub-k : tie.Need-sub-k Inv-loop μ-loop
-sub-k c = search needs
-
-loop-less : tie.Need-loop-less Inv-loop μ-loop
-loop-less c = search needs
-
 loop-again : tie.Need-loop-again Inv-loop μ-loop
 loop-again c =
     let d = c .before .before in
@@ -49,21 +43,6 @@ loop-again c =
     let b = shown-bytes (s .loop .k) (o .args .value) (d .digit .result) (s .loop .out) _ (s .loop .end) (s .loop .power) z (s .loop .inv .2) (d .digit .ensures .0) (d .digit .ensures .1) in
     let n = shown-length (s .loop .k) (o .args .value) (d .digit .result) (s .loop .out) _ (s .loop .end) (s .loop .power) z (s .loop .inv .2) (d .digit .ensures .0) (d .digit .ensures .1) in
     (search needs, omega (arith, l, z, s .loop .inv .1), tens-next (s .loop .k) (s .loop .power) z (s .loop .inv .2), search needs, s .loop .inv .4 ∙ b, s .loop .inv .5 ∙ n)
-
-cast-put-byte : tie.Need-cast-put-byte Inv-loop μ-loop
-cast-put-byte c = search needs
-
-add-put-byte : tie.Need-add-put-byte Inv-loop μ-loop
-add-put-byte c = search needs
-
-put-byte-requires : tie.Need-put-byte-requires Inv-loop μ-loop
-put-byte-requires c κs = search needs
-
-add-result : tie.Need-add-result Inv-loop μ-loop
-add-result c = search needs
-
-same-length : tie.Need-same-length Inv-loop μ-loop
-same-length c = search needs
 
 returns-2 : tie.Need-returns-2 Inv-loop μ-loop
 returns-2 c =
@@ -86,12 +65,12 @@ number-spec =
     returns
     loop-holds
     digit-requires
-    sub-k
-    loop-less
+    (λ c. search needs)  -- sub-k
+    (λ c. search needs)  -- loop-less
     loop-again
-    cast-put-byte
-    add-put-byte
-    put-byte-requires
-    add-result
-    same-length
+    (λ c. search needs)  -- cast-put-byte
+    (λ c. search needs)  -- add-put-byte
+    (λ c κs. search needs)  -- put-byte-requires
+    (λ c. search needs)  -- add-result
+    (λ c. search needs)  -- same-length
     returns-2)

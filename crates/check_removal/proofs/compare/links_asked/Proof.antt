@@ -10,32 +10,17 @@ Inv-loop s links pairs joins labels counts₀ j₀ counts j = j ≤ links
 abbrev μ-loop : tie.MeasureT-loop
 μ-loop s links pairs joins labels counts₀ j₀ counts j = links - j
 
-loop-holds : tie.Need-loop-holds Inv-loop μ-loop
-loop-holds c = search needs
-
 link-requires : tie.Need-link-requires Inv-loop μ-loop
 link-requires c κs = tt
 
 link-reply-requires : tie.Need-link-reply-requires Inv-loop μ-loop
 link-reply-requires c κs = tt
 
-cast-word : tie.Need-cast-word Inv-loop μ-loop
-cast-word c = search needs
-
 word-requires : tie.Need-word-requires Inv-loop μ-loop
 word-requires c κs = tt
 
 link-seen-requires : tie.Need-link-seen-requires Inv-loop μ-loop
 link-seen-requires c κs = tt
-
-add-j : tie.Need-add-j Inv-loop μ-loop
-add-j c = search needs
-
-loop-less : tie.Need-loop-less Inv-loop μ-loop
-loop-less c = search needs
-
-loop-again : tie.Need-loop-again Inv-loop μ-loop
-loop-again c = search needs
 
 returns : tie.Need-returns Inv-loop μ-loop
 returns c = tt
@@ -46,13 +31,13 @@ links-asked-spec =
     (tie.spec
     Inv-loop
     μ-loop
-    loop-holds
+    (λ c. search needs)  -- loop-holds
     link-requires
     link-reply-requires
-    cast-word
+    (λ c. search needs)  -- cast-word
     word-requires
     link-seen-requires
-    add-j
-    loop-less
-    loop-again
+    (λ c. search needs)  -- add-j
+    (λ c. search needs)  -- loop-less
+    (λ c. search needs)  -- loop-again
     returns)

@@ -12,9 +12,6 @@ Inv-loop s units pairs joins labels₀ counts₀ v₀ labels counts v = (v ≤ u
 abbrev μ-loop : tie.MeasureT-loop
 μ-loop s units pairs joins labels₀ counts₀ v₀ labels counts v = units - v
 
-loop-holds : tie.Need-loop-holds Inv-loop μ-loop
-loop-holds c = search needs
-
 unit-requires : tie.Need-unit-requires Inv-loop μ-loop
 unit-requires c κs = tt
 
@@ -23,18 +20,6 @@ unit-reply-requires c κs = tt
 
 unit-seen-requires : tie.Need-unit-seen-requires Inv-loop μ-loop
 unit-seen-requires c κs = tt
-
-add-v : tie.Need-add-v Inv-loop μ-loop
-add-v c = search needs
-
-loop-less : tie.Need-loop-less Inv-loop μ-loop
-loop-less c = search needs
-
-loop-again : tie.Need-loop-again Inv-loop μ-loop
-loop-again c = search needs
-
-same-length : tie.Need-same-length Inv-loop μ-loop
-same-length c = search needs
 
 returns : tie.Need-returns Inv-loop μ-loop
 returns c = tt
@@ -45,12 +30,12 @@ units-asked-spec =
     (tie.spec
     Inv-loop
     μ-loop
-    loop-holds
+    (λ c. search needs)  -- loop-holds
     unit-requires
     unit-reply-requires
     unit-seen-requires
-    add-v
-    loop-less
-    loop-again
-    same-length
+    (λ c. search needs)  -- add-v
+    (λ c. search needs)  -- loop-less
+    (λ c. search needs)  -- loop-again
+    (λ c. search needs)  -- same-length
     returns)

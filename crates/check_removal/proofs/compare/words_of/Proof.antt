@@ -12,29 +12,11 @@ Inv-loop pairs count words₀ i₀ words i = (i ≤ count) × (length words ≡ 
 abbrev μ-loop : tie.MeasureT-loop
 μ-loop pairs count words₀ i₀ words i = count - i
 
-loop-holds : tie.Need-loop-holds Inv-loop μ-loop
-loop-holds c = search needs
-
-cast-put : tie.Need-cast-put Inv-loop μ-loop
-cast-put c = search needs
-
 word-of-requires : tie.Need-word-of-requires Inv-loop μ-loop
 word-of-requires c κs = tt
 
 put-requires : tie.Need-put-requires Inv-loop μ-loop
 put-requires c κs = tt
-
-add-i : tie.Need-add-i Inv-loop μ-loop
-add-i c = search needs
-
-loop-less : tie.Need-loop-less Inv-loop μ-loop
-loop-less c = search needs
-
-loop-again : tie.Need-loop-again Inv-loop μ-loop
-loop-again c = search needs
-
-same-length : tie.Need-same-length Inv-loop μ-loop
-same-length c = search needs
 
 returns : tie.Need-returns Inv-loop μ-loop
 returns c = tt
@@ -45,12 +27,12 @@ words-of-spec =
     (tie.spec
     Inv-loop
     μ-loop
-    loop-holds
-    cast-put
+    (λ c. search needs)  -- loop-holds
+    (λ c. search needs)  -- cast-put
     word-of-requires
     put-requires
-    add-i
-    loop-less
-    loop-again
-    same-length
+    (λ c. search needs)  -- add-i
+    (λ c. search needs)  -- loop-less
+    (λ c. search needs)  -- loop-again
+    (λ c. search needs)  -- same-length
     returns)

@@ -12,26 +12,8 @@ Inv-loop marks₀ i₀ marks i = (i ≤ 1024) × (length marks ≡ length marks�
 abbrev μ-loop : tie.MeasureT-loop
 μ-loop marks₀ i₀ marks i = 1024 - i
 
-loop-holds : tie.Need-loop-holds Inv-loop μ-loop
-loop-holds c = search needs
-
-cast-put : tie.Need-cast-put Inv-loop μ-loop
-cast-put c = search needs
-
 put-requires : tie.Need-put-requires Inv-loop μ-loop
 put-requires c κs = tt
-
-add-i : tie.Need-add-i Inv-loop μ-loop
-add-i c = search needs
-
-loop-less : tie.Need-loop-less Inv-loop μ-loop
-loop-less c = search needs
-
-loop-again : tie.Need-loop-again Inv-loop μ-loop
-loop-again c = search needs
-
-same-length : tie.Need-same-length Inv-loop μ-loop
-same-length c = search needs
 
 returns : tie.Need-returns Inv-loop μ-loop
 returns c = tt
@@ -42,11 +24,11 @@ alone-spec =
     (tie.spec
     Inv-loop
     μ-loop
-    loop-holds
-    cast-put
+    (λ c. search needs)  -- loop-holds
+    (λ c. search needs)  -- cast-put
     put-requires
-    add-i
-    loop-less
-    loop-again
-    same-length
+    (λ c. search needs)  -- add-i
+    (λ c. search needs)  -- loop-less
+    (λ c. search needs)  -- loop-again
+    (λ c. search needs)  -- same-length
     returns)

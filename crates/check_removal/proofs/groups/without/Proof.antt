@@ -15,35 +15,8 @@ abbrev μ-loop : tie.MeasureT-loop
 alone-requires : tie.Need-alone-requires Inv-loop μ-loop
 alone-requires c κs = tt
 
-loop-holds : tie.Need-loop-holds Inv-loop μ-loop
-loop-holds c = search needs
-
-cast-join : tie.Need-cast-join Inv-loop μ-loop
-cast-join c = search needs
-
-mul-join : tie.Need-mul-join Inv-loop μ-loop
-mul-join c = search needs
-
-element-copy-out-join : tie.Need-element-copy-out-join Inv-loop μ-loop
-element-copy-out-join c = search needs
-
 join-requires : tie.Need-join-requires Inv-loop μ-loop
 join-requires c κs = tt
-
-add-joins : tie.Need-add-joins Inv-loop μ-loop
-add-joins c = search needs
-
-add-j : tie.Need-add-j Inv-loop μ-loop
-add-j c = search needs
-
-loop-less : tie.Need-loop-less Inv-loop μ-loop
-loop-less c = search needs
-
-loop-again : tie.Need-loop-again Inv-loop μ-loop
-loop-again c = search needs
-
-same-length : tie.Need-same-length Inv-loop μ-loop
-same-length c = search needs
 
 returns : tie.Need-returns Inv-loop μ-loop
 returns c = tt
@@ -55,14 +28,14 @@ without-spec =
     Inv-loop
     μ-loop
     alone-requires
-    loop-holds
-    cast-join
-    mul-join
-    element-copy-out-join
+    (λ c. search needs)  -- loop-holds
+    (λ c. search needs)  -- cast-join
+    (λ c. search needs)  -- mul-join
+    (λ c. search needs)  -- element-copy-out-join
     join-requires
-    add-joins
-    add-j
-    loop-less
-    loop-again
-    same-length
+    (λ c. search needs)  -- add-joins
+    (λ c. search needs)  -- add-j
+    (λ c. search needs)  -- loop-less
+    (λ c. search needs)  -- loop-again
+    (λ c. search needs)  -- same-length
     returns)

@@ -12,35 +12,8 @@ Inv-loop pairs x left first₀ labels₀ j₀ first labels j = (j ≤ 1024) × (
 abbrev μ-loop : tie.MeasureT-loop
 μ-loop pairs x left first₀ labels₀ j₀ first labels j = 1024 - j
 
-loop-holds : tie.Need-loop-holds Inv-loop μ-loop
-loop-holds c = search needs
-
-cast-meet : tie.Need-cast-meet Inv-loop μ-loop
-cast-meet c = search needs
-
-mul-meet : tie.Need-mul-meet Inv-loop μ-loop
-mul-meet c = search needs
-
-element-copy-out-meet : tie.Need-element-copy-out-meet Inv-loop μ-loop
-element-copy-out-meet c = search needs
-
 meet-requires : tie.Need-meet-requires Inv-loop μ-loop
 meet-requires c κs = tt
-
-add-j : tie.Need-add-j Inv-loop μ-loop
-add-j c = search needs
-
-loop-less : tie.Need-loop-less Inv-loop μ-loop
-loop-less c = search needs
-
-loop-again : tie.Need-loop-again Inv-loop μ-loop
-loop-again c = search needs
-
-same-length : tie.Need-same-length Inv-loop μ-loop
-same-length c = search needs
-
-same-length-2 : tie.Need-same-length-2 Inv-loop μ-loop
-same-length-2 c = search needs
 
 returns : tie.Need-returns Inv-loop μ-loop
 returns c = tt
@@ -51,14 +24,14 @@ meet-all-spec =
     (tie.spec
     Inv-loop
     μ-loop
-    loop-holds
-    cast-meet
-    mul-meet
-    element-copy-out-meet
+    (λ c. search needs)  -- loop-holds
+    (λ c. search needs)  -- cast-meet
+    (λ c. search needs)  -- mul-meet
+    (λ c. search needs)  -- element-copy-out-meet
     meet-requires
-    add-j
-    loop-less
-    loop-again
-    same-length
-    same-length-2
+    (λ c. search needs)  -- add-j
+    (λ c. search needs)  -- loop-less
+    (λ c. search needs)  -- loop-again
+    (λ c. search needs)  -- same-length
+    (λ c. search needs)  -- same-length-2
     returns)

@@ -5,14 +5,13 @@ use borrow.Author.Needs.{needs}
 use Rattle.file_frames.proofs.check.check_byte.Statement.{statement}
 use Rattle.file_frames.proofs.check.check_byte.Tie as tie
 
-sum-requires : tie.Need-sum-requires
-sum-requires c κs = search needs
-
-wrapping-sub-u8-requires : tie.Need-wrapping-sub-u8-requires
-wrapping-sub-u8-requires c κs = search needs
-
 returns : tie.Need-returns
 returns c = check-unique (c .before .before .before .args .f .now) (c .wrapping-sub-u8 .result) (omega arith) (omega arith)
 
 pub check-byte-spec : {M : Type 1} → statement M
-check-byte-spec = tie.close (tie.spec sum-requires wrapping-sub-u8-requires returns)
+check-byte-spec =
+    tie.close
+    (tie.spec
+    (λ c κs. search needs)  -- sum-requires
+    (λ c κs. search needs)  -- wrapping-sub-u8-requires
+    returns)

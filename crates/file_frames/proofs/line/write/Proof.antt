@@ -12,31 +12,10 @@ returns c =
     let a = c .before .before .before .args in
     sym (lineOver-short (a .body .now) (a .out .now) (omega arith))
 
-sub-if2 : tie.Need-sub-if2
-sub-if2 c = search needs
-
 returns-2 : tie.Need-returns-2
 returns-2 c =
     let a = c .before .before .before .before .args in
     sym (lineOver-short (a .body .now) (a .out .now) (omega arith))
-
-mul-at : tie.Need-mul-at
-mul-at c = search needs
-
-put-bytes-requires : tie.Need-put-bytes-requires
-put-bytes-requires c κs = search needs
-
-check-byte-requires : tie.Need-check-byte-requires
-check-byte-requires c κs = search needs
-
-put-byte-requires : tie.Need-put-byte-requires
-put-byte-requires c κs = search needs
-
-add-out : tie.Need-add-out
-add-out c = search needs
-
-slice-write-out : tie.Need-slice-write-out
-slice-write-out c = search needs
 
 same-length : tie.Need-same-length
 same-length c = simp length-set (search needs)
@@ -52,13 +31,13 @@ write-spec =
     tie.close
     (tie.spec
     returns
-    sub-if2
+    (λ c. search needs)  -- sub-if2
     returns-2
-    mul-at
-    put-bytes-requires
-    check-byte-requires
-    put-byte-requires
-    add-out
-    slice-write-out
+    (λ c. search needs)  -- mul-at
+    (λ c κs. search needs)  -- put-bytes-requires
+    (λ c κs. search needs)  -- check-byte-requires
+    (λ c κs. search needs)  -- put-byte-requires
+    (λ c. search needs)  -- add-out
+    (λ c. search needs)  -- slice-write-out
     same-length
     returns-3)

@@ -19,35 +19,14 @@ size f = f .frame-bytes .ensures ∙ ap frameBytes (f .before .byte .ensures)
 returns : tie.Need-returns
 returns c = let s = c .before .before .before .args .s .now in kind-none s (front-few s (c .if1 .taken))
 
-shared-slice-read-byte : tie.Need-shared-slice-read-byte
-shared-slice-read-byte c = search needs
-
-shared-slice-read-byte-2 : tie.Need-shared-slice-read-byte-2
-shared-slice-read-byte-2 c = search needs
-
-byte-requires : tie.Need-byte-requires
-byte-requires c κs = search needs
-
-frame-bytes-requires : tie.Need-frame-bytes-requires
-frame-bytes-requires c κs = search needs
-
 returns-2 : tie.Need-returns-2
 returns-2 c = let f = c .before in kind-none (chars f) (front-unknown (chars f) (f .frame-bytes .result) (size f) (c .if2 .taken))
-
-cast-end : tie.Need-cast-end
-cast-end c = search needs
-
-mul-end : tie.Need-mul-end
-mul-end c = search needs
 
 returns-3 : tie.Need-returns-3
 returns-3 c =
     let e = c .before in
     let f = e .before in
     kind-none (chars f) (front-short (chars f) (f .frame-bytes .result) (size f) (e .if2 .left) (c .if3 .taken))
-
-shared-slice-read-if4 : tie.Need-shared-slice-read-if4
-shared-slice-read-if4 c = search needs
 
 returns-4 : tie.Need-returns-4
 returns-4 c =
@@ -85,15 +64,15 @@ kind-spec =
     tie.close
     (tie.spec
     returns
-    shared-slice-read-byte
-    shared-slice-read-byte-2
-    byte-requires
-    frame-bytes-requires
+    (λ c. search needs)  -- shared-slice-read-byte
+    (λ c. search needs)  -- shared-slice-read-byte-2
+    (λ c κs. search needs)  -- byte-requires
+    (λ c κs. search needs)  -- frame-bytes-requires
     returns-2
-    cast-end
-    mul-end
+    (λ c. search needs)  -- cast-end
+    (λ c. search needs)  -- mul-end
     returns-3
-    shared-slice-read-if4
+    (λ c. search needs)  -- shared-slice-read-if4
     returns-4
     slice-aggregate-sums-to-0
     sums-to-0-requires

@@ -16,21 +16,6 @@ abbrev μ-loop : tie.MeasureT-loop
 loop-holds : tie.Need-loop-holds Inv-loop μ-loop
 loop-holds c = (search needs, marks-none)
 
-low-digit-requires : tie.Need-low-digit-requires Inv-loop μ-loop
-low-digit-requires c κs = search needs
-
-cast-at : tie.Need-cast-at Inv-loop μ-loop
-cast-at c = search needs
-
-array-write-t : tie.Need-array-write-t Inv-loop μ-loop
-array-write-t c = search needs
-
-add-d : tie.Need-add-d Inv-loop μ-loop
-add-d c = search needs
-
-loop-less : tie.Need-loop-less Inv-loop μ-loop
-loop-less c = search needs
-
 loop-again : tie.Need-loop-again Inv-loop μ-loop
 loop-again c =
     let l = c .before .before in
@@ -48,10 +33,10 @@ made-spec =
     Inv-loop
     μ-loop
     loop-holds
-    low-digit-requires
-    cast-at
-    array-write-t
-    add-d
-    loop-less
+    (λ c κs. search needs)  -- low-digit-requires
+    (λ c. search needs)  -- cast-at
+    (λ c. search needs)  -- array-write-t
+    (λ c. search needs)  -- add-d
+    (λ c. search needs)  -- loop-less
     loop-again
     returns)

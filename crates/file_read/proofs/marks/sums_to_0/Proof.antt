@@ -27,36 +27,6 @@ abbrev μ-loop : tie.MeasureT-loop
 loop-holds : tie.Need-loop-holds Inv-loop μ-loop
 loop-holds c = (omega arith, refl, omega arith, omega arith, refl)
 
-add-loop : tie.Need-add-loop Inv-loop μ-loop
-add-loop c = search needs
-
-shared-slice-read-mark : tie.Need-shared-slice-read-mark Inv-loop μ-loop
-shared-slice-read-mark c = search needs
-
-mark-requires : tie.Need-mark-requires Inv-loop μ-loop
-mark-requires c κs = search needs
-
-add-mark : tie.Need-add-mark Inv-loop μ-loop
-add-mark c = search needs
-
-shared-slice-read-mark-2 : tie.Need-shared-slice-read-mark-2 Inv-loop μ-loop
-shared-slice-read-mark-2 c = search needs
-
-mark-requires-2 : tie.Need-mark-requires-2 Inv-loop μ-loop
-mark-requires-2 c κs = search needs
-
-byte-of-requires : tie.Need-byte-of-requires Inv-loop μ-loop
-byte-of-requires c κs = search needs
-
-wrapping-add-u8-requires : tie.Need-wrapping-add-u8-requires Inv-loop μ-loop
-wrapping-add-u8-requires c κs = search needs
-
-add-i : tie.Need-add-i Inv-loop μ-loop
-add-i c = search needs
-
-loop-less : tie.Need-loop-less Inv-loop μ-loop
-loop-less c = search needs
-
 loop-again : tie.Need-loop-again Inv-loop μ-loop
 loop-again c =
     let a = c .before .before in
@@ -97,16 +67,16 @@ sums-to-0-spec =
     Inv-loop
     μ-loop
     loop-holds
-    add-loop
-    shared-slice-read-mark
-    mark-requires
-    add-mark
-    shared-slice-read-mark-2
-    mark-requires-2
-    byte-of-requires
-    wrapping-add-u8-requires
-    add-i
-    loop-less
+    (λ c. search needs)  -- add-loop
+    (λ c. search needs)  -- shared-slice-read-mark
+    (λ c κs. search needs)  -- mark-requires
+    (λ c. search needs)  -- add-mark
+    (λ c. search needs)  -- shared-slice-read-mark-2
+    (λ c κs. search needs)  -- mark-requires-2
+    (λ c κs. search needs)  -- byte-of-requires
+    (λ c κs. search needs)  -- wrapping-add-u8-requires
+    (λ c. search needs)  -- add-i
+    (λ c. search needs)  -- loop-less
     loop-again
     returns
     returns-2)

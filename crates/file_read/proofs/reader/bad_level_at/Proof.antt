@@ -14,11 +14,14 @@ add-byte-at c = omega (arith, c .before .before .pre .1, c .before .before .good
 byte-at-requires : tie.Need-byte-at-requires
 byte-at-requires c κs = (c .before .before .pre .0, omega (arith, c .before .before .pre .1))
 
-bad-level-requires : tie.Need-bad-level-requires
-bad-level-requires c κs = search needs
-
 returns : tie.Need-returns
 returns c = c .bad-level .ensures ∙ ap (λ (b : ℕ). not (inRange (byteLevel b))) (c .before .byte-at .ensures)
 
 pub bad-level-at-spec : {M : Type 1} → statement M
-bad-level-at-spec = tie.close (tie.spec add-byte-at byte-at-requires bad-level-requires returns)
+bad-level-at-spec =
+    tie.close
+    (tie.spec
+    add-byte-at
+    byte-at-requires
+    (λ c κs. search needs)  -- bad-level-requires
+    returns)

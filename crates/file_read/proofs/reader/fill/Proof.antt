@@ -88,9 +88,6 @@ byte-at-requires c κs =
       omega (arith, fill-reads (s .args .file .now) (s .args .words .now) (l .loop .words) (s .args .levels .now) (l .loop .levels) (l .loop .at) (l .loop .n) (l .loop .inv) (c .loop-test .taken)),
     )
 
-is-link-requires : tie.Need-is-link-requires Inv-loop μ-loop
-is-link-requires c κs = search needs
-
 add-word-at : tie.Need-add-word-at Inv-loop μ-loop
 add-word-at c = omega (arith, stands c)
 
@@ -99,9 +96,6 @@ word-at-requires c κs = (search needs, omega (arith, stands c))
 
 mul-words : tie.Need-mul-words Inv-loop μ-loop
 mul-words c = omega (arith, room (c .before))
-
-mul-words-2 : tie.Need-mul-words-2 Inv-loop μ-loop
-mul-words-2 c = search needs
 
 slice-write-words : tie.Need-slice-write-words Inv-loop μ-loop
 slice-write-words c = omega (arith, room (c .before))
@@ -118,9 +112,6 @@ mul-words-3 c = omega (arith, room (c .before .before))
 add-words : tie.Need-add-words Inv-loop μ-loop
 add-words c = omega (arith, room (c .before .before))
 
-mul-words-4 : tie.Need-mul-words-4 Inv-loop μ-loop
-mul-words-4 c = search needs
-
 slice-write-words-2 : tie.Need-slice-write-words-2 Inv-loop μ-loop
 slice-write-words-2 c =
     let t = c .before .before in
@@ -129,17 +120,11 @@ slice-write-words-2 c =
 level-at-requires : tie.Need-level-at-requires Inv-loop μ-loop
 level-at-requires c κs = (search needs, fits (place (c .before .before)))
 
-mul-level : tie.Need-mul-level Inv-loop μ-loop
-mul-level c = search needs
-
 slice-set-from-level : tie.Need-slice-set-from-level Inv-loop μ-loop
 slice-set-from-level c = omega (arith, roomLevels (c .before .before .before))
 
 add-n : tie.Need-add-n Inv-loop μ-loop
 add-n c = omega (arith, roomLevels (c .before .before .before))
-
-line-length-requires : tie.Need-line-length-requires Inv-loop μ-loop
-line-length-requires c κs = search needs
 
 add-at : tie.Need-add-at Inv-loop μ-loop
 add-at c = omega (arith, c .line-length .ensures, fits (place (c .before .before .before .before)))
@@ -159,9 +144,6 @@ loop-again c =
     let level = toZ-ofZ w16 (r .result) (record { sfits = r .ok }) ∙ r .ensures in
     subst⁻¹ (λ (x : ℕ). Filled (file d) (old d) (set (set (k .words) (2 * (k .n)) a) (2 * (k .n) + 1) b) (oldLevels d) (set (k .levels) (k .n) z) (k .at + x) (k .n + 1)) (c .line-length .ensures)
     (fill-link (file d) (old d) (k .words) (oldLevels d) (k .levels) (k .at) (k .n) (k .inv) (kind d) (line d) (link t) a b z (c .before .before .before .word-at .ensures) (c .before .before .word-at2 .ensures) level (start d .pre .2) (start d .pre .3))
-
-line-length-requires-2 : tie.Need-line-length-requires-2 Inv-loop μ-loop
-line-length-requires-2 c κs = search needs
 
 add-at-2 : tie.Need-add-at-2 Inv-loop μ-loop
 add-at-2 c = omega (arith, c .line-length2 .ensures, fits (c .before .before .before))
@@ -203,27 +185,27 @@ fill-spec =
     μ-loop
     loop-holds
     byte-at-requires
-    is-link-requires
+    (λ c κs. search needs)  -- is-link-requires
     add-word-at
     word-at-requires
     mul-words
-    mul-words-2
+    (λ c. search needs)  -- mul-words-2
     slice-write-words
     add-word-at-2
     word-at-requires-2
     mul-words-3
     add-words
-    mul-words-4
+    (λ c. search needs)  -- mul-words-4
     slice-write-words-2
     level-at-requires
-    mul-level
+    (λ c. search needs)  -- mul-level
     slice-set-from-level
     add-n
-    line-length-requires
+    (λ c κs. search needs)  -- line-length-requires
     add-at
     loop-less
     loop-again
-    line-length-requires-2
+    (λ c κs. search needs)  -- line-length-requires-2
     add-at-2
     loop-less-2
     loop-again-2

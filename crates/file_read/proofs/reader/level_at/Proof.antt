@@ -24,9 +24,6 @@ add-byte-at c = omega (arith, stands c)
 byte-at-requires : tie.Need-byte-at-requires
 byte-at-requires c κs = (c .before .before .before .pre .0, omega (arith, stands c))
 
-of-byte-requires : tie.Need-of-byte-requires
-of-byte-requires c κs = search needs
-
 returns : tie.Need-returns
 returns c = toZ-ofZ w16 (c .of-byte .result) (record { sfits = c .of-byte .ok }) ∙ c .of-byte .ensures ∙ rw (c .before .before .if1 .taken) (ap byteLevel (c .before .byte-at .ensures))
 
@@ -35,4 +32,9 @@ returns-2 c = rw (ne-eqb (c .before .before .before .args .kind) LINK (c .if1 .l
 
 pub level-at-spec : {M : Type 1} → statement M
 level-at-spec =
-    tie.close (tie.spec add-byte-at byte-at-requires of-byte-requires returns returns-2)
+    tie.close (tie.spec
+    add-byte-at
+    byte-at-requires
+    (λ c κs. search needs)  -- of-byte-requires
+    returns
+    returns-2)

@@ -84,18 +84,6 @@ module _ (e : tie.Else4 Inv-loop μ-loop) where
 loop-holds : tie.Need-loop-holds Inv-loop μ-loop
 loop-holds c = walk-start (c .before .before .args .file .now)
 
-sub-kind : tie.Need-sub-kind Inv-loop μ-loop
-sub-kind c = search needs
-
-part-kind-start : tie.Need-part-kind-start Inv-loop μ-loop
-part-kind-start c = search needs
-
-part-kind-end : tie.Need-part-kind-end Inv-loop μ-loop
-part-kind-end c = search needs
-
-kind-requires : tie.Need-kind-requires Inv-loop μ-loop
-kind-requires c κs = search needs
-
 returns : tie.Need-returns Inv-loop μ-loop
 returns c =
     let l = c .before .before .before .before in
@@ -106,17 +94,8 @@ returns c =
 bad-level-at-requires : tie.Need-bad-level-at-requires Inv-loop μ-loop
 bad-level-at-requires c κs = (search needs, omega (arith, stands c))
 
-either-requires : tie.Need-either-requires Inv-loop μ-loop
-either-requires c κs = search needs
-
-next-order-requires : tie.Need-next-order-requires Inv-loop μ-loop
-next-order-requires c κs = search needs
-
 add-links : tie.Need-add-links Inv-loop μ-loop
 add-links c = omega (arith, loopOf (c .before .before .before .before) .loop .inv .few)
-
-line-length-requires : tie.Need-line-length-requires Inv-loop μ-loop
-line-length-requires c κs = search needs
 
 add-at : tie.Need-add-at Inv-loop μ-loop
 add-at c = omega (arith, c .line-length .ensures, stands (c .before .before .before .before))
@@ -134,14 +113,8 @@ loop-again c =
     rw (c .line-length .ensures, c .before .next-order .ensures, bad)
     (walk-link (file d) (l .at) (l .order) (l .links) (l .last) (l .outside) (l .inv) (link t))
 
-next-order-requires-2 : tie.Need-next-order-requires-2 Inv-loop μ-loop
-next-order-requires-2 c κs = search needs
-
 add-links-2 : tie.Need-add-links-2 Inv-loop μ-loop
 add-links-2 c = omega (arith, loopOf (c .before .before .before) .loop .inv .few)
-
-line-length-requires-2 : tie.Need-line-length-requires-2 Inv-loop μ-loop
-line-length-requires-2 c κs = search needs
 
 add-at-2 : tie.Need-add-at-2 Inv-loop μ-loop
 add-at-2 c =
@@ -159,12 +132,6 @@ loop-again-2 c =
     let l = loopOf d .loop in
     rw (c .line-length2 .ensures, c .before .next-order2 .ensures)
     (walk-bare (file d) (l .at) (l .order) (l .links) (l .last) (l .outside) (l .inv) (bare t))
-
-next-order-requires-3 : tie.Need-next-order-requires-3 Inv-loop μ-loop
-next-order-requires-3 c κs = search needs
-
-line-length-requires-3 : tie.Need-line-length-requires-3 Inv-loop μ-loop
-line-length-requires-3 c κs = search needs
 
 add-at-3 : tie.Need-add-at-3 Inv-loop μ-loop
 add-at-3 c =
@@ -196,16 +163,10 @@ add-word-at c = omega (arith, last c)
 word-at-requires : tie.Need-word-at-requires Inv-loop μ-loop
 word-at-requires c κs = (search needs, omega (arith, last c))
 
-cast-if5 : tie.Need-cast-if5 Inv-loop μ-loop
-cast-if5 c = search needs
-
 returns-3 : tie.Need-returns-3 Inv-loop μ-loop
 returns-3 c =
     let e = c .before .before in
     refused-3 (linesOf (text e)) (places e) (spaces e) (p1 e) (p2 e) (λ q. c .if5 .taken (c .before .word-at .ensures ∙ sym (stated e) ∙ q ∙ count e))
-
-later-refusal-requires : tie.Need-later-refusal-requires Inv-loop μ-loop
-later-refusal-requires c κs = search needs
 
 returns-4 : tie.Need-returns-4 Inv-loop μ-loop
 returns-4 c =
@@ -223,34 +184,34 @@ refusal-spec =
     Inv-loop
     μ-loop
     loop-holds
-    sub-kind
-    part-kind-start
-    part-kind-end
-    kind-requires
+    (λ c. search needs)  -- sub-kind
+    (λ c. search needs)  -- part-kind-start
+    (λ c. search needs)  -- part-kind-end
+    (λ c κs. search needs)  -- kind-requires
     returns
     bad-level-at-requires
-    either-requires
-    next-order-requires
+    (λ c κs. search needs)  -- either-requires
+    (λ c κs. search needs)  -- next-order-requires
     add-links
-    line-length-requires
+    (λ c κs. search needs)  -- line-length-requires
     add-at
     loop-less
     loop-again
-    next-order-requires-2
+    (λ c κs. search needs)  -- next-order-requires-2
     add-links-2
-    line-length-requires-2
+    (λ c κs. search needs)  -- line-length-requires-2
     add-at-2
     loop-less-2
     loop-again-2
-    next-order-requires-3
-    line-length-requires-3
+    (λ c κs. search needs)  -- next-order-requires-3
+    (λ c κs. search needs)  -- line-length-requires-3
     add-at-3
     loop-less-3
     loop-again-3
     returns-2
     add-word-at
     word-at-requires
-    cast-if5
+    (λ c. search needs)  -- cast-if5
     returns-3
-    later-refusal-requires
+    (λ c κs. search needs)  -- later-refusal-requires
     returns-4)

@@ -29,51 +29,6 @@ start out = refl
 loop-holds : tie.Need-loop-holds Inv-loop μ-loop
 loop-holds c = (omega arith, refl, start (c .before .before .args .out .now))
 
-mul-at : tie.Need-mul-at Inv-loop μ-loop
-mul-at c = search needs
-
-mul-word : tie.Need-mul-word Inv-loop μ-loop
-mul-word c = search needs
-
-word-requires : tie.Need-word-requires Inv-loop μ-loop
-word-requires c κs = search needs
-
-mul-word-2 : tie.Need-mul-word-2 Inv-loop μ-loop
-mul-word-2 c = search needs
-
-add-word : tie.Need-add-word Inv-loop μ-loop
-add-word c = search needs
-
-word-requires-2 : tie.Need-word-requires-2 Inv-loop μ-loop
-word-requires-2 c κs = search needs
-
-mul-level : tie.Need-mul-level Inv-loop μ-loop
-mul-level c = search needs
-
-shared-slice-copy-out-level : tie.Need-shared-slice-copy-out-level Inv-loop μ-loop
-shared-slice-copy-out-level c = search needs
-
-byte-of-requires : tie.Need-byte-of-requires Inv-loop μ-loop
-byte-of-requires c κs = search needs
-
-sub-two-numbers-and-byte : tie.Need-sub-two-numbers-and-byte Inv-loop μ-loop
-sub-two-numbers-and-byte c = search needs
-
-part-two-numbers-and-byte-start : tie.Need-part-two-numbers-and-byte-start Inv-loop μ-loop
-part-two-numbers-and-byte-start c = search needs
-
-part-two-numbers-and-byte-end : tie.Need-part-two-numbers-and-byte-end Inv-loop μ-loop
-part-two-numbers-and-byte-end c = search needs
-
-two-numbers-and-byte-requires : tie.Need-two-numbers-and-byte-requires Inv-loop μ-loop
-two-numbers-and-byte-requires c κs = search needs
-
-add-j : tie.Need-add-j Inv-loop μ-loop
-add-j c = search needs
-
-loop-less : tie.Need-loop-less Inv-loop μ-loop
-loop-less c = search needs
-
 loop-again : tie.Need-loop-again Inv-loop μ-loop
 loop-again c =
     let l = c .before .before .before .before .before .before .before .before .before in
@@ -86,9 +41,6 @@ loop-again c =
       rw (c .before .before .two-numbers-and-byte .ensures, c .before .before .before .before .before .before .before .word .ensures, c .before .before .before .before .before .before .word2 .ensures, byte, l .loop .inv .2)
           (lines-next (a .words .now) (a .levels .now) (a .out .now) (l .loop .j) (p .0 .one) (omega (arith, p .0 .one, c .before .before .before .before .before .before .before .before .loop-test .taken)) (omega (arith, p .1))),
     )
-
-same-length : tie.Need-same-length Inv-loop μ-loop
-same-length c = search needs
 
 returns : tie.Need-returns Inv-loop μ-loop
 returns c =
@@ -105,21 +57,21 @@ link-lines-spec =
     Inv-loop
     μ-loop
     loop-holds
-    mul-at
-    mul-word
-    word-requires
-    mul-word-2
-    add-word
-    word-requires-2
-    mul-level
-    shared-slice-copy-out-level
-    byte-of-requires
-    sub-two-numbers-and-byte
-    part-two-numbers-and-byte-start
-    part-two-numbers-and-byte-end
-    two-numbers-and-byte-requires
-    add-j
-    loop-less
+    (λ c. search needs)  -- mul-at
+    (λ c. search needs)  -- mul-word
+    (λ c κs. search needs)  -- word-requires
+    (λ c. search needs)  -- mul-word-2
+    (λ c. search needs)  -- add-word
+    (λ c κs. search needs)  -- word-requires-2
+    (λ c. search needs)  -- mul-level
+    (λ c. search needs)  -- shared-slice-copy-out-level
+    (λ c κs. search needs)  -- byte-of-requires
+    (λ c. search needs)  -- sub-two-numbers-and-byte
+    (λ c. search needs)  -- part-two-numbers-and-byte-start
+    (λ c. search needs)  -- part-two-numbers-and-byte-end
+    (λ c κs. search needs)  -- two-numbers-and-byte-requires
+    (λ c. search needs)  -- add-j
+    (λ c. search needs)  -- loop-less
     loop-again
-    same-length
+    (λ c. search needs)  -- same-length
     returns)

@@ -17,9 +17,6 @@ passed c =
     let a = c .before .before .before .args in
     passes (a .units) (a .words .now) (table-alone (a .units) (a .words .now) (a .levels .now) (fresh-accepted (a .units) (a .words .now) (a .levels .now) (none c)))
 
-refusal-requires : tie.Need-refusal-requires
-refusal-requires c κs = search needs
-
 returns : tie.Need-returns
 returns c =
     let a = c .before .before .before .args in
@@ -43,4 +40,12 @@ returns-3 c =
     write-0 (a .units) (a .words .now) (a .levels .now) (a .places) (none (c .before)) (c .if2 .left)
 
 pub refusal-spec : {M : Type 1} → statement M
-refusal-spec = tie.close (tie.spec refusal-requires returns mul-if2 add-if2 returns-2 returns-3)
+refusal-spec =
+    tie.close
+    (tie.spec
+    (λ c κs. search needs)  -- refusal-requires
+    returns
+    mul-if2
+    add-if2
+    returns-2
+    returns-3)

@@ -15,31 +15,10 @@ Inv-loop arcs rank requests₀ rounds₀ a₀ requests rounds a = (a ≤ arcs) �
 abbrev μ-loop : tie.MeasureT-loop
 μ-loop arcs rank requests₀ rounds₀ a₀ requests rounds a = arcs - a
 
-loop-holds : tie.Need-loop-holds Inv-loop μ-loop
-loop-holds c = search needs
-
-mul-digits : tie.Need-mul-digits Inv-loop μ-loop
-mul-digits c = search needs
-
-element-copy-out-digits : tie.Need-element-copy-out-digits Inv-loop μ-loop
-element-copy-out-digits c = search needs
-
-digits-requires : tie.Need-digits-requires Inv-loop μ-loop
-digits-requires c κs = search needs
-
 add-requests : tie.Need-add-requests Inv-loop μ-loop
 add-requests c =
     let s = c .before .before .before in
     omega (arith, c .digits .ensures .1, s .loop .inv .0, s .loop .inv .1, c .before .before .loop-test .taken, s .before .pre)
-
-greatest-of-requires : tie.Need-greatest-of-requires Inv-loop μ-loop
-greatest-of-requires c κs = search needs
-
-add-a : tie.Need-add-a Inv-loop μ-loop
-add-a c = search needs
-
-loop-less : tie.Need-loop-less Inv-loop μ-loop
-loop-less c = search needs
 
 loop-again : tie.Need-loop-again Inv-loop μ-loop
 loop-again c =
@@ -67,13 +46,13 @@ asked-spec =
     (tie.spec
     Inv-loop
     μ-loop
-    loop-holds
-    mul-digits
-    element-copy-out-digits
-    digits-requires
+    (λ c. search needs)  -- loop-holds
+    (λ c. search needs)  -- mul-digits
+    (λ c. search needs)  -- element-copy-out-digits
+    (λ c κs. search needs)  -- digits-requires
     add-requests
-    greatest-of-requires
-    add-a
-    loop-less
+    (λ c κs. search needs)  -- greatest-of-requires
+    (λ c. search needs)  -- add-a
+    (λ c. search needs)  -- loop-less
     loop-again
     returns)

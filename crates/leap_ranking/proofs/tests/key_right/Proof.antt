@@ -11,36 +11,12 @@ use borrow.Author.Needs.{needs}
 use Rattle.leap_ranking.proofs.tests.key_right.Statement.{statement}
 use Rattle.leap_ranking.proofs.tests.key_right.Tie as tie
 
-mul-before : tie.Need-mul-before
-mul-before c = search needs
-
-element-copy-out-before : tie.Need-element-copy-out-before
-element-copy-out-before c = search needs
-
-mul-own-sum : tie.Need-mul-own-sum
-mul-own-sum c = search needs
-
-element-copy-out-own-sum : tie.Need-element-copy-out-own-sum
-element-copy-out-own-sum c = search needs
-
-mul-own-sum-2 : tie.Need-mul-own-sum-2
-mul-own-sum-2 c = search needs
-
-element-copy-out-own-sum-2 : tie.Need-element-copy-out-own-sum-2
-element-copy-out-own-sum-2 c = search needs
-
-own-sum-requires : tie.Need-own-sum-requires
-own-sum-requires c κs = search needs
-
 returns : tie.Need-returns
 unfolding keyRight
 returns c =
     let t = c .before .before .before in
     let a = t .before .before .args in
     rw (eq-eqb (getD (a .jump .now) (a .a) 0) ABSENT (t .if1 .taken), c .own-sum .ensures) refl
-
-index-requires : tie.Need-index-requires
-index-requires c κs = search needs
 
 returns-2 : tie.Need-returns-2
 unfolding keyRight
@@ -51,27 +27,6 @@ returns-2 c =
     let before = getD (a .jump .now) (a .a) 0 in
     let past : ltb before (a .arcs) ≡ false = le-ltb before (a .arcs) (omega (arith, c .if2 .taken, i .index .ensures)) in
     rw (ne-eqb before ABSENT (e .if1 .left), past) refl
-
-mul-comes-after : tie.Need-mul-comes-after
-mul-comes-after c = search needs
-
-element-copy-out-comes-after : tie.Need-element-copy-out-comes-after
-element-copy-out-comes-after c = search needs
-
-mul-comes-after-2 : tie.Need-mul-comes-after-2
-mul-comes-after-2 c = search needs
-
-element-copy-out-comes-after-2 : tie.Need-element-copy-out-comes-after-2
-element-copy-out-comes-after-2 c = search needs
-
-mul-comes-after-3 : tie.Need-mul-comes-after-3
-mul-comes-after-3 c = search needs
-
-element-copy-out-comes-after-3 : tie.Need-element-copy-out-comes-after-3
-element-copy-out-comes-after-3 c = search needs
-
-comes-after-requires : tie.Need-comes-after-requires
-comes-after-requires c κs = search needs
 
 returns-3 : tie.Need-returns-3
 unfolding keyRight
@@ -88,21 +43,21 @@ pub key-right-spec : {M : Type 1} → statement M
 key-right-spec =
     tie.close
     (tie.spec
-    mul-before
-    element-copy-out-before
-    mul-own-sum
-    element-copy-out-own-sum
-    mul-own-sum-2
-    element-copy-out-own-sum-2
-    own-sum-requires
+    (λ c. search needs)  -- mul-before
+    (λ c. search needs)  -- element-copy-out-before
+    (λ c. search needs)  -- mul-own-sum
+    (λ c. search needs)  -- element-copy-out-own-sum
+    (λ c. search needs)  -- mul-own-sum-2
+    (λ c. search needs)  -- element-copy-out-own-sum-2
+    (λ c κs. search needs)  -- own-sum-requires
     returns
-    index-requires
+    (λ c κs. search needs)  -- index-requires
     returns-2
-    mul-comes-after
-    element-copy-out-comes-after
-    mul-comes-after-2
-    element-copy-out-comes-after-2
-    mul-comes-after-3
-    element-copy-out-comes-after-3
-    comes-after-requires
+    (λ c. search needs)  -- mul-comes-after
+    (λ c. search needs)  -- element-copy-out-comes-after
+    (λ c. search needs)  -- mul-comes-after-2
+    (λ c. search needs)  -- element-copy-out-comes-after-2
+    (λ c. search needs)  -- mul-comes-after-3
+    (λ c. search needs)  -- element-copy-out-comes-after-3
+    (λ c κs. search needs)  -- comes-after-requires
     returns-3)

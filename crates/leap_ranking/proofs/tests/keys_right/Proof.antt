@@ -19,17 +19,8 @@ abbrev μ-loop : tie.MeasureT-loop
 loop-holds : tie.Need-loop-holds Inv-loop μ-loop
 loop-holds c = (omega arith, λ i h. absurd (omega arith))
 
-key-right-requires : tie.Need-key-right-requires Inv-loop μ-loop
-key-right-requires c κs = search needs
-
 returns : tie.Need-returns Inv-loop μ-loop
 returns c = λ e. absurd (false≢true e)
-
-add-a : tie.Need-add-a Inv-loop μ-loop
-add-a c = search needs
-
-loop-less : tie.Need-loop-less Inv-loop μ-loop
-loop-less c = search needs
 
 loop-again : tie.Need-loop-again Inv-loop μ-loop
 loop-again c =
@@ -48,9 +39,9 @@ keys-right-spec =
     Inv-loop
     μ-loop
     loop-holds
-    key-right-requires
+    (λ c κs. search needs)  -- key-right-requires
     returns
-    add-a
-    loop-less
+    (λ c. search needs)  -- add-a
+    (λ c. search needs)  -- loop-less
     loop-again
     returns-2)

@@ -10,45 +10,18 @@ Inv-loop arcs jump sum next firsts key₀ count i₀ key i = i ≤ count
 abbrev μ-loop : tie.MeasureT-loop
 μ-loop arcs jump sum next firsts key₀ count i₀ key i = count - i
 
-followers-requires : tie.Need-followers-requires Inv-loop μ-loop
-followers-requires c κs = search needs
-
-loop-holds : tie.Need-loop-holds Inv-loop μ-loop
-loop-holds c = search needs
-
-mul-follow : tie.Need-mul-follow Inv-loop μ-loop
-mul-follow c = search needs
-
-array-read-follow : tie.Need-array-read-follow Inv-loop μ-loop
-array-read-follow c = search needs
-
-follow-requires : tie.Need-follow-requires Inv-loop μ-loop
-follow-requires c κs = search needs
-
-add-i : tie.Need-add-i Inv-loop μ-loop
-add-i c = search needs
-
-loop-less : tie.Need-loop-less Inv-loop μ-loop
-loop-less c = search needs
-
-loop-again : tie.Need-loop-again Inv-loop μ-loop
-loop-again c = search needs
-
-returns : tie.Need-returns Inv-loop μ-loop
-returns c = search needs
-
 pub walk-spec : {M : Type 1} → statement M
 walk-spec =
     tie.close
     (tie.spec
     Inv-loop
     μ-loop
-    followers-requires
-    loop-holds
-    mul-follow
-    array-read-follow
-    follow-requires
-    add-i
-    loop-less
-    loop-again
-    returns)
+    (λ c κs. search needs)  -- followers-requires
+    (λ c. search needs)  -- loop-holds
+    (λ c. search needs)  -- mul-follow
+    (λ c. search needs)  -- array-read-follow
+    (λ c κs. search needs)  -- follow-requires
+    (λ c. search needs)  -- add-i
+    (λ c. search needs)  -- loop-less
+    (λ c. search needs)  -- loop-again
+    (λ c. search needs))  -- returns

@@ -18,42 +18,6 @@ abbrev μ-loop : tie.MeasureT-loop
 loop-holds : tie.Need-loop-holds Inv-loop μ-loop
 loop-holds c = (search needs, search needs, chains-none (replicate 256 0) (c .before .before .args .next .now) (zeros-at 256))
 
-mul-i : tie.Need-mul-i Inv-loop μ-loop
-mul-i c = search needs
-
-cast-at : tie.Need-cast-at Inv-loop μ-loop
-cast-at c = search needs
-
-mul-a : tie.Need-mul-a Inv-loop μ-loop
-mul-a c = search needs
-
-shared-slice-read-a : tie.Need-shared-slice-read-a Inv-loop μ-loop
-shared-slice-read-a c = search needs
-
-add-b : tie.Need-add-b Inv-loop μ-loop
-add-b c = search needs
-
-mul-b : tie.Need-mul-b Inv-loop μ-loop
-mul-b c = search needs
-
-shared-slice-read-b : tie.Need-shared-slice-read-b Inv-loop μ-loop
-shared-slice-read-b c = search needs
-
-join-requires : tie.Need-join-requires Inv-loop μ-loop
-join-requires c κs = search needs
-
-add-join : tie.Need-add-join Inv-loop μ-loop
-add-join c = search needs
-
-join-requires-2 : tie.Need-join-requires-2 Inv-loop μ-loop
-join-requires-2 c κs = search needs
-
-add-j : tie.Need-add-j Inv-loop μ-loop
-add-j c = search needs
-
-loop-less : tie.Need-loop-less Inv-loop μ-loop
-loop-less c = search needs
-
 loop-again : tie.Need-loop-again Inv-loop μ-loop
 loop-again c =
     let two = c .before .before in
@@ -65,11 +29,28 @@ loop-again c =
           (one .join .ensures .0) (one .join .ensures .1) (two .join2 .ensures .0) (two .join2 .ensures .1),
     )
 
-same-length : tie.Need-same-length Inv-loop μ-loop
-same-length c = search needs
-
 returns : tie.Need-returns Inv-loop μ-loop
 returns c = rw (le-antisymm (c .before .loop .inv .0) (c .loop-test .left)) at (c .before .loop .inv .2)
 
 pub chained-spec : {M : Type 1} → statement M
-chained-spec = tie.close (tie.spec Inv-loop μ-loop loop-holds mul-i cast-at mul-a shared-slice-read-a add-b mul-b shared-slice-read-b join-requires add-join join-requires-2 add-j loop-less loop-again same-length returns)
+chained-spec =
+    tie.close
+    (tie.spec
+    Inv-loop
+    μ-loop
+    loop-holds
+    (λ c. search needs)  -- mul-i
+    (λ c. search needs)  -- cast-at
+    (λ c. search needs)  -- mul-a
+    (λ c. search needs)  -- shared-slice-read-a
+    (λ c. search needs)  -- add-b
+    (λ c. search needs)  -- mul-b
+    (λ c. search needs)  -- shared-slice-read-b
+    (λ c κs. search needs)  -- join-requires
+    (λ c. search needs)  -- add-join
+    (λ c κs. search needs)  -- join-requires-2
+    (λ c. search needs)  -- add-j
+    (λ c. search needs)  -- loop-less
+    loop-again
+    (λ c. search needs)  -- same-length
+    returns)

@@ -18,28 +18,10 @@ further : (test : Bool) (v n : ℕ) → v < n → n - cond test (v + 1) n < n - 
 further true v n h = omega arith
 further false v n h = omega arith
 
-loop-holds : tie.Need-loop-holds Inv-loop μ-loop
-loop-holds c = search needs
-
-begin-requires : tie.Need-begin-requires Inv-loop μ-loop
-begin-requires c κs = search needs
-
-add-choose : tie.Need-add-choose Inv-loop μ-loop
-add-choose c = search needs
-
-choose-requires : tie.Need-choose-requires Inv-loop μ-loop
-choose-requires c κs = search needs
-
 loop-less : tie.Need-loop-less Inv-loop μ-loop
 loop-less c =
     let s = c .before .before .before .before .before in
     rw (c .choose .ensures) (further (ltb (c .before .begin .result) (s .before .before .before .before .args .units)) (s .before .loop .v) (s .before .before .before .before .args .units) (s .loop-test .taken))
-
-loop-again : tie.Need-loop-again Inv-loop μ-loop
-loop-again c = search needs
-
-returns : tie.Need-returns Inv-loop μ-loop
-returns c = search needs
 
 pub search-spec : {M : Type 1} → statement M
 search-spec =
@@ -47,10 +29,10 @@ search-spec =
     (tie.spec
     Inv-loop
     μ-loop
-    loop-holds
-    begin-requires
-    add-choose
-    choose-requires
+    (λ c. search needs)  -- loop-holds
+    (λ c κs. search needs)  -- begin-requires
+    (λ c. search needs)  -- add-choose
+    (λ c κs. search needs)  -- choose-requires
     loop-less
-    loop-again
-    returns)
+    (λ c. search needs)  -- loop-again
+    (λ c. search needs))  -- returns

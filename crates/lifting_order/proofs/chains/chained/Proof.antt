@@ -13,50 +13,8 @@ Inv-loop t last₀ next₀ i₀ last next i = (i ≤ length t) × (length last �
 abbrev μ-loop : tie.MeasureT-loop
 μ-loop t last₀ next₀ i₀ last next i = length t - i
 
-zeros-requires : tie.Need-zeros-requires Inv-loop μ-loop
-zeros-requires c κs = search needs
-
-places-requires : tie.Need-places-requires Inv-loop μ-loop
-places-requires c κs = search needs
-
 loop-holds : tie.Need-loop-holds Inv-loop μ-loop
 loop-holds c = (search needs, search needs, search needs, chained-none _ _ _ (c .before .zeros .ensures))
-
-word-requires : tie.Need-word-requires Inv-loop μ-loop
-word-requires c κs = search needs
-
-cast-v : tie.Need-cast-v Inv-loop μ-loop
-cast-v c = search needs
-
-slice-aggregate-word : tie.Need-slice-aggregate-word Inv-loop μ-loop
-slice-aggregate-word c = search needs
-
-word-requires-2 : tie.Need-word-requires-2 Inv-loop μ-loop
-word-requires-2 c κs = search needs
-
-slice-aggregate-put : tie.Need-slice-aggregate-put Inv-loop μ-loop
-slice-aggregate-put c = search needs
-
-put-requires : tie.Need-put-requires Inv-loop μ-loop
-put-requires c κs = search needs
-
-slice-aggregate-put-2 : tie.Need-slice-aggregate-put-2 Inv-loop μ-loop
-slice-aggregate-put-2 c = search needs
-
-cast-put : tie.Need-cast-put Inv-loop μ-loop
-cast-put c = search needs
-
-add-put : tie.Need-add-put Inv-loop μ-loop
-add-put c = search needs
-
-put-requires-2 : tie.Need-put-requires-2 Inv-loop μ-loop
-put-requires-2 c κs = search needs
-
-add-i : tie.Need-add-i Inv-loop μ-loop
-add-i c = search needs
-
-loop-less : tie.Need-loop-less Inv-loop μ-loop
-loop-less c = search needs
 
 loop-again : tie.Need-loop-again Inv-loop μ-loop
 loop-again c =
@@ -81,20 +39,20 @@ chained-spec =
     (tie.spec
     Inv-loop
     μ-loop
-    zeros-requires
-    places-requires
+    (λ c κs. search needs)  -- zeros-requires
+    (λ c κs. search needs)  -- places-requires
     loop-holds
-    word-requires
-    cast-v
-    slice-aggregate-word
-    word-requires-2
-    slice-aggregate-put
-    put-requires
-    slice-aggregate-put-2
-    cast-put
-    add-put
-    put-requires-2
-    add-i
-    loop-less
+    (λ c κs. search needs)  -- word-requires
+    (λ c. search needs)  -- cast-v
+    (λ c. search needs)  -- slice-aggregate-word
+    (λ c κs. search needs)  -- word-requires-2
+    (λ c. search needs)  -- slice-aggregate-put
+    (λ c κs. search needs)  -- put-requires
+    (λ c. search needs)  -- slice-aggregate-put-2
+    (λ c. search needs)  -- cast-put
+    (λ c. search needs)  -- add-put
+    (λ c κs. search needs)  -- put-requires-2
+    (λ c. search needs)  -- add-i
+    (λ c. search needs)  -- loop-less
     loop-again
     returns)

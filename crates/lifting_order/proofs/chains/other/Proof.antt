@@ -6,12 +6,6 @@ use borrow.Author.Needs.{needs}
 use Rattle.lifting_order.proofs.chains.other.Statement.{statement}
 use Rattle.lifting_order.proofs.chains.other.Tie as tie
 
-add-result : tie.Need-add-result
-add-result c = search needs
-
-sub-result : tie.Need-sub-result
-sub-result c = search needs
-
 returns : tie.Need-returns
 returns c = rw (eq-eqb (c .before .args .i % 2) 0 (c .if1 .taken)) refl
 
@@ -19,4 +13,10 @@ returns-2 : tie.Need-returns-2
 returns-2 c = rw (ne-eqb (c .before .args .i % 2) 0 (c .if1 .left)) refl
 
 pub other-spec : {M : Type 1} → statement M
-other-spec = tie.close (tie.spec add-result sub-result returns returns-2)
+other-spec =
+    tie.close
+    (tie.spec
+    (λ c. search needs)  -- add-result
+    (λ c. search needs)  -- sub-result
+    returns
+    returns-2)

@@ -14,47 +14,11 @@ Inv-loop mark t last next v x₀ c₀ x c = (length x ≡ length x₀) × Along 
 abbrev μ-loop : tie.MeasureT-loop
 μ-loop mark t last next v x₀ c₀ x c = c
 
-word-requires : tie.Need-word-requires Inv-loop μ-loop
-word-requires c κs = search needs
-
 loop-holds : tie.Need-loop-holds Inv-loop μ-loop
 loop-holds c =
     let b = c .before .before .before .before .before in
     let a = b .args in
     (refl, along-begun (a .t .now) (a .v) (acts (a .t .now) (does (a .mark))) (a .last .now) (a .next .now) (b .pre .1) (c .word .result) (a .x .now) (b .pre .2) (c .word .ensures))
-
-cast-past : tie.Need-cast-past Inv-loop μ-loop
-cast-past c = search needs
-
-sub-i : tie.Need-sub-i Inv-loop μ-loop
-sub-i c = search needs
-
-other-requires : tie.Need-other-requires Inv-loop μ-loop
-other-requires c κs = search needs
-
-word-requires-2 : tie.Need-word-requires-2 Inv-loop μ-loop
-word-requires-2 c κs = search needs
-
-cast-w : tie.Need-cast-w Inv-loop μ-loop
-cast-w c = search needs
-
-word-requires-3 : tie.Need-word-requires-3 Inv-loop μ-loop
-word-requires-3 c κs = search needs
-
-cast-less : tie.Need-cast-less Inv-loop μ-loop
-cast-less c = search needs
-
-less-requires : tie.Need-less-requires Inv-loop μ-loop
-less-requires c κs = search needs
-
-choose-requires : tie.Need-choose-requires Inv-loop μ-loop
-choose-requires c κs = search needs
-
-put-requires : tie.Need-put-requires Inv-loop μ-loop
-put-requires c κs = search needs
-
-word-requires-4 : tie.Need-word-requires-4 Inv-loop μ-loop
-word-requires-4 c κs = search needs
 
 loop-less : tie.Need-loop-less Inv-loop μ-loop
 loop-less c =
@@ -78,9 +42,6 @@ loop-again c =
           (c .before .before .before .before .before .before .before .before .before .before .before .loop-test .taken) (s .loop .inv .1) new (c .word4 .ensures),
     )
 
-same-length : tie.Need-same-length Inv-loop μ-loop
-same-length c = search needs
-
 returns : tie.Need-returns Inv-loop μ-loop
 unfolding walked
 returns c =
@@ -94,20 +55,20 @@ walk-spec =
     (tie.spec
     Inv-loop
     μ-loop
-    word-requires
+    (λ c κs. search needs)  -- word-requires
     loop-holds
-    cast-past
-    sub-i
-    other-requires
-    word-requires-2
-    cast-w
-    word-requires-3
-    cast-less
-    less-requires
-    choose-requires
-    put-requires
-    word-requires-4
+    (λ c. search needs)  -- cast-past
+    (λ c. search needs)  -- sub-i
+    (λ c κs. search needs)  -- other-requires
+    (λ c κs. search needs)  -- word-requires-2
+    (λ c. search needs)  -- cast-w
+    (λ c κs. search needs)  -- word-requires-3
+    (λ c. search needs)  -- cast-less
+    (λ c κs. search needs)  -- less-requires
+    (λ c κs. search needs)  -- choose-requires
+    (λ c κs. search needs)  -- put-requires
+    (λ c κs. search needs)  -- word-requires-4
     loop-less
     loop-again
-    same-length
+    (λ c. search needs)  -- same-length
     returns)

@@ -18,9 +18,6 @@ chained-requires c κs = c .before .before .before .pre .0 .links
 chained-requires-2 : tie.Need-chained-requires-2 Inv-loop μ-loop
 chained-requires-2 c κs = c .before .before .before .before .pre .0 .pairs
 
-reached-requires : tie.Need-reached-requires Inv-loop μ-loop
-reached-requires c κs = search needs
-
 waiting-requires : tie.Need-waiting-requires Inv-loop μ-loop
 waiting-requires c κs = (c .before .before .before .before .before .before .pre .0 .pairs, c .before .before .before .before .before .before .pre .0 .whole-pairs)
 
@@ -38,12 +35,6 @@ slice-aggregate-next-up c = sym (c .before .before .loop .inv .1 .tables .near-l
 slice-aggregate-next-up-2 : tie.Need-slice-aggregate-next-up-2 Inv-loop μ-loop
 slice-aggregate-next-up-2 c = sym (c .before .before .before .loop .inv .1 .tables .wait-long)
 
-next-up-requires : tie.Need-next-up-requires Inv-loop μ-loop
-next-up-requires c κs = search needs
-
-same-length : tie.Need-same-length Inv-loop μ-loop
-same-length c = search needs
-
 returns : tie.Need-returns Inv-loop μ-loop
 returns c =
     let s = c .before .before .before .before .before in
@@ -52,38 +43,11 @@ returns c =
     growing-stuck (a .units) (a .ends .now) (a .pairs .now) (b .pre .0) (s .loop .order) (s .loop .near) (s .loop .wait) (s .loop .left) (c .before .next-up .result)
     (c .before .before .before .before .loop-test .taken) (s .loop .inv .1) (c .before .next-up .ensures) (c .if1 .taken)
 
-sub-left : tie.Need-sub-left Inv-loop μ-loop
-sub-left c = search needs
-
-cast-put : tie.Need-cast-put Inv-loop μ-loop
-cast-put c = search needs
-
-put-requires : tie.Need-put-requires Inv-loop μ-loop
-put-requires c κs = search needs
-
-slice-aggregate-walk : tie.Need-slice-aggregate-walk Inv-loop μ-loop
-slice-aggregate-walk c = search needs
-
 walk-requires : tie.Need-walk-requires Inv-loop μ-loop
 walk-requires c κs = (c .before .before .before .before .before .before .before .before .before .before .before .before .before .before .before .before .before .before .before .before .before .before .before .pre .0 .links, c .before .before .before .before .before .before .before .before .before .before .before .before .before .before .before .before .before .before .before .chained .ensures, next-below (c .before .before .before .before .before .before .before .before .before .before .before .before .before .before .before .before .before .before .before .before .before .before .before .args .units) (c .before .before .before .before .before .before .before .before .before .before .before .next-up .result) (ready (c .before .before .before .before .before .before .before .before .before .before .before .before .before .before .before .loop .near) (c .before .before .before .before .before .before .before .before .before .before .before .before .before .before .before .loop .wait)) (c .before .before .before .before .before .before .before .before .before .before .before .before .before .before .before .before .before .before .before .before .before .before .before .pre .0 .few) (c .before .before .before .before .before .before .before .before .before .before .before .next-up .ensures) (c .before .before .before .before .before .before .before .before .before .before .if1 .left))
 
-slice-aggregate-walk-2 : tie.Need-slice-aggregate-walk-2 Inv-loop μ-loop
-slice-aggregate-walk-2 c = search needs
-
 walk-requires-2 : tie.Need-walk-requires-2 Inv-loop μ-loop
 walk-requires-2 c κs = (c .before .before .before .before .before .before .before .before .before .before .before .before .before .before .before .before .before .before .before .before .before .before .before .before .before .before .before .before .before .before .before .pre .0 .pairs, c .before .before .before .before .before .before .before .before .before .before .before .before .before .before .before .before .before .before .before .before .before .before .before .before .before .before .chained2 .ensures, next-below (c .before .before .before .before .before .before .before .before .before .before .before .before .before .before .before .before .before .before .before .before .before .before .before .before .before .before .before .before .before .before .before .args .units) (c .before .before .before .before .before .before .before .before .before .before .before .before .before .before .before .before .before .before .before .next-up .result) (ready (c .before .before .before .before .before .before .before .before .before .before .before .before .before .before .before .before .before .before .before .before .before .before .before .loop .near) (c .before .before .before .before .before .before .before .before .before .before .before .before .before .before .before .before .before .before .before .before .before .before .before .loop .wait)) (c .before .before .before .before .before .before .before .before .before .before .before .before .before .before .before .before .before .before .before .before .before .before .before .before .before .before .before .before .before .before .before .pre .0 .few) (c .before .before .before .before .before .before .before .before .before .before .before .before .before .before .before .before .before .before .before .next-up .ensures) (c .before .before .before .before .before .before .before .before .before .before .before .before .before .before .before .before .before .before .if1 .left))
-
-slice-aggregate-put : tie.Need-slice-aggregate-put Inv-loop μ-loop
-slice-aggregate-put c = search needs
-
-cast-put-2 : tie.Need-cast-put-2 Inv-loop μ-loop
-cast-put-2 c = search needs
-
-put-requires-2 : tie.Need-put-requires-2 Inv-loop μ-loop
-put-requires-2 c κs = search needs
-
-loop-less : tie.Need-loop-less Inv-loop μ-loop
-loop-less c = search needs
 
 loop-again : tie.Need-loop-again Inv-loop μ-loop
 loop-again c =
@@ -96,9 +60,6 @@ loop-again c =
       growing-turn (a .units) (a .ends .now) (a .pairs .now) (b .pre .0) (s .loop .order) (s .loop .near) (s .loop .wait) _ _ _ _ (s .loop .left) (next .result)
           (s .loop .inv .0) (c .before .before .before .before .before .before .before .before .before .before .before .before .before .before .before .before .before .before .before .before .before .before .before .before .before .before .before .loop-test .taken) (s .loop .inv .1) (next .ensures) (c .before .before .before .before .before .before .before .before .before .before .before .before .before .before .before .before .before .before .before .before .before .before .before .if1 .left) (put .ensures) (c .before .before .before .before .before .before .before .before .before .before .before .before .walk .ensures) (c .before .before .before .before .walk2 .ensures) (c .before .put2 .ensures),
     )
-
-same-length-2 : tie.Need-same-length-2 Inv-loop μ-loop
-same-length-2 c = search needs
 
 returns-2 : tie.Need-returns-2 Inv-loop μ-loop
 returns-2 c =
@@ -115,25 +76,25 @@ grown-spec =
     μ-loop
     chained-requires
     chained-requires-2
-    reached-requires
+    (λ c κs. search needs)  -- reached-requires
     waiting-requires
     loop-holds
     slice-aggregate-next-up
     slice-aggregate-next-up-2
-    next-up-requires
-    same-length
+    (λ c κs. search needs)  -- next-up-requires
+    (λ c. search needs)  -- same-length
     returns
-    sub-left
-    cast-put
-    put-requires
-    slice-aggregate-walk
+    (λ c. search needs)  -- sub-left
+    (λ c. search needs)  -- cast-put
+    (λ c κs. search needs)  -- put-requires
+    (λ c. search needs)  -- slice-aggregate-walk
     walk-requires
-    slice-aggregate-walk-2
+    (λ c. search needs)  -- slice-aggregate-walk-2
     walk-requires-2
-    slice-aggregate-put
-    cast-put-2
-    put-requires-2
-    loop-less
+    (λ c. search needs)  -- slice-aggregate-put
+    (λ c. search needs)  -- cast-put-2
+    (λ c κs. search needs)  -- put-requires-2
+    (λ c. search needs)  -- loop-less
     loop-again
-    same-length-2
+    (λ c. search needs)  -- same-length-2
     returns-2)

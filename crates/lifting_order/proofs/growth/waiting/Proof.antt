@@ -16,41 +16,8 @@ Inv-loop p wait₀ k₀ wait k = (k ≤ linkCount p) × (length wait ≡ 256) ×
 abbrev μ-loop : tie.MeasureT-loop
 μ-loop p wait₀ k₀ wait k = linkCount p - k
 
-zeros-requires : tie.Need-zeros-requires Inv-loop μ-loop
-zeros-requires c κs = search needs
-
 loop-holds : tie.Need-loop-holds Inv-loop μ-loop
 loop-holds c = (search needs, search needs, c .zeros .ensures)
-
-mul-word : tie.Need-mul-word Inv-loop μ-loop
-mul-word c = search needs
-
-word-requires : tie.Need-word-requires Inv-loop μ-loop
-word-requires c κs = search needs
-
-cast-w : tie.Need-cast-w Inv-loop μ-loop
-cast-w c = search needs
-
-slice-aggregate-word : tie.Need-slice-aggregate-word Inv-loop μ-loop
-slice-aggregate-word c = search needs
-
-word-requires-2 : tie.Need-word-requires-2 Inv-loop μ-loop
-word-requires-2 c κs = search needs
-
-bounded-sum-requires : tie.Need-bounded-sum-requires Inv-loop μ-loop
-bounded-sum-requires c κs = search needs
-
-slice-aggregate-put : tie.Need-slice-aggregate-put Inv-loop μ-loop
-slice-aggregate-put c = search needs
-
-put-requires : tie.Need-put-requires Inv-loop μ-loop
-put-requires c κs = search needs
-
-add-k : tie.Need-add-k Inv-loop μ-loop
-add-k c = search needs
-
-loop-less : tie.Need-loop-less Inv-loop μ-loop
-loop-less c = search needs
 
 loop-again : tie.Need-loop-again Inv-loop μ-loop
 loop-again c =
@@ -74,17 +41,17 @@ waiting-spec =
     (tie.spec
     Inv-loop
     μ-loop
-    zeros-requires
+    (λ c κs. search needs)  -- zeros-requires
     loop-holds
-    mul-word
-    word-requires
-    cast-w
-    slice-aggregate-word
-    word-requires-2
-    bounded-sum-requires
-    slice-aggregate-put
-    put-requires
-    add-k
-    loop-less
+    (λ c. search needs)  -- mul-word
+    (λ c κs. search needs)  -- word-requires
+    (λ c. search needs)  -- cast-w
+    (λ c. search needs)  -- slice-aggregate-word
+    (λ c κs. search needs)  -- word-requires-2
+    (λ c κs. search needs)  -- bounded-sum-requires
+    (λ c. search needs)  -- slice-aggregate-put
+    (λ c κs. search needs)  -- put-requires
+    (λ c. search needs)  -- add-k
+    (λ c. search needs)  -- loop-less
     loop-again
     returns)

@@ -15,19 +15,10 @@ abbrev μ-loop : tie.MeasureT-loop
 loop-holds : tie.Need-loop-holds Inv-loop μ-loop
 loop-holds c = rise-begins _ _ _
 
-at-requires : tie.Need-at-requires Inv-loop μ-loop
-at-requires c κs = search needs
-
 returns : tie.Need-returns Inv-loop μ-loop
 returns c =
     let u = c .before in
     rise-ends _ _ _ _ _ (u .before .before .loop .inv) (u .before .loop-test .taken) (sym (u .at .ensures) ∙ c .if1 .taken)
-
-add-far : tie.Need-add-far Inv-loop μ-loop
-add-far c = search needs
-
-loop-less : tie.Need-loop-less Inv-loop μ-loop
-loop-less c = search needs
 
 loop-again : tie.Need-loop-again Inv-loop μ-loop
 loop-again c =
@@ -44,9 +35,9 @@ top-of-spec =
     Inv-loop
     μ-loop
     loop-holds
-    at-requires
+    (λ c κs. search needs)  -- at-requires
     returns
-    add-far
-    loop-less
+    (λ c. search needs)  -- add-far
+    (λ c. search needs)  -- loop-less
     loop-again
     returns-2)

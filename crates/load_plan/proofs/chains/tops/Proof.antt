@@ -16,30 +16,6 @@ Inv-loop units parents tops₀ v₀ tops v = (v ≤ units) × (length tops ≡ 2
 abbrev μ-loop : tie.MeasureT-loop
 μ-loop units parents tops₀ v₀ tops v = units - v
 
-blank-requires : tie.Need-blank-requires Inv-loop μ-loop
-blank-requires c κs = search needs
-
-loop-holds : tie.Need-loop-holds Inv-loop μ-loop
-loop-holds c = search needs
-
-cast-at : tie.Need-cast-at Inv-loop μ-loop
-cast-at c = search needs
-
-top-of-requires : tie.Need-top-of-requires Inv-loop μ-loop
-top-of-requires c κs = search needs
-
-mul-tops : tie.Need-mul-tops Inv-loop μ-loop
-mul-tops c = search needs
-
-array-write-tops : tie.Need-array-write-tops Inv-loop μ-loop
-array-write-tops c = search needs
-
-add-v : tie.Need-add-v Inv-loop μ-loop
-add-v c = search needs
-
-loop-less : tie.Need-loop-less Inv-loop μ-loop
-loop-less c = search needs
-
 loop-again : tie.Need-loop-again Inv-loop μ-loop
 loop-again c = let s = c .before .before in (search needs, search needs, over-more _ _ _ _ _ _ (s .loop .inv .2) (c .top-of .ensures) refl)
 
@@ -56,13 +32,13 @@ tops-spec =
     (tie.spec
     Inv-loop
     μ-loop
-    blank-requires
-    loop-holds
-    cast-at
-    top-of-requires
-    mul-tops
-    array-write-tops
-    add-v
-    loop-less
+    (λ c κs. search needs)  -- blank-requires
+    (λ c. search needs)  -- loop-holds
+    (λ c. search needs)  -- cast-at
+    (λ c κs. search needs)  -- top-of-requires
+    (λ c. search needs)  -- mul-tops
+    (λ c. search needs)  -- array-write-tops
+    (λ c. search needs)  -- add-v
+    (λ c. search needs)  -- loop-less
     loop-again
     returns)

@@ -5,21 +5,6 @@ use borrow.Author.Needs.{needs}
 use Rattle.load_plan.proofs.near.mark.Statement.{statement}
 use Rattle.load_plan.proofs.near.mark.Tie as tie
 
-at-requires : tie.Need-at-requires
-at-requires c κs = search needs
-
-at-requires-2 : tie.Need-at-requires-2
-at-requires-2 c κs = search needs
-
-choose-requires : tie.Need-choose-requires
-choose-requires c κs = search needs
-
-store-requires : tie.Need-store-requires
-store-requires c κs = search needs
-
-same-length : tie.Need-same-length
-same-length c = search needs
-
 returns : tie.Need-returns
 unfolding marked
 returns c =
@@ -32,4 +17,10 @@ returns c =
 pub mark-spec : {M : Type 1} → statement M
 mark-spec =
     tie.close
-    (tie.spec at-requires at-requires-2 choose-requires store-requires same-length returns)
+    (tie.spec
+    (λ c κs. search needs)  -- at-requires
+    (λ c κs. search needs)  -- at-requires-2
+    (λ c κs. search needs)  -- choose-requires
+    (λ c κs. search needs)  -- store-requires
+    (λ c. search needs)  -- same-length
+    returns)

@@ -12,46 +12,10 @@ Inv-loop links table parents near₀ j₀ near j = (j ≤ links) × MarksAt tabl
 abbrev μ-loop : tie.MeasureT-loop
 μ-loop links table parents near₀ j₀ near j = links - j
 
-no-marks-requires : tie.Need-no-marks-requires Inv-loop μ-loop
-no-marks-requires c κs = search needs
-
 loop-holds : tie.Need-loop-holds Inv-loop μ-loop
 loop-holds c =
     let a = c .before .before .before .args in
     (search needs, marks-none (a .table .now) (a .parents .now) (c .no-marks .result) (search needs) (c .no-marks .ensures))
-
-cast-i : tie.Need-cast-i Inv-loop μ-loop
-cast-i c = search needs
-
-mul-i : tie.Need-mul-i Inv-loop μ-loop
-mul-i c = search needs
-
-word-requires : tie.Need-word-requires Inv-loop μ-loop
-word-requires c κs = search needs
-
-add-word : tie.Need-add-word Inv-loop μ-loop
-add-word c = search needs
-
-word-requires-2 : tie.Need-word-requires-2 Inv-loop μ-loop
-word-requires-2 c κs = search needs
-
-slice-aggregate-mark : tie.Need-slice-aggregate-mark Inv-loop μ-loop
-slice-aggregate-mark c = search needs
-
-mark-requires : tie.Need-mark-requires Inv-loop μ-loop
-mark-requires c κs = search needs
-
-slice-aggregate-mark-2 : tie.Need-slice-aggregate-mark-2 Inv-loop μ-loop
-slice-aggregate-mark-2 c = search needs
-
-mark-requires-2 : tie.Need-mark-requires-2 Inv-loop μ-loop
-mark-requires-2 c κs = search needs
-
-add-j : tie.Need-add-j Inv-loop μ-loop
-add-j c = search needs
-
-loop-less : tie.Need-loop-less Inv-loop μ-loop
-loop-less c = search needs
 
 loop-again : tie.Need-loop-again Inv-loop μ-loop
 loop-again c =
@@ -75,18 +39,18 @@ near-spec =
     (tie.spec
     Inv-loop
     μ-loop
-    no-marks-requires
+    (λ c κs. search needs)  -- no-marks-requires
     loop-holds
-    cast-i
-    mul-i
-    word-requires
-    add-word
-    word-requires-2
-    slice-aggregate-mark
-    mark-requires
-    slice-aggregate-mark-2
-    mark-requires-2
-    add-j
-    loop-less
+    (λ c. search needs)  -- cast-i
+    (λ c. search needs)  -- mul-i
+    (λ c κs. search needs)  -- word-requires
+    (λ c. search needs)  -- add-word
+    (λ c κs. search needs)  -- word-requires-2
+    (λ c. search needs)  -- slice-aggregate-mark
+    (λ c κs. search needs)  -- mark-requires
+    (λ c. search needs)  -- slice-aggregate-mark-2
+    (λ c κs. search needs)  -- mark-requires-2
+    (λ c. search needs)  -- add-j
+    (λ c. search needs)  -- loop-less
     loop-again
     returns)

@@ -19,39 +19,12 @@ abbrev μ-loop : tie.MeasureT-loop
 loop-holds : tie.Need-loop-holds Inv-loop μ-loop
 loop-holds c = (search needs, refl)
 
-add-loop : tie.Need-add-loop Inv-loop μ-loop
-add-loop c = search needs
-
-mul-lowers : tie.Need-mul-lowers Inv-loop μ-loop
-mul-lowers c = search needs
-
-shared-slice-read-lowers : tie.Need-shared-slice-read-lowers Inv-loop μ-loop
-shared-slice-read-lowers c = search needs
-
-add-lowers : tie.Need-add-lowers Inv-loop μ-loop
-add-lowers c = search needs
-
-mul-lowers-2 : tie.Need-mul-lowers-2 Inv-loop μ-loop
-mul-lowers-2 c = search needs
-
-shared-slice-read-lowers-2 : tie.Need-shared-slice-read-lowers-2 Inv-loop μ-loop
-shared-slice-read-lowers-2 c = search needs
-
 lowers-requires : tie.Need-lowers-requires Inv-loop μ-loop
 lowers-requires c κs =
     let g = c .before .before in
     let s = g .before in
     let o = s .before .before .before .before in
     (omega (arith, o .pre .ends (s .loop .i) (omega arith), o .pre .keys), omega (arith, o .pre .ends (s .loop .i + 1) (g .loop-test .taken), o .pre .keys), o .pre .labels ∙ sym (o .pre .keys))
-
-either-requires : tie.Need-either-requires Inv-loop μ-loop
-either-requires c κs = search needs
-
-add-i : tie.Need-add-i Inv-loop μ-loop
-add-i c = search needs
-
-loop-less : tie.Need-loop-less Inv-loop μ-loop
-loop-less c = search needs
 
 loop-again : tie.Need-loop-again Inv-loop μ-loop
 loop-again c =
@@ -76,15 +49,15 @@ falls-spec =
     Inv-loop
     μ-loop
     loop-holds
-    add-loop
-    mul-lowers
-    shared-slice-read-lowers
-    add-lowers
-    mul-lowers-2
-    shared-slice-read-lowers-2
+    (λ c. search needs)  -- add-loop
+    (λ c. search needs)  -- mul-lowers
+    (λ c. search needs)  -- shared-slice-read-lowers
+    (λ c. search needs)  -- add-lowers
+    (λ c. search needs)  -- mul-lowers-2
+    (λ c. search needs)  -- shared-slice-read-lowers-2
     lowers-requires
-    either-requires
-    add-i
-    loop-less
+    (λ c κs. search needs)  -- either-requires
+    (λ c. search needs)  -- add-i
+    (λ c. search needs)  -- loop-less
     loop-again
     returns)

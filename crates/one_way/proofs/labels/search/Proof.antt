@@ -20,20 +20,11 @@ loop-holds c =
     let o = c .before .before .before .before in
     (search needs, search needs, refl, spread-refl (Hears (o .args .forward) (Live (o .args .links .now) (o .args .key .now))) (o .args .x .now))
 
-slice-aggregate-flood : tie.Need-slice-aggregate-flood Inv-loop μ-loop
-slice-aggregate-flood c = search needs
-
 flood-requires : tie.Need-flood-requires Inv-loop μ-loop
 flood-requires c κs =
     let s = c .before .before .before in
     let o = s .before .before .before .before .before in
     record { ends = o .pre .ends; keys = o .pre .keys; labels = s .loop .inv .1 ∙ o .pre .labels }
-
-add-unit : tie.Need-add-unit Inv-loop μ-loop
-add-unit c = search needs
-
-loop-less : tie.Need-loop-less Inv-loop μ-loop
-loop-less c = search needs
 
 loop-again : tie.Need-loop-again Inv-loop μ-loop
 loop-again c =
@@ -42,12 +33,6 @@ loop-again c =
     let o = s .before .before .before .before .before in
     (search needs, search needs, search needs, spread-trans (Hears (o .args .forward) (Live (o .args .links .now) (o .args .key .now))) (o .args .x .now) (s .loop .x) _ (s .loop .inv .3) (f .flood .ensures))
 
-same-length : tie.Need-same-length Inv-loop μ-loop
-same-length c = search needs
-
-returns : tie.Need-returns Inv-loop μ-loop
-returns c = search needs
-
 pub search-spec : {M : Type 1} → statement M
 search-spec =
     tie.close
@@ -55,10 +40,10 @@ search-spec =
     Inv-loop
     μ-loop
     loop-holds
-    slice-aggregate-flood
+    (λ c. search needs)  -- slice-aggregate-flood
     flood-requires
-    add-unit
-    loop-less
+    (λ c. search needs)  -- add-unit
+    (λ c. search needs)  -- loop-less
     loop-again
-    same-length
-    returns)
+    (λ c. search needs)  -- same-length
+    (λ c. search needs))  -- returns

@@ -15,9 +15,6 @@ Inv-loop forward units links order key x₀ x = (length x ≡ 256) × Spread (He
 abbrev μ-loop : tie.MeasureT-loop
 μ-loop forward units links order key x₀ x = total x
 
-search-requires : tie.Need-search-requires Inv-loop μ-loop
-search-requires c κs = search needs
-
 loop-holds : tie.Need-loop-holds Inv-loop μ-loop
 loop-holds c =
     let se = c .before .before in
@@ -53,9 +50,6 @@ loop-again c =
     let p = sweep-spread (o .args .forward) (o .args .links .now) (o .args .key .now) (s .loop .x) _ (o .pre .ends) (s .loop .inv .0) (sw .sweep .ensures) in
     (p .size ∙ s .loop .inv .0, spread-trans (Hears (o .args .forward) (Live (o .args .links .now) (o .args .key .now))) _ (s .loop .x) _ (s .loop .inv .1) p)
 
-same-length : tie.Need-same-length Inv-loop μ-loop
-same-length c = search needs
-
 returns : tie.Need-returns Inv-loop μ-loop
 returns c =
     let f = c .before in
@@ -70,11 +64,11 @@ settle-spec =
     (tie.spec
     Inv-loop
     μ-loop
-    search-requires
+    (λ c κs. search needs)  -- search-requires
     loop-holds
     falls-requires
     sweep-requires
     loop-less
     loop-again
-    same-length
+    (λ c. search needs)  -- same-length
     returns)

@@ -17,20 +17,11 @@ abbrev μ-loop : tie.MeasureT-loop
 loop-holds : tie.Need-loop-holds Inv-loop μ-loop
 loop-holds c = (search needs, refl, refl)
 
-add-loop : tie.Need-add-loop Inv-loop μ-loop
-add-loop c = search needs
-
 hand-requires : tie.Need-hand-requires Inv-loop μ-loop
 hand-requires c κs =
     let s = c .before .before in
     let o = s .before .before .before .before in
     (search needs, record { ends = o .pre .ends; keys = o .pre .keys; labels = s .loop .inv .1 ∙ o .pre .labels })
-
-add-i : tie.Need-add-i Inv-loop μ-loop
-add-i c = search needs
-
-loop-less : tie.Need-loop-less Inv-loop μ-loop
-loop-less c = search needs
 
 loop-again : tie.Need-loop-again Inv-loop μ-loop
 loop-again c =
@@ -39,9 +30,6 @@ loop-again c =
     let s = g .before in
     let o = s .before .before .before .before in
     (search needs, search needs, s .loop .inv .2 ∙ (swept-next (o .args .forward) (o .args .key .now) (o .args .links .now) (s .loop .x) (s .loop .i) (g .loop-test .taken) ∙ rw (h .hand .ensures) refl))
-
-same-length : tie.Need-same-length Inv-loop μ-loop
-same-length c = search needs
 
 returns : tie.Need-returns Inv-loop μ-loop
 returns c =
@@ -56,10 +44,10 @@ sweep-spec =
     Inv-loop
     μ-loop
     loop-holds
-    add-loop
+    (λ c. search needs)  -- add-loop
     hand-requires
-    add-i
-    loop-less
+    (λ c. search needs)  -- add-i
+    (λ c. search needs)  -- loop-less
     loop-again
-    same-length
+    (λ c. search needs)  -- same-length
     returns)

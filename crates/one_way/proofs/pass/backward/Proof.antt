@@ -6,12 +6,6 @@ use borrow.Author.Needs.{needs}
 use Rattle.one_way.proofs.pass.backward.Statement.{statement}
 use Rattle.one_way.proofs.pass.backward.Tie as tie
 
-sources-requires : tie.Need-sources-requires
-sources-requires c κs = search needs
-
-slice-aggregate-settle : tie.Need-slice-aggregate-settle
-slice-aggregate-settle c = search needs
-
 settle-requires : tie.Need-settle-requires
 settle-requires c κs =
     let o = c .before .before .before .before .before .before in
@@ -26,4 +20,8 @@ returns c =
 
 pub backward-spec : {M : Type 1} → statement M
 backward-spec =
-    tie.close (tie.spec sources-requires slice-aggregate-settle settle-requires returns)
+    tie.close (tie.spec
+    (λ c κs. search needs)  -- sources-requires
+    (λ c. search needs)  -- slice-aggregate-settle
+    settle-requires
+    returns)

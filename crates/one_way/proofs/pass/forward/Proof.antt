@@ -6,12 +6,6 @@ use borrow.Author.Needs.{needs}
 use Rattle.one_way.proofs.pass.forward.Statement.{statement}
 use Rattle.one_way.proofs.pass.forward.Tie as tie
 
-own-requires : tie.Need-own-requires
-own-requires c κs = search needs
-
-slice-aggregate-settle : tie.Need-slice-aggregate-settle
-slice-aggregate-settle c = search needs
-
 settle-requires : tie.Need-settle-requires
 settle-requires c κs =
     let o = c .before .before .before .before .before in
@@ -25,4 +19,10 @@ returns c =
     labels-least true (o .args .units) (o .args .links .now) (o .args .key .now) (λ (v : ℕ). v) _ _ (o .pre .0) (ow .own .ensures) (se .settle .ensures)
 
 pub forward-spec : {M : Type 1} → statement M
-forward-spec = tie.close (tie.spec own-requires slice-aggregate-settle settle-requires returns)
+forward-spec =
+    tie.close
+    (tie.spec
+    (λ c κs. search needs)  -- own-requires
+    (λ c. search needs)  -- slice-aggregate-settle
+    settle-requires
+    returns)

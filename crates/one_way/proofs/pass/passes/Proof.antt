@@ -20,12 +20,6 @@ loop-holds c =
     let o = c .before .before .before .before in
     (search needs, refl, refl, going-begun (o .args .units) (o .args .links .now) (o .args .out .now) _ 65536 (λ i h. omega (arith, o .pre .few, o .pre .ends i h)) (λ v h. getD-replicate 256 v 65536 0 h))
 
-unfinished-requires : tie.Need-unfinished-requires Inv-loop μ-loop
-unfinished-requires c κs = search needs
-
-same-length : tie.Need-same-length Inv-loop μ-loop
-same-length c = search needs
-
 returns : tie.Need-returns Inv-loop μ-loop
 returns c =
     let u = c .before in
@@ -33,19 +27,10 @@ returns c =
     let o = s .before .before .before .before .before in
     going-stop (o .args .units) (o .args .links .now) (o .args .out .now) (s .loop .made) (s .loop .key) (s .loop .out) (s .loop .inv .3) (sym (u .unfinished .ensures) ∙ not-true (u .unfinished .result) (c .if1 .taken))
 
-slice-aggregate-pass : tie.Need-slice-aggregate-pass Inv-loop μ-loop
-slice-aggregate-pass c = search needs
-
 pass-requires : tie.Need-pass-requires Inv-loop μ-loop
 pass-requires c κs =
     let o = c .before .before .before .before .before .before .before .before .before .before .before in
     (o .pre, search needs)
-
-add-made : tie.Need-add-made Inv-loop μ-loop
-add-made c = search needs
-
-loop-less : tie.Need-loop-less Inv-loop μ-loop
-loop-less c = search needs
 
 loop-again : tie.Need-loop-again Inv-loop μ-loop
 loop-again c =
@@ -56,9 +41,6 @@ loop-again c =
     let s = g .before in
     let o = s .before .before .before .before .before in
     (search needs, search needs, search needs, going-on (o .args .units) (o .args .links .now) (o .args .out .now) (s .loop .made) (s .loop .key) _ (s .loop .out) _ (g .loop-test .taken) (sym (u .unfinished .ensures) ∙ not-false (u .unfinished .result) (i .if1 .left)) (p .pass .ensures) (s .loop .inv .3))
-
-same-length-2 : tie.Need-same-length-2 Inv-loop μ-loop
-same-length-2 c = search needs
 
 returns-2 : tie.Need-returns-2 Inv-loop μ-loop
 returns-2 c =
@@ -73,13 +55,13 @@ passes-spec =
     Inv-loop
     μ-loop
     loop-holds
-    unfinished-requires
-    same-length
+    (λ c κs. search needs)  -- unfinished-requires
+    (λ c. search needs)  -- same-length
     returns
-    slice-aggregate-pass
+    (λ c. search needs)  -- slice-aggregate-pass
     pass-requires
-    add-made
-    loop-less
+    (λ c. search needs)  -- add-made
+    (λ c. search needs)  -- loop-less
     loop-again
-    same-length-2
+    (λ c. search needs)  -- same-length-2
     returns-2)

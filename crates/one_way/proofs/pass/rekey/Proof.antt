@@ -18,30 +18,6 @@ abbrev μ-loop : tie.MeasureT-loop
 loop-holds : tie.Need-loop-holds Inv-loop μ-loop
 loop-holds c = (search needs, refl, refl)
 
-cast-at : tie.Need-cast-at Inv-loop μ-loop
-cast-at c = search needs
-
-word-requires : tie.Need-word-requires Inv-loop μ-loop
-word-requires c κs = search needs
-
-word-requires-2 : tie.Need-word-requires-2 Inv-loop μ-loop
-word-requires-2 c κs = search needs
-
-key-of-requires : tie.Need-key-of-requires Inv-loop μ-loop
-key-of-requires c κs = search needs
-
-mul-key : tie.Need-mul-key Inv-loop μ-loop
-mul-key c = search needs
-
-slice-write-key : tie.Need-slice-write-key Inv-loop μ-loop
-slice-write-key c = search needs
-
-add-v : tie.Need-add-v Inv-loop μ-loop
-add-v c = search needs
-
-loop-less : tie.Need-loop-less Inv-loop μ-loop
-loop-less c = search needs
-
 loop-again : tie.Need-loop-again Inv-loop μ-loop
 loop-again c =
     let w = c .before in
@@ -49,9 +25,6 @@ loop-again c =
     let s = wo .before .before in
     let o = s .before .before .before .before in
     (search needs, search needs, over-more (s .loop .v) (keyOf (o .args .f .now) (o .args .b .now)) (o .args .key .now) (s .loop .key) _ (c .key-of .result) (s .loop .inv .2) (rw (c .key-of .ensures, wo .word .ensures, w .word2 .ensures) refl) refl)
-
-same-length : tie.Need-same-length Inv-loop μ-loop
-same-length c = search needs
 
 returns : tie.Need-returns Inv-loop μ-loop
 returns c =
@@ -66,14 +39,14 @@ rekey-spec =
     Inv-loop
     μ-loop
     loop-holds
-    cast-at
-    word-requires
-    word-requires-2
-    key-of-requires
-    mul-key
-    slice-write-key
-    add-v
-    loop-less
+    (λ c. search needs)  -- cast-at
+    (λ c κs. search needs)  -- word-requires
+    (λ c κs. search needs)  -- word-requires-2
+    (λ c κs. search needs)  -- key-of-requires
+    (λ c. search needs)  -- mul-key
+    (λ c. search needs)  -- slice-write-key
+    (λ c. search needs)  -- add-v
+    (λ c. search needs)  -- loop-less
     loop-again
-    same-length
+    (λ c. search needs)  -- same-length
     returns)

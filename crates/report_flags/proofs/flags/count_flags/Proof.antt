@@ -16,27 +16,6 @@ Inv-loop n flags ones₀ i₀ ones i = (i ≤ n) × (ones ≤ i) × (ones ≡ co
 abbrev μ-loop : tie.MeasureT-loop
 μ-loop n flags ones₀ i₀ ones i = n - i
 
-loop-holds : tie.Need-loop-holds Inv-loop μ-loop
-loop-holds c = search needs
-
-cast-byte : tie.Need-cast-byte Inv-loop μ-loop
-cast-byte c = search needs
-
-byte-requires : tie.Need-byte-requires Inv-loop μ-loop
-byte-requires c κs = search needs
-
-one-if-requires : tie.Need-one-if-requires Inv-loop μ-loop
-one-if-requires c κs = search needs
-
-add-ones : tie.Need-add-ones Inv-loop μ-loop
-add-ones c = search needs
-
-add-i : tie.Need-add-i Inv-loop μ-loop
-add-i c = search needs
-
-loop-less : tie.Need-loop-less Inv-loop μ-loop
-loop-less c = search needs
-
 loop-again : tie.Need-loop-again Inv-loop μ-loop
 loop-again c =
     let s = c .before .before .before in
@@ -54,12 +33,12 @@ count-flags-spec =
     (tie.spec
     Inv-loop
     μ-loop
-    loop-holds
-    cast-byte
-    byte-requires
-    one-if-requires
-    add-ones
-    add-i
-    loop-less
+    (λ c. search needs)  -- loop-holds
+    (λ c. search needs)  -- cast-byte
+    (λ c κs. search needs)  -- byte-requires
+    (λ c κs. search needs)  -- one-if-requires
+    (λ c. search needs)  -- add-ones
+    (λ c. search needs)  -- add-i
+    (λ c. search needs)  -- loop-less
     loop-again
     returns)

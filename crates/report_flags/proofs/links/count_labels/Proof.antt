@@ -16,21 +16,6 @@ abbrev μ-loop : tie.MeasureT-loop
 loop-holds : tie.Need-loop-holds Inv-loop μ-loop
 loop-holds c = (search needs, search needs, sym (sharing-none _ _), search needs)
 
-cast-word : tie.Need-cast-word Inv-loop μ-loop
-cast-word c = search needs
-
-word-requires : tie.Need-word-requires Inv-loop μ-loop
-word-requires c κs = search needs
-
-add-k : tie.Need-add-k Inv-loop μ-loop
-add-k c = search needs
-
-count-in-requires : tie.Need-count-in-requires Inv-loop μ-loop
-count-in-requires c κs = search needs
-
-loop-less : tie.Need-loop-less Inv-loop μ-loop
-loop-less c = search needs
-
 loop-again : tie.Need-loop-again Inv-loop μ-loop
 loop-again c =
     let s = c .before .before .before .before .before .before .before in
@@ -43,15 +28,6 @@ loop-again c =
       rw (c .before .before .count-in .ensures, is) (shared-more k (a .label .now) (s .loop .bucket) (s .loop .inv .3) (omega arith)),
     )
 
-one-if-requires : tie.Need-one-if-requires Inv-loop μ-loop
-one-if-requires c κs = search needs
-
-add-absent : tie.Need-add-absent Inv-loop μ-loop
-add-absent c = search needs
-
-loop-less-2 : tie.Need-loop-less-2 Inv-loop μ-loop
-loop-less-2 c = search needs
-
 loop-again-2 : tie.Need-loop-again-2 Inv-loop μ-loop
 loop-again-2 c =
     let s = c .before .before .before .before in
@@ -63,9 +39,6 @@ loop-again-2 c =
       rw (c .one-if .ensures .0, is, s .loop .inv .2) (sharing-more k (a .label .now) 65535),
       shared-other k (a .label .now) (s .loop .bucket) (s .loop .inv .3) (omega (arith, is, c .before .if1 .left)),
     )
-
-same-length : tie.Need-same-length Inv-loop μ-loop
-same-length c = search needs
 
 returns : tie.Need-returns Inv-loop μ-loop
 returns c =
@@ -80,15 +53,15 @@ count-labels-spec =
     Inv-loop
     μ-loop
     loop-holds
-    cast-word
-    word-requires
-    add-k
-    count-in-requires
-    loop-less
+    (λ c. search needs)  -- cast-word
+    (λ c κs. search needs)  -- word-requires
+    (λ c. search needs)  -- add-k
+    (λ c κs. search needs)  -- count-in-requires
+    (λ c. search needs)  -- loop-less
     loop-again
-    one-if-requires
-    add-absent
-    loop-less-2
+    (λ c κs. search needs)  -- one-if-requires
+    (λ c. search needs)  -- add-absent
+    (λ c. search needs)  -- loop-less-2
     loop-again-2
-    same-length
+    (λ c. search needs)  -- same-length
     returns)

@@ -17,9 +17,6 @@ Inv-loop links label bucket absent table₀ j₀ table j = (j ≤ links) × (len
 abbrev μ-loop : tie.MeasureT-loop
 μ-loop links label bucket absent table₀ j₀ table j = links - j
 
-slice-aggregate-count-labels : tie.Need-slice-aggregate-count-labels Inv-loop μ-loop
-slice-aggregate-count-labels c = search needs
-
 count-labels-requires : tie.Need-count-labels-requires Inv-loop μ-loop
 count-labels-requires c κs = shared-none (c .before .before .args .label .now)
 
@@ -27,36 +24,6 @@ loop-holds : tie.Need-loop-holds Inv-loop μ-loop
 loop-holds c =
     let a = c .before .before .before .before .args in
     (search needs, search needs, flags-none 1024 (lone (a .links) (a .label .now)))
-
-cast-word : tie.Need-cast-word Inv-loop μ-loop
-cast-word c = search needs
-
-word-requires : tie.Need-word-requires Inv-loop μ-loop
-word-requires c κs = search needs
-
-slice-aggregate-look-up : tie.Need-slice-aggregate-look-up Inv-loop μ-loop
-slice-aggregate-look-up c = search needs
-
-look-up-requires : tie.Need-look-up-requires Inv-loop μ-loop
-look-up-requires c κs = search needs
-
-flag-requires : tie.Need-flag-requires Inv-loop μ-loop
-flag-requires c κs = search needs
-
-slice-aggregate-put-byte : tie.Need-slice-aggregate-put-byte Inv-loop μ-loop
-slice-aggregate-put-byte c = search needs
-
-cast-put-byte : tie.Need-cast-put-byte Inv-loop μ-loop
-cast-put-byte c = search needs
-
-put-byte-requires : tie.Need-put-byte-requires Inv-loop μ-loop
-put-byte-requires c κs = search needs
-
-add-j : tie.Need-add-j Inv-loop μ-loop
-add-j c = search needs
-
-loop-less : tie.Need-loop-less Inv-loop μ-loop
-loop-less c = search needs
 
 loop-again : tie.Need-loop-again Inv-loop μ-loop
 loop-again c =
@@ -90,18 +57,18 @@ lones-spec =
     (tie.spec
     Inv-loop
     μ-loop
-    slice-aggregate-count-labels
+    (λ c. search needs)  -- slice-aggregate-count-labels
     count-labels-requires
     loop-holds
-    cast-word
-    word-requires
-    slice-aggregate-look-up
-    look-up-requires
-    flag-requires
-    slice-aggregate-put-byte
-    cast-put-byte
-    put-byte-requires
-    add-j
-    loop-less
+    (λ c. search needs)  -- cast-word
+    (λ c κs. search needs)  -- word-requires
+    (λ c. search needs)  -- slice-aggregate-look-up
+    (λ c κs. search needs)  -- look-up-requires
+    (λ c κs. search needs)  -- flag-requires
+    (λ c. search needs)  -- slice-aggregate-put-byte
+    (λ c. search needs)  -- cast-put-byte
+    (λ c κs. search needs)  -- put-byte-requires
+    (λ c. search needs)  -- add-j
+    (λ c. search needs)  -- loop-less
     loop-again
     returns)

@@ -13,31 +13,10 @@ Inv-loop any links ends label u none z₀ j₀ z j = (j ≤ links) × (z ≡ lab
 abbrev μ-loop : tie.MeasureT-loop
 μ-loop any links ends label u none z₀ j₀ z j = links - j
 
-start-requires : tie.Need-start-requires Inv-loop μ-loop
-start-requires c κs = search needs
-
 loop-holds : tie.Need-loop-holds Inv-loop μ-loop
 loop-holds c =
     let a = c .before .before .before .args in
     (search needs, c .start .ensures ∙ sym (labelBits-none (a .any) (a .ends .now) (a .label .now) (a .u)))
-
-touches-requires : tie.Need-touches-requires Inv-loop μ-loop
-touches-requires c κs = search needs
-
-label-of-requires : tie.Need-label-of-requires Inv-loop μ-loop
-label-of-requires c κs = search needs
-
-choose-requires : tie.Need-choose-requires Inv-loop μ-loop
-choose-requires c κs = search needs
-
-op-requires : tie.Need-op-requires Inv-loop μ-loop
-op-requires c κs = search needs
-
-add-j : tie.Need-add-j Inv-loop μ-loop
-add-j c = search needs
-
-loop-less : tie.Need-loop-less Inv-loop μ-loop
-loop-less c = search needs
 
 loop-again : tie.Need-loop-again Inv-loop μ-loop
 loop-again c =
@@ -60,13 +39,13 @@ label-bits-spec =
     (tie.spec
     Inv-loop
     μ-loop
-    start-requires
+    (λ c κs. search needs)  -- start-requires
     loop-holds
-    touches-requires
-    label-of-requires
-    choose-requires
-    op-requires
-    add-j
-    loop-less
+    (λ c κs. search needs)  -- touches-requires
+    (λ c κs. search needs)  -- label-of-requires
+    (λ c κs. search needs)  -- choose-requires
+    (λ c κs. search needs)  -- op-requires
+    (λ c. search needs)  -- add-j
+    (λ c. search needs)  -- loop-less
     loop-again
     returns)

@@ -14,21 +14,6 @@ Inv-loop links ends label low₀ high₀ j₀ low high j = (j ≤ links) × BitT
 abbrev μ-loop : tie.MeasureT-loop
 μ-loop links ends label low₀ high₀ j₀ low high j = links - j
 
-loop-holds : tie.Need-loop-holds Inv-loop μ-loop
-loop-holds c = search needs
-
-take-link-requires : tie.Need-take-link-requires Inv-loop μ-loop
-take-link-requires c κs = search needs
-
-take-link-requires-2 : tie.Need-take-link-requires-2 Inv-loop μ-loop
-take-link-requires-2 c κs = search needs
-
-add-j : tie.Need-add-j Inv-loop μ-loop
-add-j c = search needs
-
-loop-less : tie.Need-loop-less Inv-loop μ-loop
-loop-less c = search needs
-
 loop-again : tie.Need-loop-again Inv-loop μ-loop
 loop-again c =
     let s = c .before .before .before .before .before .before .before .before .before in
@@ -37,12 +22,6 @@ loop-again c =
       rw (c .before .before .before .before .before .before .take-link .ensures) (bits-more false (s .loop .j) (a .ends .now) (a .label .now) (s .loop .low) (s .loop .inv .1)),
       rw (c .before .before .take-link2 .ensures) (bits-more true (s .loop .j) (a .ends .now) (a .label .now) (s .loop .high) (s .loop .inv .2)),
     )
-
-same-length : tie.Need-same-length Inv-loop μ-loop
-same-length c = search needs
-
-same-length-2 : tie.Need-same-length-2 Inv-loop μ-loop
-same-length-2 c = search needs
 
 returns : tie.Need-returns Inv-loop μ-loop
 returns c =
@@ -56,12 +35,12 @@ label-tables-spec =
     (tie.spec
     Inv-loop
     μ-loop
-    loop-holds
-    take-link-requires
-    take-link-requires-2
-    add-j
-    loop-less
+    (λ c. search needs)  -- loop-holds
+    (λ c κs. search needs)  -- take-link-requires
+    (λ c κs. search needs)  -- take-link-requires-2
+    (λ c. search needs)  -- add-j
+    (λ c. search needs)  -- loop-less
     loop-again
-    same-length
-    same-length-2
+    (λ c. search needs)  -- same-length
+    (λ c. search needs)  -- same-length-2
     returns)

@@ -5,12 +5,6 @@ use borrow.Author.Needs.{needs}
 use Rattle.report_flags.proofs.units.single.Statement.{statement}
 use Rattle.report_flags.proofs.units.single.Tie as tie
 
-label-bits-requires : tie.Need-label-bits-requires
-label-bits-requires c κs = search needs
-
-label-bits-requires-2 : tie.Need-label-bits-requires-2
-label-bits-requires-2 c κs = search needs
-
 returns : tie.Need-returns
 returns c =
     let s = c .before .before in
@@ -19,4 +13,9 @@ returns c =
     (single-bits (a .links) (a .ends .now) (a .label .now) (a .u) (λ i. omega (arith, s .shared-slice-known2 .given i)))
 
 pub single-spec : {M : Type 1} → statement M
-single-spec = tie.close (tie.spec label-bits-requires label-bits-requires-2 returns)
+single-spec =
+    tie.close
+    (tie.spec
+    (λ c κs. search needs)  -- label-bits-requires
+    (λ c κs. search needs)  -- label-bits-requires-2
+    returns)

@@ -17,12 +17,6 @@ Inv-loop units links ends label low high table₀ u₀ table u = (u ≤ units) �
 abbrev μ-loop : tie.MeasureT-loop
 μ-loop units links ends label low high table₀ u₀ table u = units - u
 
-slice-aggregate-label-tables : tie.Need-slice-aggregate-label-tables Inv-loop μ-loop
-slice-aggregate-label-tables c = search needs
-
-slice-aggregate-label-tables-2 : tie.Need-slice-aggregate-label-tables-2 Inv-loop μ-loop
-slice-aggregate-label-tables-2 c = search needs
-
 label-tables-requires : tie.Need-label-tables-requires Inv-loop μ-loop
 label-tables-requires c κs =
     let a = c .before .before .before .before .args in
@@ -32,36 +26,6 @@ loop-holds : tie.Need-loop-holds Inv-loop μ-loop
 loop-holds c =
     let a = c .before .before .before .before .before .before .before .args in
     (search needs, search needs, flags-none 256 (single (a .links) (a .ends .now) (a .label .now)))
-
-cast-at : tie.Need-cast-at Inv-loop μ-loop
-cast-at c = search needs
-
-slice-aggregate-word : tie.Need-slice-aggregate-word Inv-loop μ-loop
-slice-aggregate-word c = search needs
-
-word-requires : tie.Need-word-requires Inv-loop μ-loop
-word-requires c κs = search needs
-
-slice-aggregate-word-2 : tie.Need-slice-aggregate-word-2 Inv-loop μ-loop
-slice-aggregate-word-2 c = search needs
-
-word-requires-2 : tie.Need-word-requires-2 Inv-loop μ-loop
-word-requires-2 c κs = search needs
-
-flag-requires : tie.Need-flag-requires Inv-loop μ-loop
-flag-requires c κs = search needs
-
-slice-aggregate-put-byte : tie.Need-slice-aggregate-put-byte Inv-loop μ-loop
-slice-aggregate-put-byte c = search needs
-
-put-byte-requires : tie.Need-put-byte-requires Inv-loop μ-loop
-put-byte-requires c κs = search needs
-
-add-u : tie.Need-add-u Inv-loop μ-loop
-add-u c = search needs
-
-loop-less : tie.Need-loop-less Inv-loop μ-loop
-loop-less c = search needs
 
 loop-again : tie.Need-loop-again Inv-loop μ-loop
 loop-again c =
@@ -93,19 +57,19 @@ singles-spec =
     (tie.spec
     Inv-loop
     μ-loop
-    slice-aggregate-label-tables
-    slice-aggregate-label-tables-2
+    (λ c. search needs)  -- slice-aggregate-label-tables
+    (λ c. search needs)  -- slice-aggregate-label-tables-2
     label-tables-requires
     loop-holds
-    cast-at
-    slice-aggregate-word
-    word-requires
-    slice-aggregate-word-2
-    word-requires-2
-    flag-requires
-    slice-aggregate-put-byte
-    put-byte-requires
-    add-u
-    loop-less
+    (λ c. search needs)  -- cast-at
+    (λ c. search needs)  -- slice-aggregate-word
+    (λ c κs. search needs)  -- word-requires
+    (λ c. search needs)  -- slice-aggregate-word-2
+    (λ c κs. search needs)  -- word-requires-2
+    (λ c κs. search needs)  -- flag-requires
+    (λ c. search needs)  -- slice-aggregate-put-byte
+    (λ c κs. search needs)  -- put-byte-requires
+    (λ c. search needs)  -- add-u
+    (λ c. search needs)  -- loop-less
     loop-again
     returns)

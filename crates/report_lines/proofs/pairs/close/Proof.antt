@@ -6,21 +6,6 @@ use borrow.Author.Needs.{needs}
 use Rattle.report_lines.proofs.pairs.close.Statement.{statement}
 use Rattle.report_lines.proofs.pairs.close.Tie as tie
 
-wrapping-sub-u8-requires : tie.Need-wrapping-sub-u8-requires
-wrapping-sub-u8-requires c κs = search needs
-
-put-requires : tie.Need-put-requires
-put-requires c κs = search needs
-
-add-out : tie.Need-add-out
-add-out c = search needs
-
-slice-write-out : tie.Need-slice-write-out
-slice-write-out c = search needs
-
-same-length : tie.Need-same-length
-same-length c = search needs
-
 returns : tie.Need-returns
 returns c =
     let a = c .before .before .before .before .before .before .before .args in
@@ -31,9 +16,9 @@ pub close-spec : {M : Type 1} → statement M
 close-spec =
     tie.close
     (tie.spec
-    wrapping-sub-u8-requires
-    put-requires
-    add-out
-    slice-write-out
-    same-length
+    (λ c κs. search needs)  -- wrapping-sub-u8-requires
+    (λ c κs. search needs)  -- put-requires
+    (λ c. search needs)  -- add-out
+    (λ c. search needs)  -- slice-write-out
+    (λ c. search needs)  -- same-length
     returns)

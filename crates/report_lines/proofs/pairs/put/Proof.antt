@@ -7,29 +7,11 @@ use borrow.Author.Needs.{needs}
 use Rattle.report_lines.proofs.pairs.put.Statement.{statement}
 use Rattle.report_lines.proofs.pairs.put.Tie as tie
 
-mul-p : tie.Need-mul-p
-mul-p c = search needs
-
 shared-slice-read-p : tie.Need-shared-slice-read-p
 shared-slice-read-p c = omega (arith, ap length (c .before .before .before .pre .0) ∙ length-pairs 256)
 
-low-byte-requires : tie.Need-low-byte-requires
-low-byte-requires c κs = search needs
-
-slice-write-out : tie.Need-slice-write-out
-slice-write-out c = search needs
-
-high-byte-requires : tie.Need-high-byte-requires
-high-byte-requires c κs = search needs
-
-add-out : tie.Need-add-out
-add-out c = search needs
-
 slice-write-out-2 : tie.Need-slice-write-out-2
 slice-write-out-2 c = simp length-set (omega arith)
-
-same-length : tie.Need-same-length
-same-length c = search needs
 
 returns : tie.Need-returns
 returns c =
@@ -42,12 +24,12 @@ pub put-spec : {M : Type 1} → statement M
 put-spec =
     tie.close
     (tie.spec
-    mul-p
+    (λ c. search needs)  -- mul-p
     shared-slice-read-p
-    low-byte-requires
-    slice-write-out
-    high-byte-requires
-    add-out
+    (λ c κs. search needs)  -- low-byte-requires
+    (λ c. search needs)  -- slice-write-out
+    (λ c κs. search needs)  -- high-byte-requires
+    (λ c. search needs)  -- add-out
     slice-write-out-2
-    same-length
+    (λ c. search needs)  -- same-length
     returns)

@@ -18,23 +18,8 @@ abbrev μ-loop : tie.MeasureT-loop
 loop-holds : tie.Need-loop-holds Inv-loop μ-loop
 loop-holds c = (search needs, pairs-none)
 
-pair-requires : tie.Need-pair-requires Inv-loop μ-loop
-pair-requires c κs = search needs
-
-cast-pairs : tie.Need-cast-pairs Inv-loop μ-loop
-cast-pairs c = search needs
-
-mul-pairs : tie.Need-mul-pairs Inv-loop μ-loop
-mul-pairs c = search needs
-
 array-write-pairs : tie.Need-array-write-pairs Inv-loop μ-loop
 array-write-pairs c = omega (arith, ap length (c .before .before .loop .inv .1) ∙ length-pairs (c .before .before .loop .b))
-
-add-b : tie.Need-add-b Inv-loop μ-loop
-add-b c = search needs
-
-loop-less : tie.Need-loop-less Inv-loop μ-loop
-loop-less c = search needs
 
 loop-again : tie.Need-loop-again Inv-loop μ-loop
 loop-again c = (search needs, rw (c .before .before .loop .inv .1, c .pair .ensures) (pairs-more (c .before .before .loop .b)))
@@ -49,11 +34,11 @@ table-spec =
     Inv-loop
     μ-loop
     loop-holds
-    pair-requires
-    cast-pairs
-    mul-pairs
+    (λ c κs. search needs)  -- pair-requires
+    (λ c. search needs)  -- cast-pairs
+    (λ c. search needs)  -- mul-pairs
     array-write-pairs
-    add-b
-    loop-less
+    (λ c. search needs)  -- add-b
+    (λ c. search needs)  -- loop-less
     loop-again
     returns)

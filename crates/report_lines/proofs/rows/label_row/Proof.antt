@@ -4,27 +4,6 @@ use borrow.Author.Needs.{needs}
 use Rattle.report_lines.proofs.rows.label_row.Statement.{statement}
 use Rattle.report_lines.proofs.rows.label_row.Tie as tie
 
-label-sum-requires : tie.Need-label-sum-requires
-label-sum-requires c κs = search needs
-
-put-requires : tie.Need-put-requires
-put-requires c κs = search needs
-
-put-word-requires : tie.Need-put-word-requires
-put-word-requires c κs = search needs
-
-put-word-requires-2 : tie.Need-put-word-requires-2
-put-word-requires-2 c κs = search needs
-
-put-requires-2 : tie.Need-put-requires-2
-put-requires-2 c κs = search needs
-
-close-requires : tie.Need-close-requires
-close-requires c κs = search needs
-
-same-length : tie.Need-same-length
-same-length c = search needs
-
 returns : tie.Need-returns
 returns c =
     let closed = c .before .before in
@@ -48,11 +27,11 @@ pub label-row-spec : {M : Type 1} → statement M
 label-row-spec =
     tie.close
     (tie.spec
-    label-sum-requires
-    put-requires
-    put-word-requires
-    put-word-requires-2
-    put-requires-2
-    close-requires
-    same-length
+    (λ c κs. search needs)  -- label-sum-requires
+    (λ c κs. search needs)  -- put-requires
+    (λ c κs. search needs)  -- put-word-requires
+    (λ c κs. search needs)  -- put-word-requires-2
+    (λ c κs. search needs)  -- put-requires-2
+    (λ c κs. search needs)  -- close-requires
+    (λ c. search needs)  -- same-length
     returns)

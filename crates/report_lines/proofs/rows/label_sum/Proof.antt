@@ -4,15 +4,6 @@ use borrow.Author.Needs.{needs}
 use Rattle.report_lines.proofs.rows.label_sum.Statement.{statement}
 use Rattle.report_lines.proofs.rows.label_sum.Tie as tie
 
-with-word-requires : tie.Need-with-word-requires
-with-word-requires c κs = search needs
-
-with-word-requires-2 : tie.Need-with-word-requires-2
-with-word-requires-2 c κs = search needs
-
-with-byte-requires : tie.Need-with-byte-requires
-with-byte-requires c κs = search needs
-
 returns : tie.Need-returns
 returns c =
     let l = c .before in
@@ -22,4 +13,8 @@ returns c =
 
 pub label-sum-spec : {M : Type 1} → statement M
 label-sum-spec =
-    tie.close (tie.spec with-word-requires with-word-requires-2 with-byte-requires returns)
+    tie.close (tie.spec
+    (λ c κs. search needs)  -- with-word-requires
+    (λ c κs. search needs)  -- with-word-requires-2
+    (λ c κs. search needs)  -- with-byte-requires
+    returns)

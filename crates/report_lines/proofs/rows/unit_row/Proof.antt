@@ -4,33 +4,6 @@ use borrow.Author.Needs.{needs}
 use Rattle.report_lines.proofs.rows.unit_row.Statement.{statement}
 use Rattle.report_lines.proofs.rows.unit_row.Tie as tie
 
-unit-sum-requires : tie.Need-unit-sum-requires
-unit-sum-requires c κs = search needs
-
-put-requires : tie.Need-put-requires
-put-requires c κs = search needs
-
-put-word-requires : tie.Need-put-word-requires
-put-word-requires c κs = search needs
-
-put-word-requires-2 : tie.Need-put-word-requires-2
-put-word-requires-2 c κs = search needs
-
-put-word-requires-3 : tie.Need-put-word-requires-3
-put-word-requires-3 c κs = search needs
-
-put-word-requires-4 : tie.Need-put-word-requires-4
-put-word-requires-4 c κs = search needs
-
-put-requires-2 : tie.Need-put-requires-2
-put-requires-2 c κs = search needs
-
-close-requires : tie.Need-close-requires
-close-requires c κs = search needs
-
-same-length : tie.Need-same-length
-same-length c = search needs
-
 returns : tie.Need-returns
 returns c =
     let closed = c .before .before in
@@ -58,13 +31,13 @@ pub unit-row-spec : {M : Type 1} → statement M
 unit-row-spec =
     tie.close
     (tie.spec
-    unit-sum-requires
-    put-requires
-    put-word-requires
-    put-word-requires-2
-    put-word-requires-3
-    put-word-requires-4
-    put-requires-2
-    close-requires
-    same-length
+    (λ c κs. search needs)  -- unit-sum-requires
+    (λ c κs. search needs)  -- put-requires
+    (λ c κs. search needs)  -- put-word-requires
+    (λ c κs. search needs)  -- put-word-requires-2
+    (λ c κs. search needs)  -- put-word-requires-3
+    (λ c κs. search needs)  -- put-word-requires-4
+    (λ c κs. search needs)  -- put-requires-2
+    (λ c κs. search needs)  -- close-requires
+    (λ c. search needs)  -- same-length
     returns)

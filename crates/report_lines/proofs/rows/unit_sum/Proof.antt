@@ -4,21 +4,6 @@ use borrow.Author.Needs.{needs}
 use Rattle.report_lines.proofs.rows.unit_sum.Statement.{statement}
 use Rattle.report_lines.proofs.rows.unit_sum.Tie as tie
 
-with-word-requires : tie.Need-with-word-requires
-with-word-requires c κs = search needs
-
-with-word-requires-2 : tie.Need-with-word-requires-2
-with-word-requires-2 c κs = search needs
-
-with-word-requires-3 : tie.Need-with-word-requires-3
-with-word-requires-3 c κs = search needs
-
-with-word-requires-4 : tie.Need-with-word-requires-4
-with-word-requires-4 c κs = search needs
-
-with-byte-requires : tie.Need-with-byte-requires
-with-byte-requires c κs = search needs
-
 returns : tie.Need-returns
 returns c =
     let d = c .before in
@@ -33,9 +18,9 @@ pub unit-sum-spec : {M : Type 1} → statement M
 unit-sum-spec =
     tie.close
     (tie.spec
-    with-word-requires
-    with-word-requires-2
-    with-word-requires-3
-    with-word-requires-4
-    with-byte-requires
+    (λ c κs. search needs)  -- with-word-requires
+    (λ c κs. search needs)  -- with-word-requires-2
+    (λ c κs. search needs)  -- with-word-requires-3
+    (λ c κs. search needs)  -- with-word-requires-4
+    (λ c κs. search needs)  -- with-byte-requires
     returns)

@@ -6,18 +6,6 @@ use borrow.Author.Needs.{needs}
 use Rattle.report_lines.proofs.rows.with_word.Statement.{statement}
 use Rattle.report_lines.proofs.rows.with_word.Tie as tie
 
-high-byte-requires : tie.Need-high-byte-requires
-high-byte-requires c κs = search needs
-
-with-byte-requires : tie.Need-with-byte-requires
-with-byte-requires c κs = search needs
-
-low-byte-requires : tie.Need-low-byte-requires
-low-byte-requires c κs = search needs
-
-with-byte-requires-2 : tie.Need-with-byte-requires-2
-with-byte-requires-2 c κs = search needs
-
 returns : tie.Need-returns
 returns c =
     let a = c .before .before .before .before .args in
@@ -28,4 +16,9 @@ returns c =
 pub with-word-spec : {M : Type 1} → statement M
 with-word-spec =
     tie.close
-    (tie.spec high-byte-requires with-byte-requires low-byte-requires with-byte-requires-2 returns)
+    (tie.spec
+    (λ c κs. search needs)  -- high-byte-requires
+    (λ c κs. search needs)  -- with-byte-requires
+    (λ c κs. search needs)  -- low-byte-requires
+    (λ c κs. search needs)  -- with-byte-requires-2
+    returns)

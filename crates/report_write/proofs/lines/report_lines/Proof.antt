@@ -15,28 +15,10 @@ returns-2 c =
     let a = c .before .before .before .before .before .before .before .before .args in
     parts-links (a .units) (a .links) (a .rounds) (a .requests) (a .ends .now) (a .label .now) (a .color .now) (a .parent .now) (a .place .now) (a .out .now) (c .before .if1 .left) (c .if2 .taken)
 
-mul-if3 : tie.Need-mul-if3
-mul-if3 c = search needs
-
-add-if3 : tie.Need-add-if3
-add-if3 c = search needs
-
-mul-if3-2 : tie.Need-mul-if3-2
-mul-if3-2 c = search needs
-
-add-if3-2 : tie.Need-add-if3-2
-add-if3-2 c = search needs
-
 returns-3 : tie.Need-returns-3
 returns-3 c =
     let a = c .before .before .before .before .before .before .before .before .before .args in
     parts-short (a .units) (a .links) (a .rounds) (a .requests) (a .ends .now) (a .label .now) (a .color .now) (a .parent .now) (a .place .now) (a .out .now) (c .before .before .if1 .left) (c .before .if2 .left) (c .if3 .taken)
-
-all-requires : tie.Need-all-requires
-all-requires c κs = search needs
-
-same-length : tie.Need-same-length
-same-length c = search needs
 
 returns-4 : tie.Need-returns-4
 returns-4 c =
@@ -50,11 +32,11 @@ report-lines-spec =
     (tie.spec
     returns
     returns-2
-    mul-if3
-    add-if3
-    mul-if3-2
-    add-if3-2
+    (λ c. search needs)  -- mul-if3
+    (λ c. search needs)  -- add-if3
+    (λ c. search needs)  -- mul-if3-2
+    (λ c. search needs)  -- add-if3-2
     returns-3
-    all-requires
-    same-length
+    (λ c κs. search needs)  -- all-requires
+    (λ c. search needs)  -- same-length
     returns-4)

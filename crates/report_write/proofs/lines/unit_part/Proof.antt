@@ -5,24 +5,6 @@ use borrow.Author.Needs.{needs}
 use Rattle.report_write.proofs.lines.unit_part.Statement.{statement}
 use Rattle.report_write.proofs.lines.unit_part.Tie as tie
 
-singles-requires : tie.Need-singles-requires
-singles-requires c κs = search needs
-
-slice-aggregate-unit-lines : tie.Need-slice-aggregate-unit-lines
-slice-aggregate-unit-lines c = search needs
-
-unit-lines-requires : tie.Need-unit-lines-requires
-unit-lines-requires c κs = search needs
-
-slice-aggregate-count-flags : tie.Need-slice-aggregate-count-flags
-slice-aggregate-count-flags c = search needs
-
-count-flags-requires : tie.Need-count-flags-requires
-count-flags-requires c κs = search needs
-
-same-length : tie.Need-same-length
-same-length c = search needs
-
 returns : tie.Need-returns
 returns c =
     let a = c .before .before .before .before .before .before .before .before .before .before .before .before .before .before in
@@ -33,10 +15,10 @@ pub unit-part-spec : {M : Type 1} → statement M
 unit-part-spec =
     tie.close
     (tie.spec
-    singles-requires
-    slice-aggregate-unit-lines
-    unit-lines-requires
-    slice-aggregate-count-flags
-    count-flags-requires
-    same-length
+    (λ c κs. search needs)  -- singles-requires
+    (λ c. search needs)  -- slice-aggregate-unit-lines
+    (λ c κs. search needs)  -- unit-lines-requires
+    (λ c. search needs)  -- slice-aggregate-count-flags
+    (λ c κs. search needs)  -- count-flags-requires
+    (λ c. search needs)  -- same-length
     returns)

@@ -20,26 +20,11 @@ loop-holds c =
     let a = c .before .before .before .before .args in
     (search needs, search needs, search needs, filling-begun (sure (a .marks .now)) (a .links) (a .ends .now) (a .parent .now) (a .seq .now) (a .count))
 
-sweep-requires : tie.Need-sweep-requires Inv-loop μ-loop
-sweep-requires c κs = search needs
-
-same-length : tie.Need-same-length Inv-loop μ-loop
-same-length c = search needs
-
-same-length-2 : tie.Need-same-length-2 Inv-loop μ-loop
-same-length-2 c = search needs
-
 returns : tie.Need-returns Inv-loop μ-loop
 returns c =
     let s = c .before .before .before .before .before .before .before .before .before .loop in
     let a = c .before .before .before .before .before .before .before .before .before .before .before .before .before .before .args in
     filled-same (sure (a .marks .now)) (a .links) (a .ends .now) (a .parent .now) (a .seq .now) (a .count) (s .k) (s .parent) (s .seq) (s .c) (s .inv .3) (c .before .before .before .before .before .sweep .last .1 .1 .1 .1 .0) (c .before .before .before .before .before .sweep .last .1 .1 .1 .1 .1 .0) (c .before .before .before .before .before .sweep .result) (c .before .before .before .before .before .sweep .ensures) (c .if1 .taken)
-
-add-k : tie.Need-add-k Inv-loop μ-loop
-add-k c = search needs
-
-loop-less : tie.Need-loop-less Inv-loop μ-loop
-loop-less c = search needs
 
 loop-again : tie.Need-loop-again Inv-loop μ-loop
 loop-again c =
@@ -50,12 +35,6 @@ loop-again c =
       c .before .before .before .before .before .sweep .kept .1 .1 .1 .1 .1 .0 ∙ s .inv .2,
       filling-more (sure (a .marks .now)) (a .links) (a .ends .now) (a .parent .now) (a .seq .now) (a .count) (s .k) (s .parent) (s .seq) (s .c) (s .inv .3) (c .before .before .before .before .before .sweep .last .1 .1 .1 .1 .0) (c .before .before .before .before .before .sweep .last .1 .1 .1 .1 .1 .0) (c .before .before .before .before .before .sweep .result) (c .before .before .before .before .before .sweep .ensures) (c .if1 .left),
     )
-
-same-length-3 : tie.Need-same-length-3 Inv-loop μ-loop
-same-length-3 c = search needs
-
-same-length-4 : tie.Need-same-length-4 Inv-loop μ-loop
-same-length-4 c = search needs
 
 returns-2 : tie.Need-returns-2 Inv-loop μ-loop
 returns-2 c =
@@ -70,13 +49,13 @@ fill-spec =
     Inv-loop
     μ-loop
     loop-holds
-    sweep-requires
-    same-length
-    same-length-2
+    (λ c κs. search needs)  -- sweep-requires
+    (λ c. search needs)  -- same-length
+    (λ c. search needs)  -- same-length-2
     returns
-    add-k
-    loop-less
+    (λ c. search needs)  -- add-k
+    (λ c. search needs)  -- loop-less
     loop-again
-    same-length-3
-    same-length-4
+    (λ c. search needs)  -- same-length-3
+    (λ c. search needs)  -- same-length-4
     returns-2)

@@ -12,46 +12,10 @@ returns c =
     let a = c .before .before .before .before .before .args in
     reached-past (sure (a .marks .now)) (a .links) (a .ends .now) (a .j) (a .parent .now) (a .seq .now) (a .count) (c .if1 .taken)
 
-leads-out-requires : tie.Need-leads-out-requires
-leads-out-requires c κs = search needs
-
-same-length : tie.Need-same-length
-same-length c = search needs
-
 returns-2 : tie.Need-returns-2
 returns-2 c =
     let a = c .before .before .before .before .before .before .before .before .args in
     reached-none (sure (a .marks .now)) (a .links) (a .ends .now) (a .j) (a .parent .now) (a .seq .now) (a .count) (sym (c .before .leads-out .ensures) ∙ not-true _ (c .if2 .taken))
-
-end-a-requires : tie.Need-end-a-requires
-end-a-requires c κs = search needs
-
-end-b-requires : tie.Need-end-b-requires
-end-b-requires c κs = search needs
-
-has-requires : tie.Need-has-requires
-has-requires c κs = search needs
-
-choose-requires : tie.Need-choose-requires
-choose-requires c κs = search needs
-
-choose-requires-2 : tie.Need-choose-requires-2
-choose-requires-2 c κs = search needs
-
-store-requires : tie.Need-store-requires
-store-requires c κs = search needs
-
-store-requires-2 : tie.Need-store-requires-2
-store-requires-2 c κs = search needs
-
-bounded-sum-requires : tie.Need-bounded-sum-requires
-bounded-sum-requires c κs = search needs
-
-same-length-2 : tie.Need-same-length-2
-same-length-2 c = search needs
-
-same-length-3 : tie.Need-same-length-3
-same-length-3 c = search needs
 
 returns-3 : tie.Need-returns-3
 returns-3 c =
@@ -64,17 +28,17 @@ reach-spec =
     tie.close
     (tie.spec
     returns
-    leads-out-requires
-    same-length
+    (λ c κs. search needs)  -- leads-out-requires
+    (λ c. search needs)  -- same-length
     returns-2
-    end-a-requires
-    end-b-requires
-    has-requires
-    choose-requires
-    choose-requires-2
-    store-requires
-    store-requires-2
-    bounded-sum-requires
-    same-length-2
-    same-length-3
+    (λ c κs. search needs)  -- end-a-requires
+    (λ c κs. search needs)  -- end-b-requires
+    (λ c κs. search needs)  -- has-requires
+    (λ c κs. search needs)  -- choose-requires
+    (λ c κs. search needs)  -- choose-requires-2
+    (λ c κs. search needs)  -- store-requires
+    (λ c κs. search needs)  -- store-requires-2
+    (λ c κs. search needs)  -- bounded-sum-requires
+    (λ c. search needs)  -- same-length-2
+    (λ c. search needs)  -- same-length-3
     returns-3)

@@ -5,33 +5,6 @@ use borrow.Author.Needs.{needs}
 use Rattle.ring_order.proofs.tree.span.Statement.{statement}
 use Rattle.ring_order.proofs.tree.span.Tie as tie
 
-store-requires : tie.Need-store-requires
-store-requires c κs = search needs
-
-store-requires-2 : tie.Need-store-requires-2
-store-requires-2 c κs = search needs
-
-store-requires-3 : tie.Need-store-requires-3
-store-requires-3 c κs = search needs
-
-store-requires-4 : tie.Need-store-requires-4
-store-requires-4 c κs = search needs
-
-deepen-requires : tie.Need-deepen-requires
-deepen-requires c κs = search needs
-
-fill-requires : tie.Need-fill-requires
-fill-requires c κs = search needs
-
-same-length : tie.Need-same-length
-same-length c = search needs
-
-same-length-2 : tie.Need-same-length-2
-same-length-2 c = search needs
-
-same-length-3 : tie.Need-same-length-3
-same-length-3 c = search needs
-
 returns : tie.Need-returns
 returns c =
     let a = c .before .before .before .before .before .before .before .before .before .before .before .before .before .before .before .before .before .before .before .before .before .before .before .before .before .before .before .before .before .before .before .before .before .before .before .before .before .before .before .args in
@@ -41,13 +14,13 @@ pub span-spec : {M : Type 1} → statement M
 span-spec =
     tie.close
     (tie.spec
-    store-requires
-    store-requires-2
-    store-requires-3
-    store-requires-4
-    deepen-requires
-    fill-requires
-    same-length
-    same-length-2
-    same-length-3
+    (λ c κs. search needs)  -- store-requires
+    (λ c κs. search needs)  -- store-requires-2
+    (λ c κs. search needs)  -- store-requires-3
+    (λ c κs. search needs)  -- store-requires-4
+    (λ c κs. search needs)  -- deepen-requires
+    (λ c κs. search needs)  -- fill-requires
+    (λ c. search needs)  -- same-length
+    (λ c. search needs)  -- same-length-2
+    (λ c. search needs)  -- same-length-3
     returns)

@@ -21,15 +21,6 @@ loop-holds c =
     let a = c .before .before .before .before .args in
     (search needs, search needs, search needs, swept-begun (sure (a .marks .now)) (a .links) (a .ends .now) (a .parent .now) (a .seq .now) (a .count))
 
-reach-requires : tie.Need-reach-requires Inv-loop μ-loop
-reach-requires c κs = search needs
-
-add-j : tie.Need-add-j Inv-loop μ-loop
-add-j c = search needs
-
-loop-less : tie.Need-loop-less Inv-loop μ-loop
-loop-less c = search needs
-
 loop-again : tie.Need-loop-again Inv-loop μ-loop
 loop-again c =
     let s = c .before .before .before .before .before .before .before .before .loop in
@@ -39,12 +30,6 @@ loop-again c =
       c .before .before .before .before .reach .kept .1 .1 .1 .1 .1 .1 .0 ∙ s .inv .2,
       swept-more (sure (a .marks .now)) (a .links) (a .ends .now) (s .j) (a .parent .now) (a .seq .now) (a .count) (s .parent) (s .seq) (s .c) (c .before .before .before .before .reach .last .1 .1 .1 .1 .1 .0) (c .before .before .before .before .reach .last .1 .1 .1 .1 .1 .1 .0) (c .before .before .before .before .reach .result) (c .before .before .before .before .before .before .before .loop-test .taken) (s .inv .3) (c .before .before .before .before .reach .ensures),
     )
-
-same-length : tie.Need-same-length Inv-loop μ-loop
-same-length c = search needs
-
-same-length-2 : tie.Need-same-length-2 Inv-loop μ-loop
-same-length-2 c = search needs
 
 returns : tie.Need-returns Inv-loop μ-loop
 returns c =
@@ -59,10 +44,10 @@ sweep-spec =
     Inv-loop
     μ-loop
     loop-holds
-    reach-requires
-    add-j
-    loop-less
+    (λ c κs. search needs)  -- reach-requires
+    (λ c. search needs)  -- add-j
+    (λ c. search needs)  -- loop-less
     loop-again
-    same-length
-    same-length-2
+    (λ c. search needs)  -- same-length
+    (λ c. search needs)  -- same-length-2
     returns)

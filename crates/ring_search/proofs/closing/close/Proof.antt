@@ -4,36 +4,6 @@ use borrow.Author.Needs.{needs}
 use Rattle.ring_search.proofs.closing.close.Statement.{statement}
 use Rattle.ring_search.proofs.closing.close.Tie as tie
 
-steps-requires : tie.Need-steps-requires
-steps-requires c κs = search needs
-
-steps-requires-2 : tie.Need-steps-requires-2
-steps-requires-2 c κs = search needs
-
-store-requires : tie.Need-store-requires
-store-requires c κs = search needs
-
-store-requires-2 : tie.Need-store-requires-2
-store-requires-2 c κs = search needs
-
-bounded-sum-requires : tie.Need-bounded-sum-requires
-bounded-sum-requires c κs = search needs
-
-lay-requires : tie.Need-lay-requires
-lay-requires c κs = search needs
-
-bounded-sum-requires-2 : tie.Need-bounded-sum-requires-2
-bounded-sum-requires-2 c κs = search needs
-
-lay-requires-2 : tie.Need-lay-requires-2
-lay-requires-2 c κs = search needs
-
-bounded-sum-requires-3 : tie.Need-bounded-sum-requires-3
-bounded-sum-requires-3 c κs = search needs
-
-same-length : tie.Need-same-length
-same-length c = search needs
-
 returns : tie.Need-returns
 returns c =
     let a = c .before .before .before .before .before .before .before .before .before .before .before .before .before .before .before .before .before .before .before .before .before .before .before .before .args in
@@ -45,14 +15,14 @@ pub close-spec : {M : Type 1} → statement M
 close-spec =
     tie.close
     (tie.spec
-    steps-requires
-    steps-requires-2
-    store-requires
-    store-requires-2
-    bounded-sum-requires
-    lay-requires
-    bounded-sum-requires-2
-    lay-requires-2
-    bounded-sum-requires-3
-    same-length
+    (λ c κs. search needs)  -- steps-requires
+    (λ c κs. search needs)  -- steps-requires-2
+    (λ c κs. search needs)  -- store-requires
+    (λ c κs. search needs)  -- store-requires-2
+    (λ c κs. search needs)  -- bounded-sum-requires
+    (λ c κs. search needs)  -- lay-requires
+    (λ c κs. search needs)  -- bounded-sum-requires-2
+    (λ c κs. search needs)  -- lay-requires-2
+    (λ c κs. search needs)  -- bounded-sum-requires-3
+    (λ c. search needs)  -- same-length
     returns)

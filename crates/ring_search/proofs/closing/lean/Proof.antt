@@ -20,15 +20,6 @@ loop-holds c =
     let a = c .before .before .before .before .before .args in
     (search needs, search needs, search needs, leans-begun (sure (a .marks .now)) (a .links) (a .ends .now) (a .pos .now) (a .low .now) (a .high .now))
 
-lean-one-requires : tie.Need-lean-one-requires Inv-loop μ-loop
-lean-one-requires c κs = search needs
-
-add-j : tie.Need-add-j Inv-loop μ-loop
-add-j c = search needs
-
-loop-less : tie.Need-loop-less Inv-loop μ-loop
-loop-less c = search needs
-
 loop-again : tie.Need-loop-again Inv-loop μ-loop
 loop-again c =
     let s = c .before .before .before .before .before .before .before .before .loop in
@@ -39,12 +30,6 @@ loop-again c =
       leans-more (sure (a .marks .now)) (a .links) (a .ends .now) (a .pos .now) (s .j) (a .low .now) (a .high .now) (s .low) (s .high) (c .before .before .before .before .lean-one .last .1 .1 .1 .1 .0) (c .before .before .before .before .lean-one .last .1 .1 .1 .1 .1 .0)
           (c .before .before .before .before .before .before .before .loop-test .taken) (s .inv .3) (c .before .before .before .before .lean-one .ensures),
     )
-
-same-length : tie.Need-same-length Inv-loop μ-loop
-same-length c = search needs
-
-same-length-2 : tie.Need-same-length-2 Inv-loop μ-loop
-same-length-2 c = search needs
 
 returns : tie.Need-returns Inv-loop μ-loop
 returns c =
@@ -59,10 +44,10 @@ lean-spec =
     Inv-loop
     μ-loop
     loop-holds
-    lean-one-requires
-    add-j
-    loop-less
+    (λ c κs. search needs)  -- lean-one-requires
+    (λ c. search needs)  -- add-j
+    (λ c. search needs)  -- loop-less
     loop-again
-    same-length
-    same-length-2
+    (λ c. search needs)  -- same-length
+    (λ c. search needs)  -- same-length-2
     returns)

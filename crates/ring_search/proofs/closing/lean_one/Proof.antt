@@ -8,43 +8,10 @@ use borrow.Author.Needs.{needs}
 use Rattle.ring_search.proofs.closing.lean_one.Statement.{statement}
 use Rattle.ring_search.proofs.closing.lean_one.Tie as tie
 
-within-requires : tie.Need-within-requires
-within-requires c κs = search needs
-
 returns : tie.Need-returns
 returns c =
     let a = c .before .before .before .before .before .before .before .args in
     leans-skip (sure (a .marks .now)) (a .ends .now) (a .pos .now) (a .j) (a .low .now) (a .high .now) (sym (c .before .within .ensures) ∙ not-true _ (c .if1 .taken))
-
-end-a-requires : tie.Need-end-a-requires
-end-a-requires c κs = search needs
-
-end-b-requires : tie.Need-end-b-requires
-end-b-requires c κs = search needs
-
-at-requires : tie.Need-at-requires
-at-requires c κs = search needs
-
-at-requires-2 : tie.Need-at-requires-2
-at-requires-2 c κs = search needs
-
-choose-requires : tie.Need-choose-requires
-choose-requires c κs = search needs
-
-choose-requires-2 : tie.Need-choose-requires-2
-choose-requires-2 c κs = search needs
-
-store-requires : tie.Need-store-requires
-store-requires c κs = search needs
-
-store-requires-2 : tie.Need-store-requires-2
-store-requires-2 c κs = search needs
-
-same-length : tie.Need-same-length
-same-length c = search needs
-
-same-length-2 : tie.Need-same-length-2
-same-length-2 c = search needs
 
 returns-2 : tie.Need-returns-2
 returns-2 c =
@@ -57,16 +24,16 @@ pub lean-one-spec : {M : Type 1} → statement M
 lean-one-spec =
     tie.close
     (tie.spec
-    within-requires
+    (λ c κs. search needs)  -- within-requires
     returns
-    end-a-requires
-    end-b-requires
-    at-requires
-    at-requires-2
-    choose-requires
-    choose-requires-2
-    store-requires
-    store-requires-2
-    same-length
-    same-length-2
+    (λ c κs. search needs)  -- end-a-requires
+    (λ c κs. search needs)  -- end-b-requires
+    (λ c κs. search needs)  -- at-requires
+    (λ c κs. search needs)  -- at-requires-2
+    (λ c κs. search needs)  -- choose-requires
+    (λ c κs. search needs)  -- choose-requires-2
+    (λ c κs. search needs)  -- store-requires
+    (λ c κs. search needs)  -- store-requires-2
+    (λ c. search needs)  -- same-length
+    (λ c. search needs)  -- same-length-2
     returns-2)

@@ -28,15 +28,6 @@ returns c =
     let a = c .before .before .before .before .args in
     chain-stop (at (a .next .now)) (λ (z : ℕ). eqb z (a .stop)) (a .limit) (s .k) (a .v) (s .u) (eq-eqb (s .u) (a .stop) (c .if1 .taken)) (s .inv .1)
 
-at-requires : tie.Need-at-requires Inv-loop μ-loop
-at-requires c κs = search needs
-
-add-k : tie.Need-add-k Inv-loop μ-loop
-add-k c = search needs
-
-loop-less : tie.Need-loop-less Inv-loop μ-loop
-loop-less c = search needs
-
 loop-again : tie.Need-loop-again Inv-loop μ-loop
 loop-again c =
     let s = c .before .before .before .loop in
@@ -52,4 +43,13 @@ returns-2 c =
 pub steps-spec : {M : Type 1} → statement M
 steps-spec =
     tie.close
-    (tie.spec Inv-loop μ-loop loop-holds returns at-requires add-k loop-less loop-again returns-2)
+    (tie.spec
+    Inv-loop
+    μ-loop
+    loop-holds
+    returns
+    (λ c κs. search needs)  -- at-requires
+    (λ c. search needs)  -- add-k
+    (λ c. search needs)  -- loop-less
+    loop-again
+    returns-2)

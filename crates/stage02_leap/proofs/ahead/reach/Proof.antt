@@ -12,57 +12,21 @@ Inv-loop d head ends next far₀ queue₀ from count₀ above₀ i₀ far queue 
 abbrev μ-loop : tie.MeasureT-loop
 μ-loop d head ends next far₀ queue₀ from count₀ above₀ i₀ far queue count above i = above
 
-loop-holds : tie.Need-loop-holds Inv-loop μ-loop
-loop-holds c = search needs
-
-cast-at : tie.Need-cast-at Inv-loop μ-loop
-cast-at c = search needs
-
-mul-w : tie.Need-mul-w Inv-loop μ-loop
-mul-w c = search needs
-
-shared-slice-read-w : tie.Need-shared-slice-read-w Inv-loop μ-loop
-shared-slice-read-w c = search needs
-
-meet-requires : tie.Need-meet-requires Inv-loop μ-loop
-meet-requires c κs = search needs
-
-mul-i : tie.Need-mul-i Inv-loop μ-loop
-mul-i c = search needs
-
-shared-slice-read-i : tie.Need-shared-slice-read-i Inv-loop μ-loop
-shared-slice-read-i c = search needs
-
-loop-less : tie.Need-loop-less Inv-loop μ-loop
-loop-less c = search needs
-
-loop-again : tie.Need-loop-again Inv-loop μ-loop
-loop-again c = search needs
-
-same-length : tie.Need-same-length Inv-loop μ-loop
-same-length c = search needs
-
-same-length-2 : tie.Need-same-length-2 Inv-loop μ-loop
-same-length-2 c = search needs
-
-returns : tie.Need-returns Inv-loop μ-loop
-returns c = search needs
-
 pub reach-spec : {M : Type 1} → statement M
 reach-spec =
     tie.close
     (tie.spec
     Inv-loop
     μ-loop
-    loop-holds
-    cast-at
-    mul-w
-    shared-slice-read-w
-    meet-requires
-    mul-i
-    shared-slice-read-i
-    loop-less
-    loop-again
-    same-length
-    same-length-2
-    returns)
+    (λ c. search needs)  -- loop-holds
+    (λ c. search needs)  -- cast-at
+    (λ c. search needs)  -- mul-w
+    (λ c. search needs)  -- shared-slice-read-w
+    (λ c κs. search needs)  -- meet-requires
+    (λ c. search needs)  -- mul-i
+    (λ c. search needs)  -- shared-slice-read-i
+    (λ c. search needs)  -- loop-less
+    (λ c. search needs)  -- loop-again
+    (λ c. search needs)  -- same-length
+    (λ c. search needs)  -- same-length-2
+    (λ c. search needs))  -- returns

@@ -18,22 +18,10 @@ loop-holds c = (search needs, climb-begins _ _ _ _)
 returns : tie.Need-returns Inv-loop μ-loop
 returns c = climb-arrives _ _ _ _ _ _ (c .before .before .loop .inv .1) (c .before .loop-test .taken) (c .if1 .taken)
 
-cast-word : tie.Need-cast-word Inv-loop μ-loop
-cast-word c = search needs
-
-word-requires : tie.Need-word-requires Inv-loop μ-loop
-word-requires c κs = search needs
-
 returns-2 : tie.Need-returns-2 Inv-loop μ-loop
 returns-2 c =
     let e = c .before .before in
     climb-ends _ _ _ _ _ _ (e .before .before .loop .inv .1) (e .before .loop-test .taken) (e .if1 .left) (sym (c .before .word .ensures) ∙ c .if2 .taken)
-
-add-far : tie.Need-add-far Inv-loop μ-loop
-add-far c = search needs
-
-loop-less : tie.Need-loop-less Inv-loop μ-loop
-loop-less c = search needs
 
 loop-again : tie.Need-loop-again Inv-loop μ-loop
 loop-again c =
@@ -52,10 +40,10 @@ steps-spec =
     μ-loop
     loop-holds
     returns
-    cast-word
-    word-requires
+    (λ c. search needs)  -- cast-word
+    (λ c κs. search needs)  -- word-requires
     returns-2
-    add-far
-    loop-less
+    (λ c. search needs)  -- add-far
+    (λ c. search needs)  -- loop-less
     loop-again
     returns-3)

@@ -24,15 +24,6 @@ Inv-loop units parent eldest₀ later₀ past₀ w₀ eldest later past w =
 abbrev μ-loop : tie.MeasureT-loop
 μ-loop units parent eldest₀ later₀ past₀ w₀ eldest later past w = w
 
-blank-requires : tie.Need-blank-requires Inv-loop μ-loop
-blank-requires c κs = search needs
-
-blank-requires-2 : tie.Need-blank-requires-2 Inv-loop μ-loop
-blank-requires-2 c κs = search needs
-
-blank-requires-3 : tie.Need-blank-requires-3 Inv-loop μ-loop
-blank-requires-3 c κs = search needs
-
 loop-holds : tie.Need-loop-holds Inv-loop μ-loop
 loop-holds c =
     let a = c .before .before .before .before .args in (
@@ -44,57 +35,6 @@ loop-holds c =
       later-none (a .units) (a .parent .now) (c .before .blank2 .result),
       past-none (a .units) (a .parent .now) (c .blank3 .result) (c .blank3 .ensures),
     )
-
-sub-w : tie.Need-sub-w Inv-loop μ-loop
-sub-w c = search needs
-
-cast-at : tie.Need-cast-at Inv-loop μ-loop
-cast-at c = search needs
-
-mul-p : tie.Need-mul-p Inv-loop μ-loop
-mul-p c = search needs
-
-shared-slice-read-p : tie.Need-shared-slice-read-p Inv-loop μ-loop
-shared-slice-read-p c = search needs
-
-at-requires : tie.Need-at-requires Inv-loop μ-loop
-at-requires c κs = search needs
-
-slice-aggregate-at : tie.Need-slice-aggregate-at Inv-loop μ-loop
-slice-aggregate-at c = search needs
-
-at-requires-2 : tie.Need-at-requires-2 Inv-loop μ-loop
-at-requires-2 c κs = search needs
-
-slice-aggregate-at-2 : tie.Need-slice-aggregate-at-2 Inv-loop μ-loop
-slice-aggregate-at-2 c = search needs
-
-at-requires-3 : tie.Need-at-requires-3 Inv-loop μ-loop
-at-requires-3 c κs = search needs
-
-choose-requires : tie.Need-choose-requires Inv-loop μ-loop
-choose-requires c κs = search needs
-
-mul-later : tie.Need-mul-later Inv-loop μ-loop
-mul-later c = search needs
-
-array-write-later : tie.Need-array-write-later Inv-loop μ-loop
-array-write-later c = search needs
-
-slice-aggregate-store : tie.Need-slice-aggregate-store Inv-loop μ-loop
-slice-aggregate-store c = search needs
-
-store-requires : tie.Need-store-requires Inv-loop μ-loop
-store-requires c κs = search needs
-
-slice-aggregate-store-2 : tie.Need-slice-aggregate-store-2 Inv-loop μ-loop
-slice-aggregate-store-2 c = search needs
-
-store-requires-2 : tie.Need-store-requires-2 Inv-loop μ-loop
-store-requires-2 c κs = search needs
-
-loop-less : tie.Need-loop-less Inv-loop μ-loop
-loop-less c = search needs
 
 loop-again : tie.Need-loop-again Inv-loop μ-loop
 loop-again c =
@@ -136,26 +76,26 @@ scan-spec =
     (tie.spec
     Inv-loop
     μ-loop
-    blank-requires
-    blank-requires-2
-    blank-requires-3
+    (λ c κs. search needs)  -- blank-requires
+    (λ c κs. search needs)  -- blank-requires-2
+    (λ c κs. search needs)  -- blank-requires-3
     loop-holds
-    sub-w
-    cast-at
-    mul-p
-    shared-slice-read-p
-    at-requires
-    slice-aggregate-at
-    at-requires-2
-    slice-aggregate-at-2
-    at-requires-3
-    choose-requires
-    mul-later
-    array-write-later
-    slice-aggregate-store
-    store-requires
-    slice-aggregate-store-2
-    store-requires-2
-    loop-less
+    (λ c. search needs)  -- sub-w
+    (λ c. search needs)  -- cast-at
+    (λ c. search needs)  -- mul-p
+    (λ c. search needs)  -- shared-slice-read-p
+    (λ c κs. search needs)  -- at-requires
+    (λ c. search needs)  -- slice-aggregate-at
+    (λ c κs. search needs)  -- at-requires-2
+    (λ c. search needs)  -- slice-aggregate-at-2
+    (λ c κs. search needs)  -- at-requires-3
+    (λ c κs. search needs)  -- choose-requires
+    (λ c. search needs)  -- mul-later
+    (λ c. search needs)  -- array-write-later
+    (λ c. search needs)  -- slice-aggregate-store
+    (λ c κs. search needs)  -- store-requires
+    (λ c. search needs)  -- slice-aggregate-store-2
+    (λ c κs. search needs)  -- store-requires-2
+    (λ c. search needs)  -- loop-less
     loop-again
     returns)

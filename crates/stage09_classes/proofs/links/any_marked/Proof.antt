@@ -18,24 +18,6 @@ abbrev μ-loop : tie.MeasureT-loop
 loop-holds : tie.Need-loop-holds Inv-loop μ-loop
 loop-holds c = λ e (i : ℕ) a b. absurd (omega arith)
 
-cast-either : tie.Need-cast-either Inv-loop μ-loop
-cast-either c = search needs
-
-mul-either : tie.Need-mul-either Inv-loop μ-loop
-mul-either c = search needs
-
-element-copy-out-either : tie.Need-element-copy-out-either Inv-loop μ-loop
-element-copy-out-either c = search needs
-
-either-requires : tie.Need-either-requires Inv-loop μ-loop
-either-requires c κs = search needs
-
-add-j : tie.Need-add-j Inv-loop μ-loop
-add-j c = search needs
-
-loop-less : tie.Need-loop-less Inv-loop μ-loop
-loop-less c = search needs
-
 loop-again : tie.Need-loop-again Inv-loop μ-loop
 loop-again c =
     let s = c .before .before .before in
@@ -52,11 +34,11 @@ any-marked-spec =
     Inv-loop
     μ-loop
     loop-holds
-    cast-either
-    mul-either
-    element-copy-out-either
-    either-requires
-    add-j
-    loop-less
+    (λ c. search needs)  -- cast-either
+    (λ c. search needs)  -- mul-either
+    (λ c. search needs)  -- element-copy-out-either
+    (λ c κs. search needs)  -- either-requires
+    (λ c. search needs)  -- add-j
+    (λ c. search needs)  -- loop-less
     loop-again
     returns)

@@ -21,47 +21,11 @@ abbrev μ-loop : tie.MeasureT-loop
 loop-holds : tie.Need-loop-holds Inv-loop μ-loop
 loop-holds c = (c .pre .1, λ e. e)
 
-cast-at : tie.Need-cast-at Inv-loop μ-loop
-cast-at c = search needs
-
-mul-if1 : tie.Need-mul-if1 Inv-loop μ-loop
-mul-if1 c = search needs
-
-element-copy-out-if1 : tie.Need-element-copy-out-if1 Inv-loop μ-loop
-element-copy-out-if1 c = search needs
-
-add-j : tie.Need-add-j Inv-loop μ-loop
-add-j c = search needs
-
-loop-less : tie.Need-loop-less Inv-loop μ-loop
-loop-less c = search needs
-
 loop-again : tie.Need-loop-again Inv-loop μ-loop
 loop-again c =
     let s = c .before .before .before in
     let a = s .before .args in
     (search needs, λ e. links-more (a .units) (a .ends .now) (a .linked .now) (a .said .now) (s .loop .j) _ _ (s .loop .inv .1 e) (rw (c .if1 .taken)))
-
-mul-a : tie.Need-mul-a Inv-loop μ-loop
-mul-a c = search needs
-
-mul-a-2 : tie.Need-mul-a-2 Inv-loop μ-loop
-mul-a-2 c = search needs
-
-element-copy-out-a : tie.Need-element-copy-out-a Inv-loop μ-loop
-element-copy-out-a c = search needs
-
-mul-b : tie.Need-mul-b Inv-loop μ-loop
-mul-b c = search needs
-
-add-b : tie.Need-add-b Inv-loop μ-loop
-add-b c = search needs
-
-mul-b-2 : tie.Need-mul-b-2 Inv-loop μ-loop
-mul-b-2 c = search needs
-
-element-copy-out-b : tie.Need-element-copy-out-b Inv-loop μ-loop
-element-copy-out-b c = search needs
 
 hear-requires : tie.Need-hear-requires Inv-loop μ-loop
 hear-requires c κs =
@@ -71,12 +35,6 @@ hear-requires c κs =
     let one = p .3 .1 (2 * s .loop .j) (omega (arith, i .loop-test .taken)) in
     let two = p .3 .1 (2 * s .loop .j + 1) (omega (arith, i .loop-test .taken)) in
     (p .0, one, two)
-
-add-j-2 : tie.Need-add-j-2 Inv-loop μ-loop
-add-j-2 c = search needs
-
-loop-less-2 : tie.Need-loop-less-2 Inv-loop μ-loop
-loop-less-2 c = search needs
 
 loop-again-2 : tie.Need-loop-again-2 Inv-loop μ-loop
 loop-again-2 c =
@@ -95,21 +53,21 @@ over-span-spec =
     Inv-loop
     μ-loop
     loop-holds
-    cast-at
-    mul-if1
-    element-copy-out-if1
-    add-j
-    loop-less
+    (λ c. search needs)  -- cast-at
+    (λ c. search needs)  -- mul-if1
+    (λ c. search needs)  -- element-copy-out-if1
+    (λ c. search needs)  -- add-j
+    (λ c. search needs)  -- loop-less
     loop-again
-    mul-a
-    mul-a-2
-    element-copy-out-a
-    mul-b
-    add-b
-    mul-b-2
-    element-copy-out-b
+    (λ c. search needs)  -- mul-a
+    (λ c. search needs)  -- mul-a-2
+    (λ c. search needs)  -- element-copy-out-a
+    (λ c. search needs)  -- mul-b
+    (λ c. search needs)  -- add-b
+    (λ c. search needs)  -- mul-b-2
+    (λ c. search needs)  -- element-copy-out-b
     hear-requires
-    add-j-2
-    loop-less-2
+    (λ c. search needs)  -- add-j-2
+    (λ c. search needs)  -- loop-less-2
     loop-again-2
     returns)

@@ -22,9 +22,6 @@ loop-holds c =
     let a = c .args in
     (search needs, λ e. e ∙ links-none (a .units) (a .ends .now) (a .linked .now) (a .said .now))
 
-span-end-requires : tie.Need-span-end-requires Inv-loop μ-loop
-span-end-requires c κs = search needs
-
 any-marked-requires : tie.Need-any-marked-requires Inv-loop μ-loop
 any-marked-requires c κs = omega (arith, c .span-end .ensures, c .before .before .before .pre .1)
 
@@ -75,7 +72,7 @@ propagate-spec =
     Inv-loop
     μ-loop
     loop-holds
-    span-end-requires
+    (λ c κs. search needs)  -- span-end-requires
     any-marked-requires
     loop-less
     loop-again

@@ -25,20 +25,8 @@ head c =
     let p = c .before .before .before .before .pre in
     omega (arith, p .0, p .1 (c .before .before .loop .u) (c .before .loop-test .taken))
 
-blank-requires : tie.Need-blank-requires Inv-loop μ-loop
-blank-requires c κs = search needs
-
 loop-holds : tie.Need-loop-holds Inv-loop μ-loop
 loop-holds c = (search needs, search needs, search needs, to-none _ _ _ _, refl)
-
-cast-at : tie.Need-cast-at Inv-loop μ-loop
-cast-at c = search needs
-
-mul-head : tie.Need-mul-head Inv-loop μ-loop
-mul-head c = search needs
-
-element-copy-out-head : tie.Need-element-copy-out-head Inv-loop μ-loop
-element-copy-out-head c = search needs
 
 cast-head : tie.Need-cast-head Inv-loop μ-loop
 cast-head c = search (head c, needs)
@@ -49,38 +37,17 @@ mul-told c = search (head c, needs)
 element-copy-out-told : tie.Need-element-copy-out-told Inv-loop μ-loop
 element-copy-out-told c = search (head c, needs)
 
-mul-told-2 : tie.Need-mul-told-2 Inv-loop μ-loop
-mul-told-2 c = search needs
-
-array-write-told : tie.Need-array-write-told Inv-loop μ-loop
-array-write-told c = search needs
-
 mul-least-of : tie.Need-mul-least-of Inv-loop μ-loop
 mul-least-of c = search (head (c .before), needs)
 
 element-copy-out-least-of : tie.Need-element-copy-out-least-of Inv-loop μ-loop
 element-copy-out-least-of c = search (head (c .before), needs)
 
-mul-least-of-2 : tie.Need-mul-least-of-2 Inv-loop μ-loop
-mul-least-of-2 c = search needs
-
-element-copy-out-least-of-2 : tie.Need-element-copy-out-least-of-2 Inv-loop μ-loop
-element-copy-out-least-of-2 c = search needs
-
-least-of-requires : tie.Need-least-of-requires Inv-loop μ-loop
-least-of-requires c κs = search needs
-
 mul-t : tie.Need-mul-t Inv-loop μ-loop
 mul-t c = search (head (c .before .before .before .before), needs)
 
 element-write-t : tie.Need-element-write-t Inv-loop μ-loop
 element-write-t c = search (head (c .before .before .before .before), needs)
-
-add-u : tie.Need-add-u Inv-loop μ-loop
-add-u c = search needs
-
-loop-less : tie.Need-loop-less Inv-loop μ-loop
-loop-less c = search needs
 
 loop-again : tie.Need-loop-again Inv-loop μ-loop
 loop-again c =
@@ -112,24 +79,24 @@ propagate-spec =
     (tie.spec
     Inv-loop
     μ-loop
-    blank-requires
+    (λ c κs. search needs)  -- blank-requires
     loop-holds
-    cast-at
-    mul-head
-    element-copy-out-head
+    (λ c. search needs)  -- cast-at
+    (λ c. search needs)  -- mul-head
+    (λ c. search needs)  -- element-copy-out-head
     cast-head
     mul-told
     element-copy-out-told
-    mul-told-2
-    array-write-told
+    (λ c. search needs)  -- mul-told-2
+    (λ c. search needs)  -- array-write-told
     mul-least-of
     element-copy-out-least-of
-    mul-least-of-2
-    element-copy-out-least-of-2
-    least-of-requires
+    (λ c. search needs)  -- mul-least-of-2
+    (λ c. search needs)  -- element-copy-out-least-of-2
+    (λ c κs. search needs)  -- least-of-requires
     mul-t
     element-write-t
-    add-u
-    loop-less
+    (λ c. search needs)  -- add-u
+    (λ c. search needs)  -- loop-less
     loop-again
     returns)

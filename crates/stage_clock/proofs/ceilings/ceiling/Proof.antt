@@ -7,26 +7,8 @@ use Rattle.stage_clock.specs.CeilingSteps.{ceiling-ranking, ceiling-two}
 use Rattle.stage_clock.proofs.ceilings.ceiling.Statement.{statement}
 use Rattle.stage_clock.proofs.ceilings.ceiling.Tie as tie
 
-greatest-of-requires : tie.Need-greatest-of-requires
-greatest-of-requires c κs = search needs
-
-add-result : tie.Need-add-result
-add-result c = search needs
-
-ranking-ceiling-requires : tie.Need-ranking-ceiling-requires
-ranking-ceiling-requires c κs = search needs
-
-lg-requires : tie.Need-lg-requires
-lg-requires c κs = search needs
-
 add-result-2 : tie.Need-add-result-2
 add-result-2 c = omega (arith, lg-least (c .before .before .args .units) 8 (omega arith))
-
-less-requires : tie.Need-less-requires
-less-requires c κs = search needs
-
-greatest-of-requires-2 : tie.Need-greatest-of-requires-2
-greatest-of-requires-2 c κs = search needs
 
 returns : tie.Need-returns
 returns c = rw (c .before .match .keys1) (c .greatest-of .ensures)
@@ -58,13 +40,13 @@ pub ceiling-spec : {M : Type 1} → statement M
 ceiling-spec =
     tie.close
     (tie.spec
-    greatest-of-requires
-    add-result
-    ranking-ceiling-requires
-    lg-requires
+    (λ c κs. search needs)  -- greatest-of-requires
+    (λ c. search needs)  -- add-result
+    (λ c κs. search needs)  -- ranking-ceiling-requires
+    (λ c κs. search needs)  -- lg-requires
     add-result-2
-    less-requires
-    greatest-of-requires-2
+    (λ c κs. search needs)  -- less-requires
+    (λ c κs. search needs)  -- greatest-of-requires-2
     returns
     returns-2
     returns-3

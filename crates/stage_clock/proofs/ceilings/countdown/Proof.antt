@@ -16,19 +16,10 @@ Inv-loop units stage made count sum₀ k₀ sum k =
 abbrev μ-loop : tie.MeasureT-loop
 μ-loop units stage made count sum₀ k₀ sum k = 11 - k
 
-least-of-requires : tie.Need-least-of-requires Inv-loop μ-loop
-least-of-requires c κs = search needs
-
-greatest-of-requires : tie.Need-greatest-of-requires Inv-loop μ-loop
-greatest-of-requires c κs = search needs
-
 loop-holds : tie.Need-loop-holds Inv-loop μ-loop
 loop-holds c =
     let a = c .before .before .args in
     rw (c .greatest-of .ensures) (omega arith, (omega arith, omega (arith, left-from (min (a .units) 256) (a .stage))))
-
-ceiling-requires : tie.Need-ceiling-requires Inv-loop μ-loop
-ceiling-requires c κs = search needs
 
 -- the ceiling that a turn adds
 small : (c : tie.After-ceiling Inv-loop μ-loop) → c .ceiling .result ≤ 257
@@ -39,12 +30,6 @@ small c =
 add-sum : tie.Need-add-sum Inv-loop μ-loop
 add-sum c = omega (arith, small c)
 
-add-k : tie.Need-add-k Inv-loop μ-loop
-add-k c = search needs
-
-loop-less : tie.Need-loop-less Inv-loop μ-loop
-loop-less c = search needs
-
 loop-again : tie.Need-loop-again Inv-loop μ-loop
 loop-again c =
     let s = c .before .before in
@@ -52,9 +37,6 @@ loop-again c =
     let exact : c .ceiling .result ≡ ceiling (min (a .units) 256) (s .loop .k) =
     c .ceiling .ensures ∙ ap (λ n. ceiling n (s .loop .k)) (s .before .before .least-of .ensures) in
     omega (arith, small c, left-stage (min (a .units) 256) (s .loop .k) (omega arith) (omega arith), exact)
-
-less-requires : tie.Need-less-requires Inv-loop μ-loop
-less-requires c κs = search needs
 
 returns : tie.Need-returns Inv-loop μ-loop
 unfolding countdown
@@ -69,13 +51,13 @@ countdown-spec =
     (tie.spec
     Inv-loop
     μ-loop
-    least-of-requires
-    greatest-of-requires
+    (λ c κs. search needs)  -- least-of-requires
+    (λ c κs. search needs)  -- greatest-of-requires
     loop-holds
-    ceiling-requires
+    (λ c κs. search needs)  -- ceiling-requires
     add-sum
-    add-k
-    loop-less
+    (λ c. search needs)  -- add-k
+    (λ c. search needs)  -- loop-less
     loop-again
-    less-requires
+    (λ c κs. search needs)  -- less-requires
     returns)

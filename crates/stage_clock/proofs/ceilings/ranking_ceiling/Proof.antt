@@ -5,15 +5,6 @@ use Rattle.base_log2.specs.LgLaws.{lg-least}
 use Rattle.stage_clock.proofs.ceilings.ranking_ceiling.Statement.{statement}
 use Rattle.stage_clock.proofs.ceilings.ranking_ceiling.Tie as tie
 
-mul-less : tie.Need-mul-less
-mul-less c = search needs
-
-less-requires : tie.Need-less-requires
-less-requires c κs = search needs
-
-lg-requires : tie.Need-lg-requires
-lg-requires c κs = search needs
-
 add-result : tie.Need-add-result
 add-result c = omega (arith, lg-least (c .before .less .result) 9 (omega arith))
 
@@ -21,4 +12,11 @@ returns : tie.Need-returns
 returns c = rw (c .lg .ensures, c .before .less .ensures)
 
 pub ranking-ceiling-spec : {M : Type 1} → statement M
-ranking-ceiling-spec = tie.close (tie.spec mul-less less-requires lg-requires add-result returns)
+ranking-ceiling-spec =
+    tie.close
+    (tie.spec
+    (λ c. search needs)  -- mul-less
+    (λ c κs. search needs)  -- less-requires
+    (λ c κs. search needs)  -- lg-requires
+    add-result
+    returns)

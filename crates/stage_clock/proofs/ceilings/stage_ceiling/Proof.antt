@@ -6,12 +6,6 @@ use borrow.Author.Needs.{needs}
 use Rattle.stage_clock.proofs.ceilings.stage_ceiling.Statement.{statement}
 use Rattle.stage_clock.proofs.ceilings.stage_ceiling.Tie as tie
 
-least-of-requires : tie.Need-least-of-requires
-least-of-requires c κs = search needs
-
-ceiling-requires : tie.Need-ceiling-requires
-ceiling-requires c κs = search needs
-
 returns : tie.Need-returns
 returns c =
     let first : c .before .before .before .args .stage ≡ 0 = omega (arith, c .before .if1 .taken) in
@@ -20,13 +14,16 @@ returns c =
 returns-2 : tie.Need-returns-2
 returns-2 c = sym (ceiling-past _ _ (c .if2 .taken))
 
-ceiling-requires-2 : tie.Need-ceiling-requires-2
-ceiling-requires-2 c κs = search needs
-
 returns-3 : tie.Need-returns-3
 returns-3 c = rw (c .ceiling2 .ensures, c .before .before .before .least-of .ensures)
 
 pub stage-ceiling-spec : {M : Type 1} → statement M
 stage-ceiling-spec =
     tie.close
-    (tie.spec least-of-requires ceiling-requires returns returns-2 ceiling-requires-2 returns-3)
+    (tie.spec
+    (λ c κs. search needs)  -- least-of-requires
+    (λ c κs. search needs)  -- ceiling-requires
+    returns
+    returns-2
+    (λ c κs. search needs)  -- ceiling-requires-2
+    returns-3)

@@ -16,15 +16,6 @@ returns-2 c =
     let k = c .before .before .before .before .args .c .stage in
     rw (le-leb 1 k (c .before .before .if1 .left), lt-leb k 11 (c .if2 .taken)) refl
 
-made-ok-requires : tie.Need-made-ok-requires
-made-ok-requires c κs = search needs
-
-both-requires : tie.Need-both-requires
-both-requires c κs = search needs
-
-both-requires-2 : tie.Need-both-requires-2
-both-requires-2 c κs = search needs
-
 returns-3 : tie.Need-returns-3
 unfolding clockOk
 returns-3 c =
@@ -34,4 +25,10 @@ returns-3 c =
 
 pub clock-ok-spec : {M : Type 1} → statement M
 clock-ok-spec =
-    tie.close (tie.spec returns returns-2 made-ok-requires both-requires both-requires-2 returns-3)
+    tie.close (tie.spec
+    returns
+    returns-2
+    (λ c κs. search needs)  -- made-ok-requires
+    (λ c κs. search needs)  -- both-requires
+    (λ c κs. search needs)  -- both-requires-2
+    returns-3)

@@ -5,9 +5,6 @@ use borrow.Author.Needs.{needs}
 use Rattle.stage_clock.proofs.kept.front_ok.Statement.{statement}
 use Rattle.stage_clock.proofs.kept.front_ok.Tie as tie
 
-table-ok-requires : tie.Need-table-ok-requires
-table-ok-requires c κs = search needs
-
 returns : tie.Need-returns
 returns c = rw (sym (c .before .table-ok .ensures .0) ∙ not-true _ (c .if1 .taken)) refl
 
@@ -19,4 +16,10 @@ returns-2 c =
     rw (sym (c .before .before .table-ok .ensures .0) ∙ not-false _ (c .before .if1 .left), c .clock-ok .ensures) refl
 
 pub front-ok-spec : {M : Type 1} → statement M
-front-ok-spec = tie.close (tie.spec table-ok-requires returns clock-ok-requires returns-2)
+front-ok-spec =
+    tie.close
+    (tie.spec
+    (λ c κs. search needs)  -- table-ok-requires
+    returns
+    clock-ok-requires
+    returns-2)

@@ -7,22 +7,18 @@ use borrow.Author.Needs.{needs}
 use Rattle.stage_clock.proofs.kept.refusal_of.Statement.{statement}
 use Rattle.stage_clock.proofs.kept.refusal_of.Tie as tie
 
-bare-refusal-requires : tie.Need-bare-refusal-requires
-bare-refusal-requires c κs = search needs
-
 returns : tie.Need-returns
 returns c = rw (take-all (c .before .before .before .args .words) (c .before .before .before .args .ends .now) (omega arith)) (c .bare-refusal .ensures)
 
 slice-aggregate-bare-refusal : tie.Need-slice-aggregate-bare-refusal
 slice-aggregate-bare-refusal c = rw (length-take (c .before .before .before .args .words) (c .before .before .before .args .ends .now)) (omega arith)
 
-bare-refusal-requires-2 : tie.Need-bare-refusal-requires-2
-bare-refusal-requires-2 c κs = search needs
-
-returns-2 : tie.Need-returns-2
-returns-2 c = search needs
-
 pub refusal-of-spec : {M : Type 1} → statement M
 refusal-of-spec =
     tie.close
-    (tie.spec bare-refusal-requires returns slice-aggregate-bare-refusal bare-refusal-requires-2 returns-2)
+    (tie.spec
+    (λ c κs. search needs)  -- bare-refusal-requires
+    returns
+    slice-aggregate-bare-refusal
+    (λ c κs. search needs)  -- bare-refusal-requires-2
+    (λ c. search needs))  -- returns-2

@@ -15,12 +15,6 @@ returns : tie.Need-returns
 unfolding tableOk
 returns c = (rw (lt-leb (c .before .before .args .links) 1024 (c .if1 .taken)) refl, λ e. absurd (true≢false (sym e)))
 
-mul-refusal-of : tie.Need-mul-refusal-of
-mul-refusal-of c = search needs
-
-refusal-of-requires : tie.Need-refusal-of-requires
-refusal-of-requires c κs = search needs
-
 returns-2 : tie.Need-returns-2
 unfolding tableOk
 returns-2 c =
@@ -31,4 +25,10 @@ returns-2 c =
     )
 
 pub table-ok-spec : {M : Type 1} → statement M
-table-ok-spec = tie.close (tie.spec returns mul-refusal-of refusal-of-requires returns-2)
+table-ok-spec =
+    tie.close
+    (tie.spec
+    returns
+    (λ c. search needs)  -- mul-refusal-of
+    (λ c κs. search needs)  -- refusal-of-requires
+    returns-2)

@@ -13,14 +13,8 @@ use Rattle.stage_clock.proofs.tick.ticked.Tie as tie
 on : (c : tie.Else1) → inStage (c .before .before .args .units) (c .before .before .args .stage) (c .before .before .args .c) ≡ true
 on c = sym (c .before .within .ensures) ∙ not-false _ (c .if1 .left)
 
-within-requires : tie.Need-within-requires
-within-requires c κs = search needs
-
 returns : tie.Need-returns
 returns c = rw (sym (c .before .within .ensures) ∙ not-true _ (c .if1 .taken))
-
-is-last-requires : tie.Need-is-last-requires
-is-last-requires c κs = search needs
 
 next-requires : tie.Need-next-requires
 next-requires c κs =
@@ -35,4 +29,11 @@ returns-2 c =
     rw (on e, c .next .ensures, c .before .is-last .ensures, all)
 
 pub ticked-spec : {M : Type 1} → statement M
-ticked-spec = tie.close (tie.spec within-requires returns is-last-requires next-requires returns-2)
+ticked-spec =
+    tie.close
+    (tie.spec
+    (λ c κs. search needs)  -- within-requires
+    returns
+    (λ c κs. search needs)  -- is-last-requires
+    next-requires
+    returns-2)

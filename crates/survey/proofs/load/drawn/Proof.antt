@@ -29,9 +29,6 @@ few s =
 loaded-requires : tie.Need-loaded-requires
 loaded-requires c κs = accepted (c .before .before) .stored
 
-plan-requires : tie.Need-plan-requires
-plan-requires c κs = search needs
-
 returns : tie.Need-returns
 unfolding plannedLoaded
 returns c =
@@ -42,4 +39,9 @@ returns c =
     ∙ ap (withPlan (planOf ps)) (c .before .loaded .ensures)
 
 pub drawn-spec : {M : Type 1} → statement M
-drawn-spec = tie.close (tie.spec loaded-requires plan-requires returns)
+drawn-spec =
+    tie.close
+    (tie.spec
+    loaded-requires
+    (λ c κs. search needs)  -- plan-requires
+    returns)

@@ -7,12 +7,6 @@ use borrow.Author.Needs.{needs}
 use Rattle.survey.proofs.load.loaded.Statement.{statement}
 use Rattle.survey.proofs.load.loaded.Tie as tie
 
-table-requires : tie.Need-table-requires
-table-requires c κs = search needs
-
-begun-requires : tie.Need-begun-requires
-begun-requires c κs = search needs
-
 returns : tie.Need-returns
 unfolding loaded
 returns c =
@@ -22,4 +16,9 @@ returns c =
     rw (c .begun .ensures, c .before .table .ensures, take-all 2048 (a .table .now) (fits .0), take-all 1024 (a .levels .now) (fits .1)) refl
 
 pub loaded-spec : {M : Type 1} → statement M
-loaded-spec = tie.close (tie.spec table-requires begun-requires returns)
+loaded-spec =
+    tie.close
+    (tie.spec
+    (λ c κs. search needs)  -- table-requires
+    (λ c κs. search needs)  -- begun-requires
+    returns)

@@ -18,33 +18,6 @@ abbrev μ-loop : tie.MeasureT-loop
 loop-holds : tie.Need-loop-holds Inv-loop μ-loop
 loop-holds c = (search needs, refl, refl)
 
-add-loop : tie.Need-add-loop Inv-loop μ-loop
-add-loop c = search needs
-
-mul-place : tie.Need-mul-place Inv-loop μ-loop
-mul-place c = search needs
-
-shared-slice-read-place : tie.Need-shared-slice-read-place Inv-loop μ-loop
-shared-slice-read-place c = search needs
-
-add-place : tie.Need-add-place Inv-loop μ-loop
-add-place c = search needs
-
-mul-place-2 : tie.Need-mul-place-2 Inv-loop μ-loop
-mul-place-2 c = search needs
-
-shared-slice-read-place-2 : tie.Need-shared-slice-read-place-2 Inv-loop μ-loop
-shared-slice-read-place-2 c = search needs
-
-place-requires : tie.Need-place-requires Inv-loop μ-loop
-place-requires c κs = search needs
-
-is-marked-requires : tie.Need-is-marked-requires Inv-loop μ-loop
-is-marked-requires c κs = search needs
-
-same-length : tie.Need-same-length Inv-loop μ-loop
-same-length c = search needs
-
 returns : tie.Need-returns Inv-loop μ-loop
 returns c =
     let p = c .before .before .before in
@@ -53,15 +26,6 @@ returns c =
     (s .loop .inv .2
     ∙ found-here (placeAs (s .before .before .before .args .ordered)) (s .loop .marks) (s .before .before .before .args .table .now) (s .loop .i) (search needs)
     (ap (marked (s .loop .marks)) (sym (p .place .ensures)) ∙ sym (c .before .is-marked .ensures) ∙ c .if1 .taken))
-
-set-mark-requires : tie.Need-set-mark-requires Inv-loop μ-loop
-set-mark-requires c κs = search needs
-
-add-i : tie.Need-add-i Inv-loop μ-loop
-add-i c = search needs
-
-loop-less : tie.Need-loop-less Inv-loop μ-loop
-loop-less c = search needs
 
 loop-again : tie.Need-loop-again Inv-loop μ-loop
 loop-again c =
@@ -76,9 +40,6 @@ loop-again c =
           (ap (marked (s .loop .marks)) (sym (p .place .ensures)) ∙ sym (e .before .is-marked .ensures) ∙ e .if1 .left)),
     )
 
-same-length-2 : tie.Need-same-length-2 Inv-loop μ-loop
-same-length-2 c = search needs
-
 returns-2 : tie.Need-returns-2 Inv-loop μ-loop
 returns-2 c =
     let s = c .before in
@@ -91,19 +52,19 @@ found-spec =
     Inv-loop
     μ-loop
     loop-holds
-    add-loop
-    mul-place
-    shared-slice-read-place
-    add-place
-    mul-place-2
-    shared-slice-read-place-2
-    place-requires
-    is-marked-requires
-    same-length
+    (λ c. search needs)  -- add-loop
+    (λ c. search needs)  -- mul-place
+    (λ c. search needs)  -- shared-slice-read-place
+    (λ c. search needs)  -- add-place
+    (λ c. search needs)  -- mul-place-2
+    (λ c. search needs)  -- shared-slice-read-place-2
+    (λ c κs. search needs)  -- place-requires
+    (λ c κs. search needs)  -- is-marked-requires
+    (λ c. search needs)  -- same-length
     returns
-    set-mark-requires
-    add-i
-    loop-less
+    (λ c κs. search needs)  -- set-mark-requires
+    (λ c. search needs)  -- add-i
+    (λ c. search needs)  -- loop-less
     loop-again
-    same-length-2
+    (λ c. search needs)  -- same-length-2
     returns-2)

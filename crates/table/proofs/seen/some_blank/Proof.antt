@@ -19,21 +19,6 @@ loop-holds : tie.Need-loop-holds Inv-loop μ-loop
 unfolding someBlank
 loop-holds c = (search needs, refl)
 
-cast-byte : tie.Need-cast-byte Inv-loop μ-loop
-cast-byte c = search needs
-
-byte-requires : tie.Need-byte-requires Inv-loop μ-loop
-byte-requires c κs = search needs
-
-either-requires : tie.Need-either-requires Inv-loop μ-loop
-either-requires c κs = search needs
-
-add-v : tie.Need-add-v Inv-loop μ-loop
-add-v c = search needs
-
-loop-less : tie.Need-loop-less Inv-loop μ-loop
-loop-less c = search needs
-
 loop-again : tie.Need-loop-again Inv-loop μ-loop
 loop-again c =
     let s = c .before .before .before in
@@ -53,10 +38,10 @@ some-blank-spec =
     Inv-loop
     μ-loop
     loop-holds
-    cast-byte
-    byte-requires
-    either-requires
-    add-v
-    loop-less
+    (λ c. search needs)  -- cast-byte
+    (λ c κs. search needs)  -- byte-requires
+    (λ c κs. search needs)  -- either-requires
+    (λ c. search needs)  -- add-v
+    (λ c. search needs)  -- loop-less
     loop-again
     returns)

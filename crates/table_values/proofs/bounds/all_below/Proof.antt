@@ -9,15 +9,15 @@ returns c =
     let a = c .before .before .args in
     rw (c .if1 .taken) (below-none (a .t .now))
 
-top-requires : tie.Need-top-requires
-top-requires c κs = search needs
-
-sub-result : tie.Need-sub-result
-sub-result c = search needs
-
 returns-2 : tie.Need-returns-2
 returns-2 c =
     c .top .ensures _ _ (below-within (c .before .before .before .args .count) (c .before .if1 .left))
 
 pub all-below-spec : {M : Type 1} → statement M
-all-below-spec = tie.close (tie.spec returns top-requires sub-result returns-2)
+all-below-spec =
+    tie.close
+    (tie.spec
+    returns
+    (λ c κs. search needs)  -- top-requires
+    (λ c. search needs)  -- sub-result
+    returns-2)

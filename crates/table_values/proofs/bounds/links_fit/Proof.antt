@@ -14,12 +14,6 @@ returns : tie.Need-returns
 unfolding linksFit
 returns c = rw (lt-leb (c .before .before .args .links) 1024 (c .if1 .taken)) refl
 
-mul-count : tie.Need-mul-count
-mul-count c = search needs
-
-all-below-requires : tie.Need-all-below-requires
-all-below-requires c κs = search needs
-
 returns-2 : tie.Need-returns-2
 unfolding linksFit
 returns-2 c =
@@ -30,9 +24,6 @@ slice-aggregate-all-below : tie.Need-slice-aggregate-all-below
 slice-aggregate-all-below c =
     let a = c .before .before .before .before .args in
     rw (length-take (2 * a .links) (a .ends .now)) (omega arith)
-
-all-below-requires-2 : tie.Need-all-below-requires-2
-all-below-requires-2 c κs = search needs
 
 returns-3 : tie.Need-returns-3
 unfolding linksFit
@@ -45,9 +36,9 @@ links-fit-spec =
     tie.close
     (tie.spec
     returns
-    mul-count
-    all-below-requires
+    (λ c. search needs)  -- mul-count
+    (λ c κs. search needs)  -- all-below-requires
     returns-2
     slice-aggregate-all-below
-    all-below-requires-2
+    (λ c κs. search needs)  -- all-below-requires-2
     returns-3)

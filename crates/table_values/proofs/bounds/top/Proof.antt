@@ -18,24 +18,6 @@ abbrev μ-loop : tie.MeasureT-loop
 loop-holds : tie.Need-loop-holds Inv-loop μ-loop
 loop-holds c = (search needs, omega arith)
 
-mul-wrapping-add-u16 : tie.Need-mul-wrapping-add-u16 Inv-loop μ-loop
-mul-wrapping-add-u16 c = search needs
-
-shared-slice-read-wrapping-add-u16 : tie.Need-shared-slice-read-wrapping-add-u16 Inv-loop μ-loop
-shared-slice-read-wrapping-add-u16 c = search needs
-
-wrapping-add-u16-requires : tie.Need-wrapping-add-u16-requires Inv-loop μ-loop
-wrapping-add-u16-requires c κs = search needs
-
-greatest-of-requires : tie.Need-greatest-of-requires Inv-loop μ-loop
-greatest-of-requires c κs = search needs
-
-add-i : tie.Need-add-i Inv-loop μ-loop
-add-i c = search needs
-
-loop-less : tie.Need-loop-less Inv-loop μ-loop
-loop-less c = search needs
-
 loop-again : tie.Need-loop-again Inv-loop μ-loop
 loop-again c =
     let s = c .before .before .before .before in
@@ -57,11 +39,11 @@ top-spec =
     Inv-loop
     μ-loop
     loop-holds
-    mul-wrapping-add-u16
-    shared-slice-read-wrapping-add-u16
-    wrapping-add-u16-requires
-    greatest-of-requires
-    add-i
-    loop-less
+    (λ c. search needs)  -- mul-wrapping-add-u16
+    (λ c. search needs)  -- shared-slice-read-wrapping-add-u16
+    (λ c κs. search needs)  -- wrapping-add-u16-requires
+    (λ c κs. search needs)  -- greatest-of-requires
+    (λ c. search needs)  -- add-i
+    (λ c. search needs)  -- loop-less
     loop-again
     returns)

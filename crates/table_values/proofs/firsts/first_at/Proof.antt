@@ -16,21 +16,6 @@ loop-holds : tie.Need-loop-holds Inv-loop μ-loop
 unfolding firstAt
 loop-holds c = (search needs, refl)
 
-at-requires : tie.Need-at-requires Inv-loop μ-loop
-at-requires c κs = search needs
-
-choose-requires : tie.Need-choose-requires Inv-loop μ-loop
-choose-requires c κs = search needs
-
-least-of-requires : tie.Need-least-of-requires Inv-loop μ-loop
-least-of-requires c κs = search needs
-
-add-k : tie.Need-add-k Inv-loop μ-loop
-add-k c = search needs
-
-loop-less : tie.Need-loop-less Inv-loop μ-loop
-loop-less c = search needs
-
 loop-again : tie.Need-loop-again Inv-loop μ-loop
 loop-again c =
     let s = c .before .before .before .before in
@@ -47,10 +32,10 @@ first-at-spec =
     Inv-loop
     μ-loop
     loop-holds
-    at-requires
-    choose-requires
-    least-of-requires
-    add-k
-    loop-less
+    (λ c κs. search needs)  -- at-requires
+    (λ c κs. search needs)  -- choose-requires
+    (λ c κs. search needs)  -- least-of-requires
+    (λ c. search needs)  -- add-k
+    (λ c. search needs)  -- loop-less
     loop-again
     returns)

@@ -16,26 +16,8 @@ Inv-loop count key first₀ k₀ first k = (k ≤ count) × (length first ≡ 51
 abbrev μ-loop : tie.MeasureT-loop
 μ-loop count key first₀ k₀ first k = count - k
 
-blank-arcs-requires : tie.Need-blank-arcs-requires Inv-loop μ-loop
-blank-arcs-requires c κs = search needs
-
 loop-holds : tie.Need-loop-holds Inv-loop μ-loop
 loop-holds c = (search needs, search needs, first-none _ _ (c .blank-arcs .ensures))
-
-at-requires : tie.Need-at-requires Inv-loop μ-loop
-at-requires c κs = search needs
-
-slice-aggregate-take-in : tie.Need-slice-aggregate-take-in Inv-loop μ-loop
-slice-aggregate-take-in c = search needs
-
-take-in-requires : tie.Need-take-in-requires Inv-loop μ-loop
-take-in-requires c κs = search needs
-
-add-k : tie.Need-add-k Inv-loop μ-loop
-add-k c = search needs
-
-loop-less : tie.Need-loop-less Inv-loop μ-loop
-loop-less c = search needs
 
 loop-again : tie.Need-loop-again Inv-loop μ-loop
 loop-again c =
@@ -56,12 +38,12 @@ firsts-spec =
     (tie.spec
     Inv-loop
     μ-loop
-    blank-arcs-requires
+    (λ c κs. search needs)  -- blank-arcs-requires
     loop-holds
-    at-requires
-    slice-aggregate-take-in
-    take-in-requires
-    add-k
-    loop-less
+    (λ c κs. search needs)  -- at-requires
+    (λ c. search needs)  -- slice-aggregate-take-in
+    (λ c κs. search needs)  -- take-in-requires
+    (λ c. search needs)  -- add-k
+    (λ c. search needs)  -- loop-less
     loop-again
     returns)

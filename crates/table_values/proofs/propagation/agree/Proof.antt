@@ -18,30 +18,6 @@ Inv-loop units before after count same₀ i₀ same i = (i ≤ count) × (same �
 abbrev μ-loop : tie.MeasureT-loop
 μ-loop units before after count same₀ i₀ same i = count - i
 
-lesser-requires : tie.Need-lesser-requires Inv-loop μ-loop
-lesser-requires c κs = search needs
-
-lesser-requires-2 : tie.Need-lesser-requires-2 Inv-loop μ-loop
-lesser-requires-2 c κs = search needs
-
-loop-holds : tie.Need-loop-holds Inv-loop μ-loop
-loop-holds c = search needs
-
-word-requires : tie.Need-word-requires Inv-loop μ-loop
-word-requires c κs = search needs
-
-word-requires-2 : tie.Need-word-requires-2 Inv-loop μ-loop
-word-requires-2 c κs = search needs
-
-both-requires : tie.Need-both-requires Inv-loop μ-loop
-both-requires c κs = search needs
-
-add-i : tie.Need-add-i Inv-loop μ-loop
-add-i c = search needs
-
-loop-less : tie.Need-loop-less Inv-loop μ-loop
-loop-less c = search needs
-
 loop-again : tie.Need-loop-again Inv-loop μ-loop
 loop-again c =
     let s = c .before .before .before .before in
@@ -68,13 +44,13 @@ agree-spec =
     (tie.spec
     Inv-loop
     μ-loop
-    lesser-requires
-    lesser-requires-2
-    loop-holds
-    word-requires
-    word-requires-2
-    both-requires
-    add-i
-    loop-less
+    (λ c κs. search needs)  -- lesser-requires
+    (λ c κs. search needs)  -- lesser-requires-2
+    (λ c. search needs)  -- loop-holds
+    (λ c κs. search needs)  -- word-requires
+    (λ c κs. search needs)  -- word-requires-2
+    (λ c κs. search needs)  -- both-requires
+    (λ c. search needs)  -- add-i
+    (λ c. search needs)  -- loop-less
     loop-again
     returns)

@@ -5,9 +5,6 @@ use borrow.Author.Needs.{needs}
 use Rattle.table_values.proofs.propagation.ends.Statement.{statement}
 use Rattle.table_values.proofs.propagation.ends.Tie as tie
 
-agree-requires : tie.Need-agree-requires
-agree-requires c κs = search needs
-
 returns : tie.Need-returns
 unfolding colorEnds
 returns c = rw (eq-eqb (c .before .before .before .args .made) 0 (c .if1 .taken))
@@ -17,4 +14,9 @@ unfolding colorEnds
 returns-2 c = rw (ne-eqb (c .before .before .before .before .args .made) 0 (c .before .if1 .left)) (c .agree .ensures)
 
 pub ends-spec : {M : Type 1} → statement M
-ends-spec = tie.close (tie.spec agree-requires returns returns-2)
+ends-spec =
+    tie.close
+    (tie.spec
+    (λ c κs. search needs)  -- agree-requires
+    returns
+    returns-2)

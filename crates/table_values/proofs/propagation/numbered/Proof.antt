@@ -14,21 +14,6 @@ Inv-loop units new₀ v₀ new v = (v ≤ units) × (length new ≡ 256) × (new
 abbrev μ-loop : tie.MeasureT-loop
 μ-loop units new₀ v₀ new v = units - v
 
-loop-holds : tie.Need-loop-holds Inv-loop μ-loop
-loop-holds c = search needs
-
-slice-aggregate-store : tie.Need-slice-aggregate-store Inv-loop μ-loop
-slice-aggregate-store c = search needs
-
-store-requires : tie.Need-store-requires Inv-loop μ-loop
-store-requires c κs = search needs
-
-add-v : tie.Need-add-v Inv-loop μ-loop
-add-v c = search needs
-
-loop-less : tie.Need-loop-less Inv-loop μ-loop
-loop-less c = search needs
-
 loop-again : tie.Need-loop-again Inv-loop μ-loop
 loop-again c = (search needs, search needs, over-more _ (λ (i : ℕ). i) _ _ _ _ (c .before .before .before .before .loop .inv .2) refl (c .before .store .ensures))
 
@@ -41,10 +26,10 @@ numbered-spec =
     (tie.spec
     Inv-loop
     μ-loop
-    loop-holds
-    slice-aggregate-store
-    store-requires
-    add-v
-    loop-less
+    (λ c. search needs)  -- loop-holds
+    (λ c. search needs)  -- slice-aggregate-store
+    (λ c κs. search needs)  -- store-requires
+    (λ c. search needs)  -- add-v
+    (λ c. search needs)  -- loop-less
     loop-again
     returns)

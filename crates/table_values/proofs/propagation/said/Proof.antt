@@ -4,9 +4,6 @@ use borrow.Author.Needs.{needs}
 use Rattle.table_values.proofs.propagation.said.Statement.{statement}
 use Rattle.table_values.proofs.propagation.said.Tie as tie
 
-numbered-requires : tie.Need-numbered-requires
-numbered-requires c κs = search needs
-
 returns : tie.Need-returns
 returns c = rw (eq-eqb (c .before .before .args .made) 0 (c .before .if1 .taken)) (c .numbered .ensures)
 
@@ -14,4 +11,9 @@ returns-2 : tie.Need-returns-2
 returns-2 c = rw (ne-eqb (c .before .args .made) 0 (c .if1 .left))
 
 pub said-spec : {M : Type 1} → statement M
-said-spec = tie.close (tie.spec numbered-requires returns returns-2)
+said-spec =
+    tie.close
+    (tie.spec
+    (λ c κs. search needs)  -- numbered-requires
+    returns
+    returns-2)

@@ -5,18 +5,6 @@ use borrow.Author.Needs.{needs}
 use Rattle.table_values.proofs.tables.take_in.Statement.{statement}
 use Rattle.table_values.proofs.tables.take_in.Tie as tie
 
-at-requires : tie.Need-at-requires
-at-requires c κs = search needs
-
-op-of-requires : tie.Need-op-of-requires
-op-of-requires c κs = search needs
-
-store-requires : tie.Need-store-requires
-store-requires c κs = search needs
-
-same-length : tie.Need-same-length
-same-length c = search needs
-
 returns : tie.Need-returns
 unfolding takesIn
 returns c =
@@ -29,4 +17,10 @@ returns-2 c = rw (le-ltb (c .before .before .args .a) (c .before .before .args .
 
 pub take-in-spec : {M : Type 1} → statement M
 take-in-spec =
-    tie.close (tie.spec at-requires op-of-requires store-requires same-length returns returns-2)
+    tie.close (tie.spec
+    (λ c κs. search needs)  -- at-requires
+    (λ c κs. search needs)  -- op-of-requires
+    (λ c κs. search needs)  -- store-requires
+    (λ c. search needs)  -- same-length
+    returns
+    returns-2)

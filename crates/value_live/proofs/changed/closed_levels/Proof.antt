@@ -21,30 +21,6 @@ abbrev μ-loop : tie.MeasureT-loop
 loop-holds : tie.Need-loop-holds Inv-loop μ-loop
 loop-holds c = (search needs, search needs, search needs, search needs, close-start (c .args .at) 1 (c .args .t1) (search needs))
 
-add-loop : tie.Need-add-loop Inv-loop μ-loop
-add-loop c = search needs
-
-slice-aggregate-level-at : tie.Need-slice-aggregate-level-at Inv-loop μ-loop
-slice-aggregate-level-at c = search needs
-
-add-level-at : tie.Need-add-level-at Inv-loop μ-loop
-add-level-at c = search needs
-
-level-at-requires : tie.Need-level-at-requires Inv-loop μ-loop
-level-at-requires c κs = search needs
-
-slice-aggregate-put-level : tie.Need-slice-aggregate-put-level Inv-loop μ-loop
-slice-aggregate-put-level c = search needs
-
-put-level-requires : tie.Need-put-level-requires Inv-loop μ-loop
-put-level-requires c κs = search needs
-
-add-i : tie.Need-add-i Inv-loop μ-loop
-add-i c = search needs
-
-loop-less : tie.Need-loop-less Inv-loop μ-loop
-loop-less c = search needs
-
 loop-again : tie.Need-loop-again Inv-loop μ-loop
 loop-again c =
     let s = c .before .before .before .before .before .before in
@@ -71,13 +47,13 @@ closed-levels-spec =
     Inv-loop
     μ-loop
     loop-holds
-    add-loop
-    slice-aggregate-level-at
-    add-level-at
-    level-at-requires
-    slice-aggregate-put-level
-    put-level-requires
-    add-i
-    loop-less
+    (λ c. search needs)  -- add-loop
+    (λ c. search needs)  -- slice-aggregate-level-at
+    (λ c. search needs)  -- add-level-at
+    (λ c κs. search needs)  -- level-at-requires
+    (λ c. search needs)  -- slice-aggregate-put-level
+    (λ c κs. search needs)  -- put-level-requires
+    (λ c. search needs)  -- add-i
+    (λ c. search needs)  -- loop-less
     loop-again
     returns)

@@ -11,32 +11,8 @@ use borrow.Author.Needs.{needs}
 use Rattle.value_live.proofs.changed.longer.Statement.{statement}
 use Rattle.value_live.proofs.changed.longer.Tie as tie
 
-cast-m : tie.Need-cast-m
-cast-m c = search needs
-
-longer-ends-requires : tie.Need-longer-ends-requires
-longer-ends-requires c κs = search needs
-
-longer-levels-requires : tie.Need-longer-levels-requires
-longer-levels-requires c κs = search needs
-
-mul-words : tie.Need-mul-words
-mul-words c = search needs
-
-add-words : tie.Need-add-words
-add-words c = search needs
-
-array-share-prefix-words : tie.Need-array-share-prefix-words
-array-share-prefix-words c = search needs
-
 slice-aggregate-made : tie.Need-slice-aggregate-made
 slice-aggregate-made c = sym (length-take-le _ _ (search needs))
-
-add-heard : tie.Need-add-heard
-add-heard c = search needs
-
-array-share-prefix-heard : tie.Need-array-share-prefix-heard
-array-share-prefix-heard c = search needs
 
 slice-aggregate-made-2 : tie.Need-slice-aggregate-made-2
 slice-aggregate-made-2 c = sym (length-take-le _ _ (search needs))
@@ -62,15 +38,15 @@ pub longer-spec : {M : Type 1} → statement M
 longer-spec =
     tie.close
     (tie.spec
-    cast-m
-    longer-ends-requires
-    longer-levels-requires
-    mul-words
-    add-words
-    array-share-prefix-words
+    (λ c. search needs)  -- cast-m
+    (λ c κs. search needs)  -- longer-ends-requires
+    (λ c κs. search needs)  -- longer-levels-requires
+    (λ c. search needs)  -- mul-words
+    (λ c. search needs)  -- add-words
+    (λ c. search needs)  -- array-share-prefix-words
     slice-aggregate-made
-    add-heard
-    array-share-prefix-heard
+    (λ c. search needs)  -- add-heard
+    (λ c. search needs)  -- array-share-prefix-heard
     slice-aggregate-made-2
     made-requires
     returns)

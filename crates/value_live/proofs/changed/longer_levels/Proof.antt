@@ -9,12 +9,6 @@ use borrow.Author.Needs.{needs}
 use Rattle.value_live.proofs.changed.longer_levels.Statement.{statement}
 use Rattle.value_live.proofs.changed.longer_levels.Tie as tie
 
-slice-aggregate-put-level : tie.Need-slice-aggregate-put-level
-slice-aggregate-put-level c = search needs
-
-put-level-requires : tie.Need-put-level-requires
-put-level-requires c κs = search needs
-
 returns : tie.Need-returns
 returns c =
     let s = c .before .before .before in
@@ -22,4 +16,9 @@ returns c =
     rw (c .before .put-level .ensures, toZ-ofZ w16 (s .args .level) (s .fits .level)) (more-levels (s .args .levels) (s .args .m) (s .args .level) (omega (arith, full, s .pre)))
 
 pub longer-levels-spec : {M : Type 1} → statement M
-longer-levels-spec = tie.close (tie.spec slice-aggregate-put-level put-level-requires returns)
+longer-levels-spec =
+    tie.close
+    (tie.spec
+    (λ c. search needs)  -- slice-aggregate-put-level
+    (λ c κs. search needs)  -- put-level-requires
+    returns)

@@ -4,12 +4,6 @@ use borrow.Author.Needs.{needs}
 use Rattle.value_live.proofs.changed.made.Statement.{statement}
 use Rattle.value_live.proofs.changed.made.Tie as tie
 
-table-requires : tie.Need-table-requires
-table-requires c κs = search needs
-
-counts-of-requires : tie.Need-counts-of-requires
-counts-of-requires c κs = search needs
-
 returns : tie.Need-returns
 returns c =
     let t = c .before .before .before in
@@ -17,4 +11,9 @@ returns c =
     made-of (s .args .count) (s .args .words .now) (s .args .heard .now) (t .table .result) (c .counts-of .result) (s .pre .0) (s .pre .1) (t .table .ensures) (c .counts-of .ensures)
 
 pub made-spec : {M : Type 1} → statement M
-made-spec = tie.close (tie.spec table-requires counts-of-requires returns)
+made-spec =
+    tie.close
+    (tie.spec
+    (λ c κs. search needs)  -- table-requires
+    (λ c κs. search needs)  -- counts-of-requires
+    returns)

@@ -5,20 +5,15 @@ use borrow.Author.Needs.{needs}
 use Rattle.value_live.proofs.changed.put_level.Statement.{statement}
 use Rattle.value_live.proofs.changed.put_level.Tie as tie
 
-mul-level : tie.Need-mul-level
-mul-level c = search needs
-
-slice-set-from-level : tie.Need-slice-set-from-level
-slice-set-from-level c = search needs
-
-same-length : tie.Need-same-length
-same-length c = search needs
-
-returns : tie.Need-returns
-returns c = search needs
-
 returns-2 : tie.Need-returns-2
 returns-2 c = sym (set-out (c .before .args .levels .now) (c .before .args .i) (c .before .args .level) (c .if1 .left))
 
 pub put-level-spec : {M : Type 1} → statement M
-put-level-spec = tie.close (tie.spec mul-level slice-set-from-level same-length returns returns-2)
+put-level-spec =
+    tie.close
+    (tie.spec
+    (λ c. search needs)  -- mul-level
+    (λ c. search needs)  -- slice-set-from-level
+    (λ c. search needs)  -- same-length
+    (λ c. search needs)  -- returns
+    returns-2)

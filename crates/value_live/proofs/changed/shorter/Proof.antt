@@ -9,38 +9,8 @@ use Rattle.value_live.specs.ChangedLaws.{lists-of}
 use Rattle.value_live.proofs.changed.shorter.Statement.{statement}
 use Rattle.value_live.proofs.changed.shorter.Tie as tie
 
-cast-m : tie.Need-cast-m
-cast-m c = search needs
-
-mul-closed-ends : tie.Need-mul-closed-ends
-mul-closed-ends c = search needs
-
-mul-closed-ends-2 : tie.Need-mul-closed-ends-2
-mul-closed-ends-2 c = search needs
-
-closed-ends-requires : tie.Need-closed-ends-requires
-closed-ends-requires c κs = search needs
-
-closed-levels-requires : tie.Need-closed-levels-requires
-closed-levels-requires c κs = search needs
-
-mul-words : tie.Need-mul-words
-mul-words c = search needs
-
-sub-words : tie.Need-sub-words
-sub-words c = search needs
-
-array-share-prefix-words : tie.Need-array-share-prefix-words
-array-share-prefix-words c = search needs
-
 slice-aggregate-made : tie.Need-slice-aggregate-made
 slice-aggregate-made c = sym (length-take-le _ _ (search needs))
-
-sub-heard : tie.Need-sub-heard
-sub-heard c = search needs
-
-array-share-prefix-heard : tie.Need-array-share-prefix-heard
-array-share-prefix-heard c = search needs
 
 slice-aggregate-made-2 : tie.Need-slice-aggregate-made-2
 slice-aggregate-made-2 c = sym (length-take-le _ _ (search needs))
@@ -65,17 +35,17 @@ pub shorter-spec : {M : Type 1} → statement M
 shorter-spec =
     tie.close
     (tie.spec
-    cast-m
-    mul-closed-ends
-    mul-closed-ends-2
-    closed-ends-requires
-    closed-levels-requires
-    mul-words
-    sub-words
-    array-share-prefix-words
+    (λ c. search needs)  -- cast-m
+    (λ c. search needs)  -- mul-closed-ends
+    (λ c. search needs)  -- mul-closed-ends-2
+    (λ c κs. search needs)  -- closed-ends-requires
+    (λ c κs. search needs)  -- closed-levels-requires
+    (λ c. search needs)  -- mul-words
+    (λ c. search needs)  -- sub-words
+    (λ c. search needs)  -- array-share-prefix-words
     slice-aggregate-made
-    sub-heard
-    array-share-prefix-heard
+    (λ c. search needs)  -- sub-heard
+    (λ c. search needs)  -- array-share-prefix-heard
     slice-aggregate-made-2
     made-requires
     returns)

@@ -5,17 +5,11 @@ use borrow.Author.Needs.{needs}
 use Rattle.value_live.proofs.given.held_refusal.Statement.{statement}
 use Rattle.value_live.proofs.given.held_refusal.Tie as tie
 
-refusal-requires : tie.Need-refusal-requires
-refusal-requires c κs = search needs
-
 returns : tie.Need-returns
 returns c =
     let r = c .before .refusal in
     let a = c .before .before .before .before .args in
     r .ensures ∙ held-refused (a .units) (a .links) (a .words .now) (a .levels .now) (a .counts .now) (λ z. c .if1 .taken (r .ensures ∙ z))
-
-miscounted-requires : tie.Need-miscounted-requires
-miscounted-requires c κs = search needs
 
 returns-2 : tie.Need-returns-2
 returns-2 c =
@@ -33,4 +27,9 @@ returns-3 c =
 
 pub held-refusal-spec : {M : Type 1} → statement M
 held-refusal-spec =
-    tie.close (tie.spec refusal-requires returns miscounted-requires returns-2 returns-3)
+    tie.close (tie.spec
+    (λ c κs. search needs)  -- refusal-requires
+    returns
+    (λ c κs. search needs)  -- miscounted-requires
+    returns-2
+    returns-3)

@@ -16,9 +16,6 @@ read c = c .in-range .ensures ∙ ap inRange (toZ-ofZ w16 (c .before .before .ar
 returns : tie.Need-returns
 returns c = rw (le-leb 1024 (c .before .args .links) (c .if1 .taken)) refl
 
-in-range-requires : tie.Need-in-range-requires
-in-range-requires c κs = search needs
-
 returns-2 : tie.Need-returns-2
 returns-2 c =
     let r = c .before in
@@ -71,7 +68,7 @@ link-refusal-spec =
     tie.close
     (tie.spec
     returns
-    in-range-requires
+    (λ c κs. search needs)  -- in-range-requires
     returns-2
     returns-3
     returns-4

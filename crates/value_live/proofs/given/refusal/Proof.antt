@@ -25,9 +25,6 @@ returns-3 c =
     let a = c .before .before .before .before .before .args in
     given-6 (record { units = a .units; links = a .links; ends = a .ends .now; levels = a .levels .now; counts = a .counts .now }) (unitCount-good (a .units) (c .before .before .if1 .left) (c .before .if2 .left)) (c .if3 .taken)
 
-mul-held-refusal : tie.Need-mul-held-refusal
-mul-held-refusal c = search needs
-
 slice-aggregate-held-refusal : tie.Need-slice-aggregate-held-refusal
 slice-aggregate-held-refusal c =
     let s = c .before .before .before .before .before .before in
@@ -37,9 +34,6 @@ slice-aggregate-held-refusal-2 : tie.Need-slice-aggregate-held-refusal-2
 slice-aggregate-held-refusal-2 c =
     let s = c .before .before .before .before .before .before .before in
     sym (length-take-le (s .args .links) (s .args .levels .now) (omega (arith, s .pre .1, c .before .before .if3 .left)))
-
-held-refusal-requires : tie.Need-held-refusal-requires
-held-refusal-requires c κs = search needs
 
 returns-4 : tie.Need-returns-4
 returns-4 c =
@@ -56,8 +50,8 @@ refusal-spec =
     returns
     returns-2
     returns-3
-    mul-held-refusal
+    (λ c. search needs)  -- mul-held-refusal
     slice-aggregate-held-refusal
     slice-aggregate-held-refusal-2
-    held-refusal-requires
+    (λ c κs. search needs)  -- held-refusal-requires
     returns-4)

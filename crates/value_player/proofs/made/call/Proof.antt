@@ -6,24 +6,6 @@ use Rattle.value_player.specs.KindLaws.{means-round, means-run, means-un
 use Rattle.value_player.proofs.made.call.Statement.{statement}
 use Rattle.value_player.proofs.made.call.Tie as tie
 
-round-requires : tie.Need-round-requires
-round-requires c κs = search needs
-
-run-requires : tie.Need-run-requires
-run-requires c κs = search needs
-
-unit-requires : tie.Need-unit-requires
-unit-requires c κs = search needs
-
-link-requires : tie.Need-link-requires
-link-requires c κs = search needs
-
-report-into-requires : tie.Need-report-into-requires
-report-into-requires c κs = search needs
-
-status-requires : tie.Need-status-requires
-status-requires c κs = search needs
-
 returns : tie.Need-returns
 returns c =
     let a = c .before .before .before .args in
@@ -48,9 +30,6 @@ returns-4 c =
     let m = means-link (a .kind) (a .a) (a .b) (a .out .now) (of (a .s)) (c .before .match .keys4) in
     (c .link .ensures ∙ m .0, m .1)
 
-same-length : tie.Need-same-length
-same-length c = search needs
-
 returns-5 : tie.Need-returns-5
 returns-5 c =
     let a = c .before .before .before .before .before .before .args in
@@ -69,16 +48,16 @@ pub call-spec : {M : Type 1} → statement M
 call-spec =
     tie.close
     (tie.spec
-    round-requires
-    run-requires
-    unit-requires
-    link-requires
-    report-into-requires
-    status-requires
+    (λ c κs. search needs)  -- round-requires
+    (λ c κs. search needs)  -- run-requires
+    (λ c κs. search needs)  -- unit-requires
+    (λ c κs. search needs)  -- link-requires
+    (λ c κs. search needs)  -- report-into-requires
+    (λ c κs. search needs)  -- status-requires
     returns
     returns-2
     returns-3
     returns-4
-    same-length
+    (λ c. search needs)  -- same-length
     returns-5
     returns-6)

@@ -9,30 +9,6 @@ use Rattle.value_player.specs.WordSteps.{part-back}
 use Rattle.value_player.proofs.made.report_into.Statement.{statement}
 use Rattle.value_player.proofs.made.report_into.Tie as tie
 
-least-requires : tie.Need-least-requires
-least-requires c κs = search needs
-
-add-least : tie.Need-add-least
-add-least c = search needs
-
-least-requires-2 : tie.Need-least-requires-2
-least-requires-2 c κs = search needs
-
-sub-report : tie.Need-sub-report
-sub-report c = search needs
-
-part-report-start : tie.Need-part-report-start
-part-report-start c = search needs
-
-part-report-end : tie.Need-part-report-end
-part-report-end c = search needs
-
-report-requires : tie.Need-report-requires
-report-requires c κs = search needs
-
-same-length : tie.Need-same-length
-same-length c = search needs
-
 returns : tie.Need-returns
 returns c =
     let a = c .before .before .before .before .before .before .before .args in
@@ -45,12 +21,12 @@ pub report-into-spec : {M : Type 1} → statement M
 report-into-spec =
     tie.close
     (tie.spec
-    least-requires
-    add-least
-    least-requires-2
-    sub-report
-    part-report-start
-    part-report-end
-    report-requires
-    same-length
+    (λ c κs. search needs)  -- least-requires
+    (λ c. search needs)  -- add-least
+    (λ c κs. search needs)  -- least-requires-2
+    (λ c. search needs)  -- sub-report
+    (λ c. search needs)  -- part-report-start
+    (λ c. search needs)  -- part-report-end
+    (λ c κs. search needs)  -- report-requires
+    (λ c. search needs)  -- same-length
     returns)

@@ -22,32 +22,11 @@ loop-holds c =
     let a = c .before .args in
     (omega arith, refl, store-begin (a .replies .now) (a .t1) (a .at))
 
-add-put : tie.Need-add-put Inv-loop μ-loop
-add-put c = search needs
-
-mul-put : tie.Need-mul-put Inv-loop μ-loop
-mul-put c = search needs
-
-array-read-put : tie.Need-array-read-put Inv-loop μ-loop
-array-read-put c = search needs
-
-put-requires : tie.Need-put-requires Inv-loop μ-loop
-put-requires c κs = search needs
-
-add-k : tie.Need-add-k Inv-loop μ-loop
-add-k c = search needs
-
-loop-less : tie.Need-loop-less Inv-loop μ-loop
-loop-less c = search needs
-
 loop-again : tie.Need-loop-again Inv-loop μ-loop
 loop-again c =
     let l = c .before .before .before .before .before in
     let a = l .before .before .args in
     (search needs, search needs, l .loop .inv .2 ∙ rw (c .before .before .put .ensures) (store-next (l .loop .replies) (a .t1) (a .at) (l .loop .k) (search needs)))
-
-same-length : tie.Need-same-length Inv-loop μ-loop
-same-length c = search needs
 
 returns : tie.Need-returns Inv-loop μ-loop
 returns c =
@@ -62,12 +41,12 @@ put-eight-spec =
     Inv-loop
     μ-loop
     loop-holds
-    add-put
-    mul-put
-    array-read-put
-    put-requires
-    add-k
-    loop-less
+    (λ c. search needs)  -- add-put
+    (λ c. search needs)  -- mul-put
+    (λ c. search needs)  -- array-read-put
+    (λ c κs. search needs)  -- put-requires
+    (λ c. search needs)  -- add-k
+    (λ c. search needs)  -- loop-less
     loop-again
-    same-length
+    (λ c. search needs)  -- same-length
     returns)

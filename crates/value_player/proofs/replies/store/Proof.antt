@@ -7,19 +7,16 @@ use borrow.Author.Needs.{needs}
 use Rattle.value_player.proofs.replies.store.Statement.{statement}
 use Rattle.value_player.proofs.replies.store.Tie as tie
 
-eight-requires : tie.Need-eight-requires
-eight-requires c κs = search needs
-
-put-eight-requires : tie.Need-put-eight-requires
-put-eight-requires c κs = search needs
-
-same-length : tie.Need-same-length
-same-length c = search needs
-
 returns : tie.Need-returns
 returns c =
     let a = c .before .before .before .before .before .before .args in
     c .before .before .put-eight .ensures ∙ ap (λ (ws : List ℕ). sets (a .replies .now) (a .at) ws) (c .before .before .before .before .eight .ensures)
 
 pub store-spec : {M : Type 1} → statement M
-store-spec = tie.close (tie.spec eight-requires put-eight-requires same-length returns)
+store-spec =
+    tie.close
+    (tie.spec
+    (λ c κs. search needs)  -- eight-requires
+    (λ c κs. search needs)  -- put-eight-requires
+    (λ c. search needs)  -- same-length
+    returns)

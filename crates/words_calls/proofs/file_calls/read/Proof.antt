@@ -7,24 +7,6 @@ use Rattle.words_calls.specs.FileFaceLaws.{unitsSaid, linksSaid, units-s
 use Rattle.words_calls.proofs.file_calls.read.Statement.{statement}
 use Rattle.words_calls.proofs.file_calls.read.Tie as tie
 
-read-requires : tie.Need-read-requires
-read-requires c κs = search needs
-
-enum-known-found : tie.Need-enum-known-found
-enum-known-found c = search needs
-
-cast-result : tie.Need-cast-result
-cast-result c = search needs
-
-enum-known-found-2 : tie.Need-enum-known-found-2
-enum-known-found-2 c = search needs
-
-same-length : tie.Need-same-length
-same-length c = search needs
-
-same-length-2 : tie.Need-same-length-2
-same-length-2 c = search needs
-
 returns : tie.Need-returns
 returns c =
     let a = c .before .before .before .before .before .before .before .before .before .before .before .args in
@@ -44,12 +26,6 @@ returns c =
         ),
       ),
     )
-
-same-length-3 : tie.Need-same-length-3
-same-length-3 c = search needs
-
-same-length-4 : tie.Need-same-length-4
-same-length-4 c = search needs
 
 returns-2 : tie.Need-returns-2
 returns-2 c =
@@ -75,13 +51,13 @@ pub read-spec : {M : Type 1} → statement M
 read-spec =
     tie.close
     (tie.spec
-    read-requires
-    enum-known-found
-    cast-result
-    enum-known-found-2
-    same-length
-    same-length-2
+    (λ c κs. search needs)  -- read-requires
+    (λ c. search needs)  -- enum-known-found
+    (λ c. search needs)  -- cast-result
+    (λ c. search needs)  -- enum-known-found-2
+    (λ c. search needs)  -- same-length
+    (λ c. search needs)  -- same-length-2
     returns
-    same-length-3
-    same-length-4
+    (λ c. search needs)  -- same-length-3
+    (λ c. search needs)  -- same-length-4
     returns-2)

@@ -6,14 +6,8 @@ use borrow.Author.Needs.{needs}
 use Rattle.words_calls.proofs.questions.refusal.Statement.{statement}
 use Rattle.words_calls.proofs.questions.refusal.Tie as tie
 
-kept-requires : tie.Need-kept-requires
-kept-requires c κs = search needs
-
 returns : tie.Need-returns
 returns c = question-malformed _ _ (sym (c .before .kept .ensures) ∙ not-true _ (c .if1 .taken))
-
-clock-at-requires : tie.Need-clock-at-requires
-clock-at-requires c κs = search needs
 
 returns-2 : tie.Need-returns-2
 returns-2 c =
@@ -32,4 +26,10 @@ returns-4 c =
 
 pub refusal-spec : {M : Type 1} → statement M
 refusal-spec =
-    tie.close (tie.spec kept-requires returns clock-at-requires returns-2 returns-3 returns-4)
+    tie.close (tie.spec
+    (λ c κs. search needs)  -- kept-requires
+    returns
+    (λ c κs. search needs)  -- clock-at-requires
+    returns-2
+    returns-3
+    returns-4)

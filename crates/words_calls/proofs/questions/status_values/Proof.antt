@@ -6,15 +6,6 @@ use borrow.Author.Needs.{needs}
 use Rattle.words_calls.proofs.questions.status_values.Statement.{statement}
 use Rattle.words_calls.proofs.questions.status_values.Tie as tie
 
-table-at-requires : tie.Need-table-at-requires
-table-at-requires c κs = search needs
-
-clock-at-requires : tie.Need-clock-at-requires
-clock-at-requires c κs = search needs
-
-countdown-requires : tie.Need-countdown-requires
-countdown-requires c κs = search needs
-
 returns : tie.Need-returns
 returns c =
     let start = c .before .before .before in
@@ -22,4 +13,8 @@ returns c =
 
 pub status-values-spec : {M : Type 1} → statement M
 status-values-spec =
-    tie.close (tie.spec table-at-requires clock-at-requires countdown-requires returns)
+    tie.close (tie.spec
+    (λ c κs. search needs)  -- table-at-requires
+    (λ c κs. search needs)  -- clock-at-requires
+    (λ c κs. search needs)  -- countdown-requires
+    returns)

@@ -4,84 +4,6 @@ use borrow.Author.Needs.{needs}
 use Rattle.words_layout.proofs.judged.entries_ok.Statement.{statement}
 use Rattle.words_layout.proofs.judged.entries_ok.Tie as tie
 
-names-requires : tie.Need-names-requires
-names-requires c κs = search needs
-
-within-requires : tie.Need-within-requires
-within-requires c κs = search needs
-
-within-requires-2 : tie.Need-within-requires-2
-within-requires-2 c κs = search needs
-
-within-requires-3 : tie.Need-within-requires-3
-within-requires-3 c κs = search needs
-
-within-requires-4 : tie.Need-within-requires-4
-within-requires-4 c κs = search needs
-
-mul-names : tie.Need-mul-names
-mul-names c = search needs
-
-names-requires-2 : tie.Need-names-requires-2
-names-requires-2 c κs = search needs
-
-within-requires-5 : tie.Need-within-requires-5
-within-requires-5 c κs = search needs
-
-names-requires-3 : tie.Need-names-requires-3
-names-requires-3 c κs = search needs
-
-within-requires-6 : tie.Need-within-requires-6
-within-requires-6 c κs = search needs
-
-dists-requires : tie.Need-dists-requires
-dists-requires c κs = search needs
-
-within-requires-7 : tie.Need-within-requires-7
-within-requires-7 c κs = search needs
-
-numbers-requires : tie.Need-numbers-requires
-numbers-requires c κs = search needs
-
-within-requires-8 : tie.Need-within-requires-8
-within-requires-8 c κs = search needs
-
-within-requires-9 : tie.Need-within-requires-9
-within-requires-9 c κs = search needs
-
-levels-requires : tie.Need-levels-requires
-levels-requires c κs = search needs
-
-within-requires-10 : tie.Need-within-requires-10
-within-requires-10 c κs = search needs
-
-both-requires : tie.Need-both-requires
-both-requires c κs = search needs
-
-both-requires-2 : tie.Need-both-requires-2
-both-requires-2 c κs = search needs
-
-both-requires-3 : tie.Need-both-requires-3
-both-requires-3 c κs = search needs
-
-both-requires-4 : tie.Need-both-requires-4
-both-requires-4 c κs = search needs
-
-both-requires-5 : tie.Need-both-requires-5
-both-requires-5 c κs = search needs
-
-both-requires-6 : tie.Need-both-requires-6
-both-requires-6 c κs = search needs
-
-both-requires-7 : tie.Need-both-requires-7
-both-requires-7 c κs = search needs
-
-both-requires-8 : tie.Need-both-requires-8
-both-requires-8 c κs = search needs
-
-both-requires-9 : tie.Need-both-requires-9
-both-requires-9 c κs = search needs
-
 returns : tie.Need-returns
 returns c =
     let w10 = c .before .before .before .before .before .before .before .before .before in
@@ -109,30 +31,30 @@ pub entries-ok-spec : {M : Type 1} → statement M
 entries-ok-spec =
     tie.close
     (tie.spec
-    names-requires
-    within-requires
-    within-requires-2
-    within-requires-3
-    within-requires-4
-    mul-names
-    names-requires-2
-    within-requires-5
-    names-requires-3
-    within-requires-6
-    dists-requires
-    within-requires-7
-    numbers-requires
-    within-requires-8
-    within-requires-9
-    levels-requires
-    within-requires-10
-    both-requires
-    both-requires-2
-    both-requires-3
-    both-requires-4
-    both-requires-5
-    both-requires-6
-    both-requires-7
-    both-requires-8
-    both-requires-9
+    (λ c κs. search needs)  -- names-requires
+    (λ c κs. search needs)  -- within-requires
+    (λ c κs. search needs)  -- within-requires-2
+    (λ c κs. search needs)  -- within-requires-3
+    (λ c κs. search needs)  -- within-requires-4
+    (λ c. search needs)  -- mul-names
+    (λ c κs. search needs)  -- names-requires-2
+    (λ c κs. search needs)  -- within-requires-5
+    (λ c κs. search needs)  -- names-requires-3
+    (λ c κs. search needs)  -- within-requires-6
+    (λ c κs. search needs)  -- dists-requires
+    (λ c κs. search needs)  -- within-requires-7
+    (λ c κs. search needs)  -- numbers-requires
+    (λ c κs. search needs)  -- within-requires-8
+    (λ c κs. search needs)  -- within-requires-9
+    (λ c κs. search needs)  -- levels-requires
+    (λ c κs. search needs)  -- within-requires-10
+    (λ c κs. search needs)  -- both-requires
+    (λ c κs. search needs)  -- both-requires-2
+    (λ c κs. search needs)  -- both-requires-3
+    (λ c κs. search needs)  -- both-requires-4
+    (λ c κs. search needs)  -- both-requires-5
+    (λ c κs. search needs)  -- both-requires-6
+    (λ c κs. search needs)  -- both-requires-7
+    (λ c κs. search needs)  -- both-requires-8
+    (λ c κs. search needs)  -- both-requires-9
     returns)

@@ -11,15 +11,6 @@ use borrow.Author.Needs.{needs}
 use Rattle.words_layout.proofs.judged.kept.Statement.{statement}
 use Rattle.words_layout.proofs.judged.kept.Tie as tie
 
-table-at-requires : tie.Need-table-at-requires
-table-at-requires c κs = search needs
-
-clock-at-requires : tie.Need-clock-at-requires
-clock-at-requires c κs = search needs
-
-front-ok-requires : tie.Need-front-ok-requires
-front-ok-requires c κs = search needs
-
 returns : tie.Need-returns
 returns c =
     let f = c .before in
@@ -43,9 +34,9 @@ pub kept-spec : {M : Type 1} → statement M
 kept-spec =
     tie.close
     (tie.spec
-    table-at-requires
-    clock-at-requires
-    front-ok-requires
+    (λ c κs. search needs)  -- table-at-requires
+    (λ c κs. search needs)  -- clock-at-requires
+    (λ c κs. search needs)  -- front-ok-requires
     returns
     entries-ok-requires
     returns-2)

@@ -9,24 +9,6 @@ use borrow.Author.Needs.{needs}
 use Rattle.words_layout.proofs.judged.within.Statement.{statement}
 use Rattle.words_layout.proofs.judged.within.Tie as tie
 
-add-end : tie.Need-add-end
-add-end c = search needs
-
-mul-within : tie.Need-mul-within
-mul-within c = search needs
-
-sub-within : tie.Need-sub-within
-sub-within c = search needs
-
-part-within-start : tie.Need-part-within-start
-part-within-start c = search needs
-
-part-within-end : tie.Need-part-within-end
-part-within-end c = search needs
-
-within-requires : tie.Need-within-requires
-within-requires c κs = search needs
-
 returns : tie.Need-returns
 unfolding part
 returns c =
@@ -38,10 +20,10 @@ pub within-spec : {M : Type 1} → statement M
 within-spec =
     tie.close
     (tie.spec
-    add-end
-    mul-within
-    sub-within
-    part-within-start
-    part-within-end
-    within-requires
+    (λ c. search needs)  -- add-end
+    (λ c. search needs)  -- mul-within
+    (λ c. search needs)  -- sub-within
+    (λ c. search needs)  -- part-within-start
+    (λ c. search needs)  -- part-within-end
+    (λ c κs. search needs)  -- within-requires
     returns)

@@ -8,9 +8,6 @@ use borrow.Author.Needs.{needs}
 use Rattle.words_layout.proofs.lay.lay_clock.Statement.{statement}
 use Rattle.words_layout.proofs.lay.lay_clock.Tie as tie
 
-slice-aggregate-lay : tie.Need-slice-aggregate-lay
-slice-aggregate-lay c = search needs
-
 lay-requires : tie.Need-lay-requires
 lay-requires c κs = tt
 
@@ -19,4 +16,9 @@ unfolding stateOf
 returns c = laid-fields ((2, _) ∷ []) _ _ (laid-in _ _ _ (c .lay .ensures) (search needs)) (search needs) ((tt, refl), tt)
 
 pub lay-clock-spec : {M : Type 1} → statement M
-lay-clock-spec = tie.close (tie.spec slice-aggregate-lay lay-requires returns)
+lay-clock-spec =
+    tie.close
+    (tie.spec
+    (λ c. search needs)  -- slice-aggregate-lay
+    lay-requires
+    returns)

@@ -6,12 +6,13 @@ use borrow.Author.Needs.{needs}
 use Rattle.words_layout.proofs.lay.lay_global.Statement.{statement}
 use Rattle.words_layout.proofs.lay.lay_global.Tie as tie
 
-lay-two-requires : tie.Need-lay-two-requires
-lay-two-requires c κs = search needs
-
 returns : tie.Need-returns
 unfolding stateOf
 returns c = laid-fields ((17, _) ∷ (18, _) ∷ []) _ _ (c .lay-two .ensures) (search needs) ((tt, search needs), ((tt, search needs), tt))
 
 pub lay-global-spec : {M : Type 1} → statement M
-lay-global-spec = tie.close (tie.spec lay-two-requires returns)
+lay-global-spec =
+    tie.close
+    (tie.spec
+    (λ c κs. search needs)  -- lay-two-requires
+    returns)

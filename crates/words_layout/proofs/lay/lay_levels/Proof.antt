@@ -7,19 +7,10 @@ use borrow.Author.Needs.{needs}
 use Rattle.words_layout.proofs.lay.lay_levels.Statement.{statement}
 use Rattle.words_layout.proofs.lay.lay_levels.Tie as tie
 
-held-requires : tie.Need-held-requires
-held-requires c κs = search needs
-
-fill-requires : tie.Need-fill-requires
-fill-requires c κs = search needs
-
 slice-aggregate-lay-levels : tie.Need-slice-aggregate-lay-levels
 slice-aggregate-lay-levels c =
     let h = c .before .before .before in
     rw (length-take (h .held .result) (h .before .args .levels .now)) (omega (arith, h .held .ensures))
-
-lay-levels-requires : tie.Need-lay-levels-requires
-lay-levels-requires c κs = search needs
 
 returns : tie.Need-returns
 returns c =
@@ -31,4 +22,9 @@ returns c =
 pub lay-levels-spec : {M : Type 1} → statement M
 lay-levels-spec =
     tie.close
-    (tie.spec held-requires fill-requires slice-aggregate-lay-levels lay-levels-requires returns)
+    (tie.spec
+    (λ c κs. search needs)  -- held-requires
+    (λ c κs. search needs)  -- fill-requires
+    slice-aggregate-lay-levels
+    (λ c κs. search needs)  -- lay-levels-requires
+    returns)

@@ -11,9 +11,6 @@ use Rattle.words_layout.proofs.lay.lay_plan.Tie as tie
 lay-requires : tie.Need-lay-requires
 lay-requires c κs = tt
 
-slice-aggregate-lay : tie.Need-slice-aggregate-lay
-slice-aggregate-lay c = search needs
-
 lay-requires-2 : tie.Need-lay-requires-2
 lay-requires-2 c κs = tt
 
@@ -22,4 +19,10 @@ unfolding stateOf
 returns c = laid-fields ((25, _) ∷ (26, _) ∷ []) _ _ (rw (laid-in _ _ _ (c .before .before .before .lay .ensures) (search needs)) at (laid-in _ _ _ (c .lay2 .ensures) (search needs))) (search needs) ((tt, search needs), ((tt, refl), tt))
 
 pub lay-plan-spec : {M : Type 1} → statement M
-lay-plan-spec = tie.close (tie.spec lay-requires slice-aggregate-lay lay-requires-2 returns)
+lay-plan-spec =
+    tie.close
+    (tie.spec
+    lay-requires
+    (λ c. search needs)  -- slice-aggregate-lay
+    lay-requires-2
+    returns)

@@ -6,15 +6,14 @@ use borrow.Author.Needs.{needs}
 use Rattle.words_layout.proofs.lay.lay_range.Statement.{statement}
 use Rattle.words_layout.proofs.lay.lay_range.Tie as tie
 
-lay-two-requires : tie.Need-lay-two-requires
-lay-two-requires c κs = search needs
-
-lay-two-requires-2 : tie.Need-lay-two-requires-2
-lay-two-requires-2 c κs = search needs
-
 returns : tie.Need-returns
 unfolding stateOf
 returns c = laid-fields ((13, _) ∷ (14, _) ∷ (15, _) ∷ (16, _) ∷ []) _ _ (rw (c .before .before .before .before .lay-two .ensures) at (c .lay-two2 .ensures)) (search needs) ((tt, search needs), ((tt, search needs), ((tt, search needs), ((tt, search needs), tt))))
 
 pub lay-range-spec : {M : Type 1} → statement M
-lay-range-spec = tie.close (tie.spec lay-two-requires lay-two-requires-2 returns)
+lay-range-spec =
+    tie.close
+    (tie.spec
+    (λ c κs. search needs)  -- lay-two-requires
+    (λ c κs. search needs)  -- lay-two-requires-2
+    returns)

@@ -10,11 +10,14 @@ lay-requires c κs = tt
 lay-requires-2 : tie.Need-lay-requires-2
 lay-requires-2 c κs = tt
 
-same-length : tie.Need-same-length
-same-length c = search needs
-
 returns : tie.Need-returns
 returns c = rw (laid-in _ _ _ (c .before .before .before .before .before .before .lay .ensures) (search needs)) at (laid-in _ _ _ (c .before .before .lay2 .ensures) (search needs))
 
 pub lay-two-spec : {M : Type 1} → statement M
-lay-two-spec = tie.close (tie.spec lay-requires lay-requires-2 same-length returns)
+lay-two-spec =
+    tie.close
+    (tie.spec
+    lay-requires
+    lay-requires-2
+    (λ c. search needs)  -- same-length
+    returns)

@@ -10,9 +10,6 @@ use Rattle.words_layout.proofs.take.plan_at.Tie as tie
 units-at-requires : tie.Need-units-at-requires
 units-at-requires c κs = tt
 
-element-copy-out-t7 : tie.Need-element-copy-out-t7
-element-copy-out-t7 c = search needs
-
 returns : tie.Need-returns
 unfolding stateOf
 returns c =
@@ -21,4 +18,9 @@ returns c =
     rw (u .units-at .ensures .0 (search needs), number-in 12294 1 0 ws (lit< tt)) refl
 
 pub plan-at-spec : {M : Type 1} → statement M
-plan-at-spec = tie.close (tie.spec units-at-requires element-copy-out-t7 returns)
+plan-at-spec =
+    tie.close
+    (tie.spec
+    units-at-requires
+    (λ c. search needs)  -- element-copy-out-t7
+    returns)

@@ -10,12 +10,6 @@ use Rattle.words_layout.proofs.take.table_at.Tie as tie
 ends-at-requires : tie.Need-ends-at-requires
 ends-at-requires c κs = tt
 
-element-copy-out-t7 : tie.Need-element-copy-out-t7
-element-copy-out-t7 c = search needs
-
-element-copy-out-t10 : tie.Need-element-copy-out-t10
-element-copy-out-t10 c = search needs
-
 returns : tie.Need-returns
 unfolding stateOf
 returns c =
@@ -24,4 +18,8 @@ returns c =
 
 pub table-at-spec : {M : Type 1} → statement M
 table-at-spec =
-    tie.close (tie.spec ends-at-requires element-copy-out-t7 element-copy-out-t10 returns)
+    tie.close (tie.spec
+    ends-at-requires
+    (λ c. search needs)  -- element-copy-out-t7
+    (λ c. search needs)  -- element-copy-out-t10
+    returns)

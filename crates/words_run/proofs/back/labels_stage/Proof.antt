@@ -7,33 +7,6 @@ use borrow.Author.Needs.{needs}
 use Rattle.words_run.proofs.back.labels_stage.Statement.{statement}
 use Rattle.words_run.proofs.back.labels_stage.Tie as tie
 
-table-at-requires : tie.Need-table-at-requires
-table-at-requires c κs = search needs
-
-tree-at-requires : tie.Need-tree-at-requires
-tree-at-requires c κs = search needs
-
-order-at-requires : tie.Need-order-at-requires
-order-at-requires c κs = search needs
-
-aux-at-requires : tie.Need-aux-at-requires
-aux-at-requires c κs = search needs
-
-labels-at-requires : tie.Need-labels-at-requires
-labels-at-requires c κs = search needs
-
-clock-at-requires : tie.Need-clock-at-requires
-clock-at-requires c κs = search needs
-
-run-requires : tie.Need-run-requires
-run-requires c κs = search needs
-
-lay-clock-requires : tie.Need-lay-clock-requires
-lay-clock-requires c κs = search needs
-
-lay-labels-requires : tie.Need-lay-labels-requires
-lay-labels-requires c κs = search needs
-
 returns : tie.Need-returns
 returns c =
     let start = c .before .before .before .before .before .before .before .before .before .before .before .before .before .before .before .before .before .before .before .before .before .before .before .before .before .before .before .before .before .before .before in
@@ -46,13 +19,13 @@ pub labels-stage-spec : {M : Type 1} → statement M
 labels-stage-spec =
     tie.close
     (tie.spec
-    table-at-requires
-    tree-at-requires
-    order-at-requires
-    aux-at-requires
-    labels-at-requires
-    clock-at-requires
-    run-requires
-    lay-clock-requires
-    lay-labels-requires
+    (λ c κs. search needs)  -- table-at-requires
+    (λ c κs. search needs)  -- tree-at-requires
+    (λ c κs. search needs)  -- order-at-requires
+    (λ c κs. search needs)  -- aux-at-requires
+    (λ c κs. search needs)  -- labels-at-requires
+    (λ c κs. search needs)  -- clock-at-requires
+    (λ c κs. search needs)  -- run-requires
+    (λ c κs. search needs)  -- lay-clock-requires
+    (λ c κs. search needs)  -- lay-labels-requires
     returns)

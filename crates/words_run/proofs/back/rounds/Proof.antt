@@ -6,12 +6,6 @@ use borrow.Author.Needs.{needs}
 use Rattle.words_run.proofs.back.rounds.Statement.{statement}
 use Rattle.words_run.proofs.back.rounds.Tie as tie
 
-range-stage-requires : tie.Need-range-stage-requires
-range-stage-requires c κs = search needs
-
-joins-stage-requires : tie.Need-joins-stage-requires
-joins-stage-requires c κs = search needs
-
 labels-stage-requires : tie.Need-labels-stage-requires
 labels-stage-requires c κs =
     let k = c .before .before .args .stage in
@@ -21,22 +15,13 @@ labels-stage-requires c κs =
     let a9 = above k 8 a8 (r .1) in
     p .0 ∙ le-antisymm (p .1 .1) (above k 9 a9 (p .1 .2))
 
-returns : tie.Need-returns
-returns c = search needs
-
-returns-2 : tie.Need-returns-2
-returns-2 c = search needs
-
-returns-3 : tie.Need-returns-3
-returns-3 c = search needs
-
 pub rounds-spec : {M : Type 1} → statement M
 rounds-spec =
     tie.close
     (tie.spec
-    range-stage-requires
-    joins-stage-requires
+    (λ c κs. search needs)  -- range-stage-requires
+    (λ c κs. search needs)  -- joins-stage-requires
     labels-stage-requires
-    returns
-    returns-2
-    returns-3)
+    (λ c. search needs)  -- returns
+    (λ c. search needs)  -- returns-2
+    (λ c. search needs))  -- returns-3

@@ -7,24 +7,6 @@ use borrow.Author.Needs.{needs}
 use Rattle.words_run.proofs.front.components_stage.Statement.{statement}
 use Rattle.words_run.proofs.front.components_stage.Tie as tie
 
-table-at-requires : tie.Need-table-at-requires
-table-at-requires c κs = search needs
-
-components-at-requires : tie.Need-components-at-requires
-components-at-requires c κs = search needs
-
-clock-at-requires : tie.Need-clock-at-requires
-clock-at-requires c κs = search needs
-
-run-requires : tie.Need-run-requires
-run-requires c κs = search needs
-
-lay-clock-requires : tie.Need-lay-clock-requires
-lay-clock-requires c κs = search needs
-
-lay-components-requires : tie.Need-lay-components-requires
-lay-components-requires c κs = search needs
-
 returns : tie.Need-returns
 returns c =
     let start = c .before .before .before .before .before .before .before .before .before .before .before .before .before .before .before .before .before in
@@ -37,10 +19,10 @@ pub components-stage-spec : {M : Type 1} → statement M
 components-stage-spec =
     tie.close
     (tie.spec
-    table-at-requires
-    components-at-requires
-    clock-at-requires
-    run-requires
-    lay-clock-requires
-    lay-components-requires
+    (λ c κs. search needs)  -- table-at-requires
+    (λ c κs. search needs)  -- components-at-requires
+    (λ c κs. search needs)  -- clock-at-requires
+    (λ c κs. search needs)  -- run-requires
+    (λ c κs. search needs)  -- lay-clock-requires
+    (λ c κs. search needs)  -- lay-components-requires
     returns)

@@ -7,24 +7,6 @@ use borrow.Author.Needs.{needs}
 use Rattle.words_run.proofs.front.ranking_stage.Statement.{statement}
 use Rattle.words_run.proofs.front.ranking_stage.Tie as tie
 
-table-at-requires : tie.Need-table-at-requires
-table-at-requires c κs = search needs
-
-ranking-at-requires : tie.Need-ranking-at-requires
-ranking-at-requires c κs = search needs
-
-clock-at-requires : tie.Need-clock-at-requires
-clock-at-requires c κs = search needs
-
-run-requires : tie.Need-run-requires
-run-requires c κs = search needs
-
-lay-clock-requires : tie.Need-lay-clock-requires
-lay-clock-requires c κs = search needs
-
-lay-ranking-requires : tie.Need-lay-ranking-requires
-lay-ranking-requires c κs = search needs
-
 returns : tie.Need-returns
 returns c =
     let start = c .before .before .before .before .before .before .before .before .before .before .before .before .before .before .before .before .before in
@@ -37,10 +19,10 @@ pub ranking-stage-spec : {M : Type 1} → statement M
 ranking-stage-spec =
     tie.close
     (tie.spec
-    table-at-requires
-    ranking-at-requires
-    clock-at-requires
-    run-requires
-    lay-clock-requires
-    lay-ranking-requires
+    (λ c κs. search needs)  -- table-at-requires
+    (λ c κs. search needs)  -- ranking-at-requires
+    (λ c κs. search needs)  -- clock-at-requires
+    (λ c κs. search needs)  -- run-requires
+    (λ c κs. search needs)  -- lay-clock-requires
+    (λ c κs. search needs)  -- lay-ranking-requires
     returns)

@@ -6,15 +6,6 @@ use borrow.Author.Needs.{needs}
 use Rattle.words_run.proofs.front.rounds.Statement.{statement}
 use Rattle.words_run.proofs.front.rounds.Tie as tie
 
-tour-stage-requires : tie.Need-tour-stage-requires
-tour-stage-requires c κs = search needs
-
-ranking-stage-requires : tie.Need-ranking-stage-requires
-ranking-stage-requires c κs = search needs
-
-marks-stage-requires : tie.Need-marks-stage-requires
-marks-stage-requires c κs = search needs
-
 places-stage-requires : tie.Need-places-stage-requires
 places-stage-requires c κs =
     let k = c .before .before .args .stage in
@@ -24,27 +15,15 @@ places-stage-requires c κs =
     let a5 = above k 4 a4 (r .0 .1) in
     p .0 ∙ le-antisymm (p .1 .1) (above k 5 a5 (r .1))
 
-returns : tie.Need-returns
-returns c = search needs
-
-returns-2 : tie.Need-returns-2
-returns-2 c = search needs
-
-returns-3 : tie.Need-returns-3
-returns-3 c = search needs
-
-returns-4 : tie.Need-returns-4
-returns-4 c = search needs
-
 pub rounds-spec : {M : Type 1} → statement M
 rounds-spec =
     tie.close
     (tie.spec
-    tour-stage-requires
-    ranking-stage-requires
-    marks-stage-requires
+    (λ c κs. search needs)  -- tour-stage-requires
+    (λ c κs. search needs)  -- ranking-stage-requires
+    (λ c κs. search needs)  -- marks-stage-requires
     places-stage-requires
-    returns
-    returns-2
-    returns-3
-    returns-4)
+    (λ c. search needs)  -- returns
+    (λ c. search needs)  -- returns-2
+    (λ c. search needs)  -- returns-3
+    (λ c. search needs))  -- returns-4

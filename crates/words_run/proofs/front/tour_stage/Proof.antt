@@ -7,33 +7,6 @@ use borrow.Author.Needs.{needs}
 use Rattle.words_run.proofs.front.tour_stage.Statement.{statement}
 use Rattle.words_run.proofs.front.tour_stage.Tie as tie
 
-table-at-requires : tie.Need-table-at-requires
-table-at-requires c κs = search needs
-
-tree-at-requires : tie.Need-tree-at-requires
-tree-at-requires c κs = search needs
-
-tour-at-requires : tie.Need-tour-at-requires
-tour-at-requires c κs = search needs
-
-ranking-at-requires : tie.Need-ranking-at-requires
-ranking-at-requires c κs = search needs
-
-clock-at-requires : tie.Need-clock-at-requires
-clock-at-requires c κs = search needs
-
-run-requires : tie.Need-run-requires
-run-requires c κs = search needs
-
-lay-clock-requires : tie.Need-lay-clock-requires
-lay-clock-requires c κs = search needs
-
-lay-tour-requires : tie.Need-lay-tour-requires
-lay-tour-requires c κs = search needs
-
-lay-ranking-requires : tie.Need-lay-ranking-requires
-lay-ranking-requires c κs = search needs
-
 returns : tie.Need-returns
 returns c =
     let start = c .before .before .before .before .before .before .before .before .before .before .before .before .before .before .before .before .before .before .before .before .before .before .before .before .before .before .before .before .before .before in
@@ -46,13 +19,13 @@ pub tour-stage-spec : {M : Type 1} → statement M
 tour-stage-spec =
     tie.close
     (tie.spec
-    table-at-requires
-    tree-at-requires
-    tour-at-requires
-    ranking-at-requires
-    clock-at-requires
-    run-requires
-    lay-clock-requires
-    lay-tour-requires
-    lay-ranking-requires
+    (λ c κs. search needs)  -- table-at-requires
+    (λ c κs. search needs)  -- tree-at-requires
+    (λ c κs. search needs)  -- tour-at-requires
+    (λ c κs. search needs)  -- ranking-at-requires
+    (λ c κs. search needs)  -- clock-at-requires
+    (λ c κs. search needs)  -- run-requires
+    (λ c κs. search needs)  -- lay-clock-requires
+    (λ c κs. search needs)  -- lay-tour-requires
+    (λ c κs. search needs)  -- lay-ranking-requires
     returns)

@@ -7,33 +7,6 @@ use borrow.Author.Needs.{needs}
 use Rattle.words_run.proofs.front.tree_stage.Statement.{statement}
 use Rattle.words_run.proofs.front.tree_stage.Tie as tie
 
-table-at-requires : tie.Need-table-at-requires
-table-at-requires c κs = search needs
-
-levels-at-requires : tie.Need-levels-at-requires
-levels-at-requires c κs = search needs
-
-components-at-requires : tie.Need-components-at-requires
-components-at-requires c κs = search needs
-
-plan-at-requires : tie.Need-plan-at-requires
-plan-at-requires c κs = search needs
-
-tree-at-requires : tie.Need-tree-at-requires
-tree-at-requires c κs = search needs
-
-clock-at-requires : tie.Need-clock-at-requires
-clock-at-requires c κs = search needs
-
-run-requires : tie.Need-run-requires
-run-requires c κs = search needs
-
-lay-clock-requires : tie.Need-lay-clock-requires
-lay-clock-requires c κs = search needs
-
-lay-tree-requires : tie.Need-lay-tree-requires
-lay-tree-requires c κs = search needs
-
 returns : tie.Need-returns
 returns c =
     let run = c .before .before .before .before .before .before .before .before in
@@ -51,13 +24,13 @@ pub tree-stage-spec : {M : Type 1} → statement M
 tree-stage-spec =
     tie.close
     (tie.spec
-    table-at-requires
-    levels-at-requires
-    components-at-requires
-    plan-at-requires
-    tree-at-requires
-    clock-at-requires
-    run-requires
-    lay-clock-requires
-    lay-tree-requires
+    (λ c κs. search needs)  -- table-at-requires
+    (λ c κs. search needs)  -- levels-at-requires
+    (λ c κs. search needs)  -- components-at-requires
+    (λ c κs. search needs)  -- plan-at-requires
+    (λ c κs. search needs)  -- tree-at-requires
+    (λ c κs. search needs)  -- clock-at-requires
+    (λ c κs. search needs)  -- run-requires
+    (λ c κs. search needs)  -- lay-clock-requires
+    (λ c κs. search needs)  -- lay-tree-requires
     returns)

@@ -5,39 +5,6 @@ use borrow.Author.Needs.{needs}
 use Rattle.survey.proofs.whole.Survey.begun.Statement.{statement}
 use Rattle.survey.proofs.whole.Survey.begun.Tie as tie
 
-clock-requires : tie.Need-clock-requires
-clock-requires c κs = search needs
-
-components-requires : tie.Need-components-requires
-components-requires c κs = search needs
-
-unplanned-requires : tie.Need-unplanned-requires
-unplanned-requires c κs = search needs
-
-tree-requires : tie.Need-tree-requires
-tree-requires c κs = search needs
-
-tour-requires : tie.Need-tour-requires
-tour-requires c κs = search needs
-
-ranking-requires : tie.Need-ranking-requires
-ranking-requires c κs = search needs
-
-order-requires : tie.Need-order-requires
-order-requires c κs = search needs
-
-range-requires : tie.Need-range-requires
-range-requires c κs = search needs
-
-global-requires : tie.Need-global-requires
-global-requires c κs = search needs
-
-aux-requires : tie.Need-aux-requires
-aux-requires c κs = search needs
-
-labels-requires : tie.Need-labels-requires
-labels-requires c κs = search needs
-
 returns : tie.Need-returns
 unfolding begun
 returns c =
@@ -49,15 +16,15 @@ pub begun-spec : {M : Type 1} → statement M
 begun-spec =
     tie.close
     (tie.spec
-    clock-requires
-    components-requires
-    unplanned-requires
-    tree-requires
-    tour-requires
-    ranking-requires
-    order-requires
-    range-requires
-    global-requires
-    aux-requires
-    labels-requires
+    (λ c κs. search needs)  -- clock-requires
+    (λ c κs. search needs)  -- components-requires
+    (λ c κs. search needs)  -- unplanned-requires
+    (λ c κs. search needs)  -- tree-requires
+    (λ c κs. search needs)  -- tour-requires
+    (λ c κs. search needs)  -- ranking-requires
+    (λ c κs. search needs)  -- order-requires
+    (λ c κs. search needs)  -- range-requires
+    (λ c κs. search needs)  -- global-requires
+    (λ c κs. search needs)  -- aux-requires
+    (λ c κs. search needs)  -- labels-requires
     returns)

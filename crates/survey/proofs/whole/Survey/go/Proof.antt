@@ -156,36 +156,6 @@ done-10 c = done (turn-10 c .before .before) (Labels.stage (of (turn-10 c .befor
 
 -- ---- the needs of the arms
 
-run-requires : tie.Need-run-requires Inv-loop μ-loop
-run-requires c κs = search needs
-
-run-requires-2 : tie.Need-run-requires-2 Inv-loop μ-loop
-run-requires-2 c κs = search needs
-
-run-requires-3 : tie.Need-run-requires-3 Inv-loop μ-loop
-run-requires-3 c κs = search needs
-
-run-requires-4 : tie.Need-run-requires-4 Inv-loop μ-loop
-run-requires-4 c κs = search needs
-
-run-requires-5 : tie.Need-run-requires-5 Inv-loop μ-loop
-run-requires-5 c κs = search needs
-
-run-requires-6 : tie.Need-run-requires-6 Inv-loop μ-loop
-run-requires-6 c κs = search needs
-
-run-requires-7 : tie.Need-run-requires-7 Inv-loop μ-loop
-run-requires-7 c κs = search needs
-
-run-requires-8 : tie.Need-run-requires-8 Inv-loop μ-loop
-run-requires-8 c κs = search needs
-
-run-requires-9 : tie.Need-run-requires-9 Inv-loop μ-loop
-run-requires-9 c κs = search needs
-
-run-requires-10 : tie.Need-run-requires-10 Inv-loop μ-loop
-run-requires-10 c κs = search needs
-
 add-made : tie.Need-add-made Inv-loop μ-loop
 add-made c = omega (arith, done-1 c .0 .within, turn-1 c .before .before .before .before .fits .budget)
 
@@ -310,43 +280,43 @@ go-spec =
     μ-loop
     loop-holds
     sub-left
-    run-requires
+    (λ c κs. search needs)  -- run-requires
     add-made
     loop-less
     loop-again
-    run-requires-2
+    (λ c κs. search needs)  -- run-requires-2
     add-made-2
     loop-less-2
     loop-again-2
-    run-requires-3
+    (λ c κs. search needs)  -- run-requires-3
     add-made-3
     loop-less-3
     loop-again-3
-    run-requires-4
+    (λ c κs. search needs)  -- run-requires-4
     add-made-4
     loop-less-4
     loop-again-4
-    run-requires-5
+    (λ c κs. search needs)  -- run-requires-5
     add-made-5
     loop-less-5
     loop-again-5
-    run-requires-6
+    (λ c κs. search needs)  -- run-requires-6
     add-made-6
     loop-less-6
     loop-again-6
-    run-requires-7
+    (λ c κs. search needs)  -- run-requires-7
     add-made-7
     loop-less-7
     loop-again-7
-    run-requires-8
+    (λ c κs. search needs)  -- run-requires-8
     add-made-8
     loop-less-8
     loop-again-8
-    run-requires-9
+    (λ c κs. search needs)  -- run-requires-9
     add-made-9
     loop-less-9
     loop-again-9
-    run-requires-10
+    (λ c κs. search needs)  -- run-requires-10
     add-made-10
     loop-less-10
     loop-again-10

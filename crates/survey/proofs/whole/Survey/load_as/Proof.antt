@@ -8,9 +8,6 @@ use Rattle.survey.specs.View.{of}
 use Rattle.survey.proofs.whole.Survey.load_as.Statement.{statement}
 use Rattle.survey.proofs.whole.Survey.load_as.Tie as tie
 
-refusal-requires : tie.Need-refusal-requires
-refusal-requires c κs = search needs
-
 returns : tie.Need-returns
 returns c =
     let a = c .before .before .before .args in
@@ -28,4 +25,10 @@ returns-2 c =
     rw (c .loaded .ensures) (answered-made _ _ _ _ (sym (r .ensures) ∙ c .before .if1 .left))
 
 pub load-as-spec : {M : Type 1} → statement M
-load-as-spec = tie.close (tie.spec refusal-requires returns loaded-requires returns-2)
+load-as-spec =
+    tie.close
+    (tie.spec
+    (λ c κs. search needs)  -- refusal-requires
+    returns
+    loaded-requires
+    returns-2)

@@ -8,9 +8,6 @@ use Rattle.survey.specs.View.{of}
 use Rattle.survey.proofs.whole.Survey.load_planned.Statement.{statement}
 use Rattle.survey.proofs.whole.Survey.load_planned.Tie as tie
 
-refusal-requires : tie.Need-refusal-requires
-refusal-requires c κs = search needs
-
 returns : tie.Need-returns
 unfolding plannedLoadAnswer
 returns c =
@@ -28,4 +25,10 @@ returns-2 c =
     rw (c .drawn .ensures) (answered-made _ _ _ _ (sym (r .ensures) ∙ c .before .if1 .left))
 
 pub load-planned-spec : {M : Type 1} → statement M
-load-planned-spec = tie.close (tie.spec refusal-requires returns drawn-requires returns-2)
+load-planned-spec =
+    tie.close
+    (tie.spec
+    (λ c κs. search needs)  -- refusal-requires
+    returns
+    drawn-requires
+    returns-2)

@@ -10,17 +10,11 @@ use Rattle.survey.specs.View.{of}
 use Rattle.survey.proofs.whole.Survey.round.Statement.{statement}
 use Rattle.survey.proofs.whole.Survey.round.Tie as tie
 
-well-formed-requires : tie.Need-well-formed-requires
-well-formed-requires c κs = search needs
-
 abbrev given : tie.After-refusal → State
 given w = of (w .before .before .args .self)
 
 told : (w : tie.After-refusal) → w .refusal .result ≡ roundRefusal (given w)
 told w = refusal-told (given w) _ _ (w .before .well-formed .ensures) (w .refusal .ensures)
-
-refusal-requires : tie.Need-refusal-requires
-refusal-requires c κs = search needs
 
 returns : tie.Need-returns
 unfolding roundAnswer
@@ -40,4 +34,11 @@ returns-2 c =
     rw one (answered-made _ _ _ _ none)
 
 pub round-spec : {M : Type 1} → statement M
-round-spec = tie.close (tie.spec well-formed-requires refusal-requires returns go-requires returns-2)
+round-spec =
+    tie.close
+    (tie.spec
+    (λ c κs. search needs)  -- well-formed-requires
+    (λ c κs. search needs)  -- refusal-requires
+    returns
+    go-requires
+    returns-2)

@@ -9,17 +9,11 @@ use Rattle.survey.specs.View.{of}
 use Rattle.survey.proofs.whole.Survey.run.Statement.{statement}
 use Rattle.survey.proofs.whole.Survey.run.Tie as tie
 
-kept-requires : tie.Need-kept-requires
-kept-requires c κs = search needs
-
 abbrev given : tie.After-refusal → State
 given w = of (w .before .before .before .before .before .before .before .before .before .before .before .before .before .before .before .before .before .before .before .before .before .before .before .before .before .before .before .before .args .t1)
 
 told : (w : tie.After-refusal) → w .refusal .result ≡ roundRefusal (given w)
 told w = refusal-told (given w) _ _ (w .before .kept .ensures) (w .refusal .ensures)
-
-refusal-requires : tie.Need-refusal-requires
-refusal-requires c κs = search needs
 
 returns : tie.Need-returns
 unfolding runAnswer
@@ -38,4 +32,11 @@ returns-2 c =
     rw (c .before .go .ensures) (answered-made _ _ _ _ none)
 
 pub run-spec : {M : Type 1} → statement M
-run-spec = tie.close (tie.spec kept-requires refusal-requires returns go-requires returns-2)
+run-spec =
+    tie.close
+    (tie.spec
+    (λ c κs. search needs)  -- kept-requires
+    (λ c κs. search needs)  -- refusal-requires
+    returns
+    go-requires
+    returns-2)

@@ -8,14 +8,8 @@ use Rattle.survey.specs.View.{of}
 use Rattle.survey.proofs.whole.Survey.status.Statement.{statement}
 use Rattle.survey.proofs.whole.Survey.status.Tie as tie
 
-well-formed-requires : tie.Need-well-formed-requires
-well-formed-requires c κs = search needs
-
 returns : tie.Need-returns
 returns c = status-refused (of (c .before .before .args .self)) (sym (c .before .well-formed .ensures) ∙ not-true _ (c .if1 .taken))
-
-countdown-requires : tie.Need-countdown-requires
-countdown-requires c κs = search needs
 
 returns-2 : tie.Need-returns-2
 returns-2 c =
@@ -25,4 +19,10 @@ returns-2 c =
     rw (c .countdown .ensures ∙ kept-countdown s well) (status-made s well)
 
 pub status-spec : {M : Type 1} → statement M
-status-spec = tie.close (tie.spec well-formed-requires returns countdown-requires returns-2)
+status-spec =
+    tie.close
+    (tie.spec
+    (λ c κs. search needs)  -- well-formed-requires
+    returns
+    (λ c κs. search needs)  -- countdown-requires
+    returns-2)

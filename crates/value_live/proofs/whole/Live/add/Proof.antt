@@ -50,9 +50,6 @@ late c =
     let full = sized (e .before .before) in
     add-late (of (a .t1)) (full .0) (full .1) (passed e) (a .a) (a .b) (c .before .place-in .result) (c .before .place-in .ensures) (a .level) (c .link-refusal .result) (own c)
 
-refusal-requires : tie.Need-refusal-requires
-refusal-requires c κs = search needs
-
 returns : tie.Need-returns
 unfolding addAnswer
 returns c =
@@ -64,12 +61,6 @@ place-in-requires : tie.Need-place-in-requires
 place-in-requires c κs =
     let e = c .before .before .before in
     omega (arith, few e, sized (e .before .before) .0)
-
-cast-joined : tie.Need-cast-joined
-cast-joined c = search needs
-
-link-refusal-requires : tie.Need-link-refusal-requires
-link-refusal-requires c κs = search needs
 
 returns-2 : tie.Need-returns-2
 unfolding addAnswer
@@ -97,11 +88,11 @@ pub add-spec : {M : Type 1} → statement M
 add-spec =
     tie.close
     (tie.spec
-    refusal-requires
+    (λ c κs. search needs)  -- refusal-requires
     returns
     place-in-requires
-    cast-joined
-    link-refusal-requires
+    (λ c. search needs)  -- cast-joined
+    (λ c κs. search needs)  -- link-refusal-requires
     returns-2
     longer-requires
     returns-3)

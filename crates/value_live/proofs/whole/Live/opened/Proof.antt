@@ -9,18 +9,6 @@ use borrow.Author.Needs.{needs}
 use Rattle.value_live.proofs.whole.Live.opened.Statement.{statement}
 use Rattle.value_live.proofs.whole.Live.opened.Tie as tie
 
-refusal-requires : tie.Need-refusal-requires
-refusal-requires c κs = search needs
-
-slice-aggregate-made : tie.Need-slice-aggregate-made
-slice-aggregate-made c = search needs
-
-slice-aggregate-made-2 : tie.Need-slice-aggregate-made-2
-slice-aggregate-made-2 c = search needs
-
-made-requires : tie.Need-made-requires
-made-requires c κs = search needs
-
 returns : tie.Need-returns
 unfolding openAnswer
 returns c =
@@ -48,10 +36,10 @@ pub opened-spec : {M : Type 1} → statement M
 opened-spec =
     tie.close
     (tie.spec
-    refusal-requires
-    slice-aggregate-made
-    slice-aggregate-made-2
-    made-requires
+    (λ c κs. search needs)  -- refusal-requires
+    (λ c. search needs)  -- slice-aggregate-made
+    (λ c. search needs)  -- slice-aggregate-made-2
+    (λ c κs. search needs)  -- made-requires
     returns
     made-requires-2
     returns-2)

@@ -43,9 +43,6 @@ late c =
     let full = sized (e .before .before) in
     withdraw-late (of (a .t1)) (full .0) (full .1) (passed e) (a .a) (a .b) (c .before .place-in .result) (c .before .place-in .ensures) (c .pair-refusal .result) (own c)
 
-refusal-requires : tie.Need-refusal-requires
-refusal-requires c κs = search needs
-
 returns : tie.Need-returns
 unfolding withdrawAnswer
 returns c =
@@ -57,12 +54,6 @@ place-in-requires : tie.Need-place-in-requires
 place-in-requires c κs =
     let e = c .before .before .before in
     omega (arith, few e, sized (e .before .before) .0)
-
-cast-joined : tie.Need-cast-joined
-cast-joined c = search needs
-
-pair-refusal-requires : tie.Need-pair-refusal-requires
-pair-refusal-requires c κs = search needs
 
 returns-2 : tie.Need-returns-2
 unfolding withdrawAnswer
@@ -91,11 +82,11 @@ pub withdraw-spec : {M : Type 1} → statement M
 withdraw-spec =
     tie.close
     (tie.spec
-    refusal-requires
+    (λ c κs. search needs)  -- refusal-requires
     returns
     place-in-requires
-    cast-joined
-    pair-refusal-requires
+    (λ c. search needs)  -- cast-joined
+    (λ c κs. search needs)  -- pair-refusal-requires
     returns-2
     shorter-requires
     returns-3)
