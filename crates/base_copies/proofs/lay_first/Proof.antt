@@ -18,7 +18,11 @@ loop-holds : tie.Need-loop-holds Inv-loop μ-loop
 loop-holds c = (search needs, refl, refl)
 
 loop-again : tie.Need-loop-again Inv-loop μ-loop
-loop-again c = (search needs, search needs, over-more _ (λ (i : ℕ). getD (c .before .before .before .before .before .before .before .before .before .args .table .now) i 0) _ _ _ _ (c .before .before .before .before .before .before .loop .inv .2) (c .before .before .before .word .ensures) (c .before .before .put .ensures))
+loop-again c =
+    let at-word = c .before .before .before in
+    let at-loop = at-word .before .before .before in
+    let start = at-loop .before .before .before in
+    (search needs, search needs, over-more _ (λ (i : ℕ). getD (start .args .table .now) i 0) _ _ _ _ (at-loop .loop .inv .2) (at-word .word .ensures) (c .before .before .put .ensures))
 
 returns : tie.Need-returns Inv-loop μ-loop
 returns c = c .before .loop .inv .2 ∙ over-all _ _ _ _ (c .before .loop .inv .0) (c .loop-test .left)

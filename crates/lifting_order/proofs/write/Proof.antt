@@ -23,22 +23,33 @@ slice-aggregate-grown c =
 
 grown-requires : tie.Need-grown-requires
 grown-requires c κs =
-    let a = c .before .before .before .before .before .before .before .before .args in
-    let e = sym (c .before .before .before .before .given-refusal .ensures) ∙ c .before .before .before .if1 .left in
+    let at-if1 = c .before .before .before in
+    let at-given-refusal = at-if1 .before in
+    let start = at-given-refusal .before .before .before .before in
+    let a = start .args in
+    let e = sym (at-given-refusal .given-refusal .ensures) ∙ at-if1 .if1 .left in
     let p = passed-given (a .units) (a .links) (a .ends .now) (a .pairs .now) (length (a .out .now)) e in
     (fits-given (a .units) (a .links) (a .ends .now) (a .pairs .now) (p .0) (p .2), search needs)
 
 returns-2 : tie.Need-returns-2
 returns-2 c =
-    let a = c .before .before .before .before .before .before .before .before .before .before .before .args in
-    let e = sym (c .before .before .before .before .before .before .before .given-refusal .ensures) ∙ c .before .before .before .before .before .before .if1 .left in
+    let at-if1 = c .before .before .before .before .before .before in
+    let at-given-refusal = at-if1 .before in
+    let start = at-given-refusal .before .before .before .before in
+    let a = start .args in
+    let e = sym (at-given-refusal .given-refusal .ensures) ∙ at-if1 .if1 .left in
     told-none (a .units) (a .links) (a .ends .now) (a .pairs .now) (a .out .now) _ (c .before .before .grown .result) e (c .before .before .grown .ensures) (c .if2 .taken)
 
 returns-3 : tie.Need-returns-3
 returns-3 c =
-    let a = c .before .before .before .before .before .before .before .before .before .before .before .before .before .before .before .before .args in
-    let e = sym (c .before .before .before .before .before .before .before .before .before .before .before .before .given-refusal .ensures) ∙ c .before .before .before .before .before .before .before .before .before .before .before .if1 .left in
-    told-order (a .units) (a .links) (a .ends .now) (a .pairs .now) (a .out .now) _ _ (c .before .before .before .before .before .before .before .grown .result) e (c .before .before .before .before .before .before .before .grown .ensures) (c .before .before .before .before .before .if2 .left) (c .before .before .lay-first .ensures)
+    let at-if2 = c .before .before .before .before .before in
+    let at-grown = at-if2 .before .before in
+    let at-if1 = at-grown .before .before .before .before in
+    let at-given-refusal = at-if1 .before in
+    let start = at-given-refusal .before .before .before .before in
+    let a = start .args in
+    let e = sym (at-given-refusal .given-refusal .ensures) ∙ at-if1 .if1 .left in
+    told-order (a .units) (a .links) (a .ends .now) (a .pairs .now) (a .out .now) _ _ (at-grown .grown .result) e (at-grown .grown .ensures) (at-if2 .if2 .left) (c .before .before .lay-first .ensures)
 
 pub write-spec : {M : Type 1} → statement M
 write-spec =

@@ -7,10 +7,19 @@ use Rattle.ring_ears.proofs.ear.Tie as tie
 
 returns : tie.Need-returns
 returns c =
-    let a = c .before .before .before .before .before .before .before .before .before .before .before .before .before .before .before .before .before .before .args in
-    ear-of (a .units) (a .ends .now) (a .parent .now) (a .held .now) (a .j) (a .pos .now) (c .before .before .weave .last .1 .1 .1 .1 .1 .0) (c .before .before .before .before .before .before .before .before .before .before .before .before .before .end-a .result) (c .before .before .before .before .before .before .before .before .before .before .before .before .end-b .result)
-    (c .before .before .before .before .before .before .before .before .before .before .at .result) (c .before .before .before .before .before .before .before .at3 .result) (c .before .before .before .before .before .before .before .before .before .at2 .result) (c .before .before .before .before .before .before .at4 .result) (c .before .before .before .before .before .choose .result) (c .before .before .before .before .choose2 .result) _ (c .before .before .before .before .before .before .before .before .before .before .before .before .before .end-a .ensures) (c .before .before .before .before .before .before .before .before .before .before .before .before .end-b .ensures) (c .before .before .before .before .before .before .before .before .before .before .at .ensures) (c .before .before .before .before .before .before .before .before .before .at2 .ensures) (c .before .before .before .before .before .before .before .at3 .ensures) (c .before .before .before .before .before .before .at4 .ensures) refl
-    (c .before .before .before .before .before .choose .ensures) (c .before .before .before .before .choose2 .ensures) (c .before .before .weave .ensures)
+    let at-choose2 = c .before .before .before .before in
+    let at-choose = at-choose2 .before in
+    let at-at4 = at-choose .before in
+    let at-at3 = at-at4 .before in
+    let at-at2 = at-at3 .before .before in
+    let at-at = at-at2 .before in
+    let at-end-b = at-at .before .before in
+    let at-end-a = at-end-b .before in
+    let start = at-end-a .before .before .before .before .before in
+    let a = start .args in
+    ear-of (a .units) (a .ends .now) (a .parent .now) (a .held .now) (a .j) (a .pos .now) (c .before .before .weave .last .1 .1 .1 .1 .1 .0) (at-end-a .end-a .result) (at-end-b .end-b .result)
+    (at-at .at .result) (at-at3 .at3 .result) (at-at2 .at2 .result) (at-at4 .at4 .result) (at-choose .choose .result) (at-choose2 .choose2 .result) _ (at-end-a .end-a .ensures) (at-end-b .end-b .ensures) (at-at .at .ensures) (at-at2 .at2 .ensures) (at-at3 .at3 .ensures) (at-at4 .at4 .ensures) refl
+    (at-choose .choose .ensures) (at-choose2 .choose2 .ensures) (c .before .before .weave .ensures)
 
 pub ear-spec : {M : Type 1} → statement M
 ear-spec =

@@ -20,12 +20,16 @@ loop-holds c = (search needs, search needs, search needs, λ x y site T W G. G)
 
 loop-again : tie.Need-loop-again Inv-loop μ-loop
 loop-again c =
-    let s = c .before .before .before .before .before .before .before .before .before .loop in
-    let a = c .before .before .before .before .before .before .before .before .before .before .before .before .before .before .before .before .before .before .args in (
+    let at-visit = c .before .before .before .before in
+    let at-at = at-visit .before .before .before in
+    let at-loop = at-at .before .before in
+    let start = at-loop .before .before .before .before .before .before .before .before .before in
+    let s = at-loop .loop in
+    let a = start .args in (
       search needs,
-      c .before .before .before .before .visit .kept .1 .1 .1 .1 .1 .1 .1 .1 .0 ∙ s .inv .1,
-      c .before .before .before .before .visit .kept .1 .1 .1 .1 .1 .1 .1 .1 .1 .0 ∙ s .inv .2,
-      followed-more (sure (a .marks .now)) (a .units) (a .links) (a .ends .now) (a .count) (a .parent .now) (a .seq .now) (c .before .before .before .before .before .before .before .at .result) (a .pos .now) (a .held .now) (s .pos) (s .held) (c .before .before .before .before .visit .last .1 .1 .1 .1 .1 .1 .1 .1 .0) (c .before .before .before .before .visit .last .1 .1 .1 .1 .1 .1 .1 .1 .1 .0) (s .inv .3) (c .before .before .before .before .visit .ensures),
+      at-visit .visit .kept .1 .1 .1 .1 .1 .1 .1 .1 .0 ∙ s .inv .1,
+      at-visit .visit .kept .1 .1 .1 .1 .1 .1 .1 .1 .1 .0 ∙ s .inv .2,
+      followed-more (sure (a .marks .now)) (a .units) (a .links) (a .ends .now) (a .count) (a .parent .now) (a .seq .now) (at-at .at .result) (a .pos .now) (a .held .now) (s .pos) (s .held) (at-visit .visit .last .1 .1 .1 .1 .1 .1 .1 .1 .0) (at-visit .visit .last .1 .1 .1 .1 .1 .1 .1 .1 .1 .0) (s .inv .3) (at-visit .visit .ensures),
     )
 
 returns : tie.Need-returns Inv-loop μ-loop

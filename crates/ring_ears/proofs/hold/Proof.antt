@@ -20,9 +20,16 @@ loop-holds c =
 
 loop-again : tie.Need-loop-again Inv-loop μ-loop
 loop-again c =
-    let s = c .before .before .before .before .before .before .before .before .before .before .before .loop in
-    let a = c .before .before .before .before .before .before .before .before .before .before .before .before .before .before .before .before .args in
-    (search needs, c .before .before .store .kept .0 ∙ s .inv .1, holding-more (a .parent .now) (a .seq .now) (a .pos .now) (a .held .now) (s .held) (c .before .before .store .last .0) (s .i) (c .before .before .before .before .before .before .before .before .before .at .result) (c .before .before .before .before .before .before .before .at2 .result) (c .before .before .before .before .before .before .at3 .result) (c .before .before .before .before .choose .result) (c .before .before .before .before .before .on .result) (s .inv .2) (c .before .before .before .before .before .before .before .before .before .at .ensures) (c .before .before .before .before .before .before .before .at2 .ensures) (c .before .before .before .before .before .before .at3 .ensures) (c .before .before .before .before .before .on .ensures) (c .before .before .before .before .choose .ensures) (c .before .before .store .ensures))
+    let at-choose = c .before .before .before .before in
+    let at-on = at-choose .before in
+    let at-at3 = at-on .before in
+    let at-at2 = at-at3 .before in
+    let at-at = at-at2 .before .before in
+    let at-loop = at-at .before .before in
+    let start = at-loop .before .before .before .before .before in
+    let s = at-loop .loop in
+    let a = start .args in
+    (search needs, c .before .before .store .kept .0 ∙ s .inv .1, holding-more (a .parent .now) (a .seq .now) (a .pos .now) (a .held .now) (s .held) (c .before .before .store .last .0) (s .i) (at-at .at .result) (at-at2 .at2 .result) (at-at3 .at3 .result) (at-choose .choose .result) (at-on .on .result) (s .inv .2) (at-at .at .ensures) (at-at2 .at2 .ensures) (at-at3 .at3 .ensures) (at-on .on .ensures) (at-choose .choose .ensures) (c .before .before .store .ensures))
 
 returns : tie.Need-returns Inv-loop μ-loop
 returns c =

@@ -23,18 +23,23 @@ loop-holds c =
 
 loop-again : tie.Need-loop-again Inv-loop μ-loop
 loop-again c =
-    let s = c .before .before .before .before .before .before .before .before .loop in
-    let a = c .before .before .before .before .before .before .before .before .before .before .before .before .before .before .before .args in (
+    let at-visit = c .before .before .before .before in
+    let at-loop-test = at-visit .before .before .before in
+    let at-loop = at-loop-test .before in
+    let start = at-loop .before .before .before .before .before .before .before in
+    let s = at-loop .loop in
+    let a = start .args in (
       search needs,
-      c .before .before .before .before .visit .kept .1 .1 .1 .1 .1 .1 .1 .1 .0 ∙ s .inv .1,
-      c .before .before .before .before .visit .kept .1 .1 .1 .1 .1 .1 .1 .1 .1 .0 ∙ s .inv .2,
-      passed-more (sure (a .marks .now)) (a .units) (a .links) (a .ends .now) (a .count) (a .parent .now) (a .seq .now) (s .j) (a .pos .now) (a .held .now) (s .pos) (s .held) (c .before .before .before .before .visit .last .1 .1 .1 .1 .1 .1 .1 .1 .0) (c .before .before .before .before .visit .last .1 .1 .1 .1 .1 .1 .1 .1 .1 .0) (c .before .before .before .before .before .before .before .loop-test .taken) (s .inv .3) (c .before .before .before .before .visit .ensures),
+      at-visit .visit .kept .1 .1 .1 .1 .1 .1 .1 .1 .0 ∙ s .inv .1,
+      at-visit .visit .kept .1 .1 .1 .1 .1 .1 .1 .1 .1 .0 ∙ s .inv .2,
+      passed-more (sure (a .marks .now)) (a .units) (a .links) (a .ends .now) (a .count) (a .parent .now) (a .seq .now) (s .j) (a .pos .now) (a .held .now) (s .pos) (s .held) (at-visit .visit .last .1 .1 .1 .1 .1 .1 .1 .1 .0) (at-visit .visit .last .1 .1 .1 .1 .1 .1 .1 .1 .1 .0) (at-loop-test .loop-test .taken) (s .inv .3) (at-visit .visit .ensures),
     )
 
 returns : tie.Need-returns Inv-loop μ-loop
 returns c =
+    let start = c .before .before .before .before .before .before .before .before in
     let s = c .before .loop in
-    let a = c .before .before .before .before .before .before .before .before .args in
+    let a = start .args in
     let e : s .j ≡ a .links = omega (arith, s .inv .0, c .loop-test .left) in subst (λ (z : ℕ). Passed (sure (a .marks .now)) (a .units) (a .links) (a .ends .now) (a .count) (a .parent .now) (a .seq .now) z (a .pos .now) (a .held .now) (s .pos) (s .held)) e (s .inv .3)
 
 pub pass-spec : {M : Type 1} → statement M

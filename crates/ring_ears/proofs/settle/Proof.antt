@@ -22,24 +22,33 @@ loop-holds c =
 
 returns : tie.Need-returns Inv-loop μ-loop
 returns c =
-    let s = c .before .before .before .before .before .before .before .before .before .before .before .before .before .loop in
-    let a = c .before .before .before .before .before .before .before .before .before .before .before .before .before .before .before .before .before .before .before .before .args in
-    settling-same (sure (a .marks .now)) (a .units) (a .links) (a .ends .now) (a .count) (a .parent .now) (a .seq .now) (a .b) (a .pos .now) (a .held .now) (s .k) (s .pos) (s .held) (s .inv .3) (c .before .before .before .before .before .before .before .pass .last .1 .1 .1 .1 .1 .1 .1 .0) (c .before .before .before .before .before .before .before .pass .last .1 .1 .1 .1 .1 .1 .1 .1 .0) (c .before .before .before .before .before .before .before .before .before .before .at .result) (c .before .at2 .result) (c .before .before .before .before .before .before .before .before .before .before .at .ensures) (c .before .before .before .before .before .before .before .pass .ensures) (c .before .at2 .ensures) (c .if1 .taken)
+    let at-pass = c .before .before .before .before .before .before .before in
+    let at-at = at-pass .before .before .before in
+    let at-loop = at-at .before .before .before in
+    let start = at-loop .before .before .before .before .before .before .before in
+    let s = at-loop .loop in
+    let a = start .args in
+    settling-same (sure (a .marks .now)) (a .units) (a .links) (a .ends .now) (a .count) (a .parent .now) (a .seq .now) (a .b) (a .pos .now) (a .held .now) (s .k) (s .pos) (s .held) (s .inv .3) (at-pass .pass .last .1 .1 .1 .1 .1 .1 .1 .0) (at-pass .pass .last .1 .1 .1 .1 .1 .1 .1 .1 .0) (at-at .at .result) (c .before .at2 .result) (at-at .at .ensures) (at-pass .pass .ensures) (c .before .at2 .ensures) (c .if1 .taken)
 
 loop-again : tie.Need-loop-again Inv-loop μ-loop
 loop-again c =
-    let s = c .before .before .before .before .before .before .before .before .before .before .before .before .before .loop in
-    let a = c .before .before .before .before .before .before .before .before .before .before .before .before .before .before .before .before .before .before .before .before .args in (
+    let at-pass = c .before .before .before .before .before .before .before in
+    let at-at = at-pass .before .before .before in
+    let at-loop = at-at .before .before .before in
+    let start = at-loop .before .before .before .before .before .before .before in
+    let s = at-loop .loop in
+    let a = start .args in (
       search needs,
-      c .before .before .before .before .before .before .before .pass .kept .1 .1 .1 .1 .1 .1 .1 .0 ∙ s .inv .1,
-      c .before .before .before .before .before .before .before .pass .kept .1 .1 .1 .1 .1 .1 .1 .1 .0 ∙ s .inv .2,
-      lengthened-more (sure (a .marks .now)) (a .units) (a .links) (a .ends .now) (a .count) (a .parent .now) (a .seq .now) (a .b) (a .pos .now) (a .held .now) (s .k) (s .pos) (s .held) (s .inv .3) (c .before .before .before .before .before .before .before .pass .last .1 .1 .1 .1 .1 .1 .1 .0) (c .before .before .before .before .before .before .before .pass .last .1 .1 .1 .1 .1 .1 .1 .1 .0) (c .before .before .before .before .before .before .before .before .before .before .at .result) (c .before .at2 .result) (c .before .before .before .before .before .before .before .before .before .before .at .ensures) (c .before .before .before .before .before .before .before .pass .ensures) (c .before .at2 .ensures) (c .if1 .left),
+      at-pass .pass .kept .1 .1 .1 .1 .1 .1 .1 .0 ∙ s .inv .1,
+      at-pass .pass .kept .1 .1 .1 .1 .1 .1 .1 .1 .0 ∙ s .inv .2,
+      lengthened-more (sure (a .marks .now)) (a .units) (a .links) (a .ends .now) (a .count) (a .parent .now) (a .seq .now) (a .b) (a .pos .now) (a .held .now) (s .k) (s .pos) (s .held) (s .inv .3) (at-pass .pass .last .1 .1 .1 .1 .1 .1 .1 .0) (at-pass .pass .last .1 .1 .1 .1 .1 .1 .1 .1 .0) (at-at .at .result) (c .before .at2 .result) (at-at .at .ensures) (at-pass .pass .ensures) (c .before .at2 .ensures) (c .if1 .left),
     )
 
 returns-2 : tie.Need-returns-2 Inv-loop μ-loop
 returns-2 c =
+    let start = c .before .before .before .before .before .before .before .before in
     let s = c .before .loop in
-    let a = c .before .before .before .before .before .before .before .before .args in
+    let a = start .args in
     settling-full (sure (a .marks .now)) (a .units) (a .links) (a .ends .now) (a .count) (a .parent .now) (a .seq .now) (a .b) (a .pos .now) (a .held .now) (s .k) (s .pos) (s .held) (s .inv .3) (c .loop-test .left)
 
 pub settle-spec : {M : Type 1} → statement M

@@ -5,7 +5,17 @@ use Rattle.ring_ears.proofs.ties.Statement.{statement}
 use Rattle.ring_ears.proofs.ties.Tie as tie
 
 returns : tie.Need-returns
-returns c = rw (c .both4 .ensures, c .before .both3 .ensures, c .before .before .before .before .before .before .before .both .ensures, c .before .before .both2 .ensures, c .before .before .before .before .before .before .before .before .before .counts .ensures, c .before .before .before .before .before .before .before .before .has .ensures, c .before .before .before .before .on .ensures, c .before .before .before .on2 .ensures, c .before .before .before .before .before .before .at .ensures, c .before .before .before .before .before .at2 .ensures, c .before .before .before .before .before .before .before .before .before .before .before .end-a .ensures, c .before .before .before .before .before .before .before .before .before .before .end-b .ensures) refl
+returns c =
+    let at-on2 = c .before .before .before in
+    let at-on = at-on2 .before in
+    let at-at2 = at-on .before in
+    let at-at = at-at2 .before in
+    let at-both = at-at .before in
+    let at-has = at-both .before in
+    let at-counts = at-has .before in
+    let at-end-b = at-counts .before in
+    let at-end-a = at-end-b .before in
+    rw (c .both4 .ensures, c .before .both3 .ensures, at-both .both .ensures, c .before .before .both2 .ensures, at-counts .counts .ensures, at-has .has .ensures, at-on .on .ensures, at-on2 .on2 .ensures, at-at .at .ensures, at-at2 .at2 .ensures, at-end-a .end-a .ensures, at-end-b .end-b .ensures) refl
 
 pub ties-spec : {M : Type 1} → statement M
 ties-spec =

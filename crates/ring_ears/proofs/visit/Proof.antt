@@ -14,13 +14,19 @@ returns c =
 
 returns-2 : tie.Need-returns-2
 returns-2 c =
-    let a = c .before .before .before .before .before .before .before .before .before .before .before .args in
+    let start = c .before .before .before .before .before .before .before .before .before .before .before in
+    let a = start .args in
     visited-none (sure (a .marks .now)) (a .units) (a .links) (a .ends .now) (a .count) (a .parent .now) (a .seq .now) (a .j) (a .pos .now) (a .held .now) (sym (c .before .ties .ensures) ∙ not-true _ (c .if2 .taken))
 
 returns-3 : tie.Need-returns-3
 returns-3 c =
-    let a = c .before .before .before .before .before .before .before .before .before .before .before .before .before .before .before .before .before .before .before .before .before .args in
-    visited-more (sure (a .marks .now)) (a .units) (a .links) (a .ends .now) (a .count) (a .parent .now) (a .seq .now) (a .j) (a .pos .now) (a .held .now) (c .before .before .before .before .before .before .before .ear .last .1 .1 .1 .1 .1 .0) (c .before .before .hold .last .1 .1 .1 .1 .0) (c .before .before .before .before .before .before .before .before .before .before .before .before .before .before .if1 .left) (sym (c .before .before .before .before .before .before .before .before .before .before .before .ties .ensures) ∙ not-false _ (c .before .before .before .before .before .before .before .before .before .before .if2 .left)) (c .before .before .before .before .before .before .before .ear .ensures) (c .before .before .hold .ensures)
+    let at-ear = c .before .before .before .before .before .before .before in
+    let at-if2 = at-ear .before .before .before in
+    let at-ties = at-if2 .before in
+    let at-if1 = at-ties .before .before .before in
+    let start = at-if1 .before .before .before .before .before .before .before in
+    let a = start .args in
+    visited-more (sure (a .marks .now)) (a .units) (a .links) (a .ends .now) (a .count) (a .parent .now) (a .seq .now) (a .j) (a .pos .now) (a .held .now) (at-ear .ear .last .1 .1 .1 .1 .1 .0) (c .before .before .hold .last .1 .1 .1 .1 .0) (at-if1 .if1 .left) (sym (at-ties .ties .ensures) ∙ not-false _ (at-if2 .if2 .left)) (at-ear .ear .ensures) (c .before .before .hold .ensures)
 
 pub visit-spec : {M : Type 1} → statement M
 visit-spec =

@@ -7,10 +7,20 @@ use Rattle.ring_ears.proofs.weave.Tie as tie
 
 returns : tie.Need-returns
 returns c =
-    let a = c .before .before .before .before .before .before .before .before .before .before .before .before .before .before .before .before .before .before .before .before .before .before .before .before .before .args in
-    woven-in (a .units) (a .parent .now) (a .held .now) (a .u) (a .v) (a .pos .now) (c .before .before .before .before .before .before .before .before .before .before .before .move-on .last .1 .1 .1 .0) (c .before .before .before .before .before .before .before .lay .last .1 .1 .1 .1 .1 .1 .0) (c .before .before .lay2 .last .1 .1 .1 .1 .1 .1 .0)
-    (c .before .before .before .before .before .before .before .before .before .before .before .before .before .before .before .before .before .before .before .before .at .result) (c .before .before .before .before .before .before .before .before .before .before .before .before .before .before .before .before .before .before .before .at2 .result) (c .before .before .before .before .before .before .before .before .before .before .before .before .before .before .before .before .before .hanging .result) (c .before .before .before .before .before .before .before .before .before .before .before .before .before .before .before .hanging2 .result) (c .before .before .before .before .before .before .before .before .before .before .before .before .before .before .bounded-sum .result) (c .before .before .before .before .before .before .before .before .before .before .before .before .before .bounded-sum2 .result) (c .before .before .before .before .bounded-sum3 .result) (c .before .before .before .before .before .before .before .before .before .before .before .before .before .before .before .before .before .before .before .before .at .ensures) (c .before .before .before .before .before .before .before .before .before .before .before .before .before .before .before .before .before .before .before .at2 .ensures)
-    (c .before .before .before .before .before .before .before .before .before .before .before .before .before .before .before .before .before .hanging .ensures) (c .before .before .before .before .before .before .before .before .before .before .before .before .before .before .before .hanging2 .ensures) (c .before .before .before .before .before .before .before .before .before .before .before .before .before .before .bounded-sum .ensures) (c .before .before .before .before .before .before .before .before .before .before .before .before .before .bounded-sum2 .ensures) (c .before .before .before .before .before .before .before .before .before .before .before .move-on .ensures) (c .before .before .before .before .before .before .before .lay .ensures) (c .before .before .before .before .bounded-sum3 .ensures) (c .before .before .lay2 .ensures)
+    let at-bounded-sum3 = c .before .before .before .before in
+    let at-lay = at-bounded-sum3 .before .before .before in
+    let at-move-on = at-lay .before .before .before .before in
+    let at-bounded-sum2 = at-move-on .before .before in
+    let at-bounded-sum = at-bounded-sum2 .before in
+    let at-hanging2 = at-bounded-sum .before in
+    let at-hanging = at-hanging2 .before .before in
+    let at-at2 = at-hanging .before .before in
+    let at-at = at-at2 .before in
+    let start = at-at .before .before .before .before .before in
+    let a = start .args in
+    woven-in (a .units) (a .parent .now) (a .held .now) (a .u) (a .v) (a .pos .now) (at-move-on .move-on .last .1 .1 .1 .0) (at-lay .lay .last .1 .1 .1 .1 .1 .1 .0) (c .before .before .lay2 .last .1 .1 .1 .1 .1 .1 .0)
+    (at-at .at .result) (at-at2 .at2 .result) (at-hanging .hanging .result) (at-hanging2 .hanging2 .result) (at-bounded-sum .bounded-sum .result) (at-bounded-sum2 .bounded-sum2 .result) (at-bounded-sum3 .bounded-sum3 .result) (at-at .at .ensures) (at-at2 .at2 .ensures)
+    (at-hanging .hanging .ensures) (at-hanging2 .hanging2 .ensures) (at-bounded-sum .bounded-sum .ensures) (at-bounded-sum2 .bounded-sum2 .ensures) (at-move-on .move-on .ensures) (at-lay .lay .ensures) (at-bounded-sum3 .bounded-sum3 .ensures) (c .before .before .lay2 .ensures)
 
 pub weave-spec : {M : Type 1} → statement M
 weave-spec =

@@ -9,9 +9,19 @@ use Rattle.ring_order.proofs.ordered.Tie as tie
 
 returns : tie.Need-returns
 returns c =
-    let a = c .before .before .before .before .before .before .before .before .before .before .before .before .before .before .before .before .before .before .before .before .before .before .before .before .before .before .before .before .before .before .before .before .before .before .before .before .before .before .before .before .before .before .before .before .before .before .before .args in
-    ordered (sure (a .marks .now)) (a .units) (a .links) (a .ends .now) (a .i) (a .pos .now) (c .before .before .before .before .before .before .before .before .before .before .before .before .before .before .before .store .last .0) (c .before .before .before .before .before .before .before .before .before .before .before .store2 .last .0) (c .before .before .before .grow .last .1 .1 .1 .1 .1 .1 .1 .1 .1 .0) (c .before .before .before .before .before .before .before .before .before .before .before .before .before .before .before .before .before .before .before .before .before .before .before .before .before .before .before .before .before .before .before .before .before .before .before .before .before .before .before .before .before .before .before .end-a .result) (c .before .before .before .before .before .before .before .before .before .before .before .before .before .before .before .before .before .before .before .before .before .before .before .before .before .before .before .before .before .before .before .before .before .before .before .before .before .before .before .before .before .before .end-b .result) (c .before .before .before .before .before .before .before .before .before .before .before .before .before .before .before .before .before .before .before .before .before .before .before .before .before .before .before .before .span .result)
-    (c .before .before .before .before .before .before .before .before .before .before .before .before .before .before .before .before .before .before .before .before .before .before .before .before .before .before .before .before .before .before .before .before .before .before .blank .result) (c .before .before .before .before .before .before .before .before .before .before .before .before .before .before .before .before .before .before .before .before .before .before .before .before .before .before .before .before .before .before .before .before .before .zeros2 .result) (c .before .before .before .before .before .before .before .before .before .before .before .before .before .before .before .before .before .before .before .before .before .before .before .before .before .before .before .before .span .last .1 .1 .1 .1 .1 .1 .1 .0) (c .before .before .before .before .before .before .before .before .before .before .before .before .before .before .before .before .before .before .before .before .before .before .before .before .before .before .before .before .span .last .1 .1 .1 .1 .1 .1 .1 .1 .0) (c .before .before .before .before .before .before .before .before .before .before .before .before .before .before .before .before .before .zeros3 .result) (c .before .before .before .grow .last .1 .1 .1 .1 .1 .1 .1 .1 .1 .1 .0) (c .before .before .before .before .before .before .before .before .before .before .before .before .before .before .before .before .before .before .before .before .before .before .before .before .before .before .before .before .before .before .before .before .before .before .before .before .before .before .before .before .before .before .before .end-a .ensures) (c .before .before .before .before .before .before .before .before .before .before .before .before .before .before .before .before .before .before .before .before .before .before .before .before .before .before .before .before .before .before .before .before .before .before .before .before .before .before .before .before .before .before .end-b .ensures) (search (c .before .before .before .before .before .before .before .before .before .before .before .before .before .before .before .before .before .before .before .before .before .before .before .before .before .before .before .before .before .before .before .before .before .before .blank .ok, needs)) (c .before .before .before .before .before .before .before .before .before .before .before .before .before .before .before .before .before .before .before .before .before .before .before .before .before .before .before .before .before .before .before .before .before .before .blank .ensures) (search (c .before .before .before .before .before .before .before .before .before .before .before .before .before .before .before .before .before .before .before .before .before .before .before .before .before .before .before .before .before .before .before .before .before .zeros2 .ok, needs)) (c .before .before .before .before .before .before .before .before .before .before .before .before .before .before .before .before .before .before .before .before .before .before .before .before .before .before .before .before .span .ensures) (search (c .before .before .before .before .before .before .before .before .before .before .before .before .before .before .before .before .before .zeros3 .ok, needs)) (c .before .before .before .before .before .before .before .before .before .before .before .before .before .before .before .store .ensures) (c .before .before .before .before .before .before .before .before .before .before .before .store2 .ensures) (c .before .before .before .grow .ensures)
+    let at-grow = c .before .before .before in
+    let at-store2 = at-grow .before .before .before .before .before .before .before .before in
+    let at-store = at-store2 .before .before .before .before in
+    let at-zeros3 = at-store .before .before in
+    let at-span = at-zeros3 .before .before .before .before .before .before .before .before .before .before .before in
+    let at-zeros2 = at-span .before .before .before .before .before in
+    let at-blank = at-zeros2 .before in
+    let at-end-b = at-blank .before .before .before .before .before .before .before .before in
+    let at-end-a = at-end-b .before in
+    let start = at-end-a .before .before .before .before in
+    let a = start .args in
+    ordered (sure (a .marks .now)) (a .units) (a .links) (a .ends .now) (a .i) (a .pos .now) (at-store .store .last .0) (at-store2 .store2 .last .0) (at-grow .grow .last .1 .1 .1 .1 .1 .1 .1 .1 .1 .0) (at-end-a .end-a .result) (at-end-b .end-b .result) (at-span .span .result)
+    (at-blank .blank .result) (at-zeros2 .zeros2 .result) (at-span .span .last .1 .1 .1 .1 .1 .1 .1 .0) (at-span .span .last .1 .1 .1 .1 .1 .1 .1 .1 .0) (at-zeros3 .zeros3 .result) (at-grow .grow .last .1 .1 .1 .1 .1 .1 .1 .1 .1 .1 .0) (at-end-a .end-a .ensures) (at-end-b .end-b .ensures) (search (at-blank .blank .ok, needs)) (at-blank .blank .ensures) (search (at-zeros2 .zeros2 .ok, needs)) (at-span .span .ensures) (search (at-zeros3 .zeros3 .ok, needs)) (at-store .store .ensures) (at-store2 .store2 .ensures) (at-grow .grow .ensures)
 
 pub ordered-spec : {M : Type 1} → statement M
 ordered-spec =

@@ -14,15 +14,38 @@ returns c =
 
 returns-2 : tie.Need-returns-2
 returns-2 c =
-    let a = c .before .before .before .before .before .before .before .before .before .before .before .before .args in
-    told-none (sure (a .marks .now)) (a .units) (a .links) (a .ends .now) (a .i) (a .j) (a .out .now) (c .before .before .before .before .before .before .zeros .result) (c .before .before .before .before .ordered .last .1 .1 .1 .1 .1 .0) (sym (c .before .before .before .before .before .before .before .before .counts .ensures) ∙ not-false _ (c .before .before .before .before .before .before .before .if1 .left)) (search (c .before .before .before .before .before .before .zeros .ok, needs)) (c .before .before .before .before .before .before .zeros .ensures) (c .before .before .before .before .ordered .ensures) (c .before .second .result) (c .before .second .ensures) (c .if2 .taken)
+    let at-ordered = c .before .before .before .before in
+    let at-zeros = at-ordered .before .before in
+    let at-if1 = at-zeros .before in
+    let at-counts = at-if1 .before in
+    let start = at-counts .before .before .before .before in
+    let a = start .args in
+    told-none (sure (a .marks .now)) (a .units) (a .links) (a .ends .now) (a .i) (a .j) (a .out .now) (at-zeros .zeros .result) (at-ordered .ordered .last .1 .1 .1 .1 .1 .0) (sym (at-counts .counts .ensures) ∙ not-false _ (at-if1 .if1 .left)) (search (at-zeros .zeros .ok, needs)) (at-zeros .zeros .ensures) (at-ordered .ordered .ensures) (c .before .second .result) (c .before .second .ensures) (c .if2 .taken)
 
 returns-3 : tie.Need-returns-3
 returns-3 c =
-    let a = c .before .before .before .before .before .before .before .before .before .before .before .before .before .before .before .before .before .before .before .before .before .before .before .before .before .before .before .before .before .before .before .before .before .before .before .before .args in
-    told-ring (sure (a .marks .now)) (a .units) (a .links) (a .ends .now) (a .i) (a .j) (a .out .now) (c .before .before .before .before .before .before .before .before .before .before .before .before .before .before .before .before .before .before .before .before .before .before .before .before .before .before .before .before .before .before .zeros .result) (c .before .before .before .before .before .before .before .before .before .before .before .before .before .before .before .before .before .before .before .before .before .before .before .before .before .before .before .before .ordered .last .1 .1 .1 .1 .1 .0) (sym (c .before .before .before .before .before .before .before .before .before .before .before .before .before .before .before .before .before .before .before .before .before .before .before .before .before .before .before .before .before .before .before .before .counts .ensures) ∙ not-false _ (c .before .before .before .before .before .before .before .before .before .before .before .before .before .before .before .before .before .before .before .before .before .before .before .before .before .before .before .before .before .before .before .if1 .left)) (search (c .before .before .before .before .before .before .before .before .before .before .before .before .before .before .before .before .before .before .before .before .before .before .before .before .before .before .before .before .before .before .zeros .ok, needs)) (c .before .before .before .before .before .before .before .before .before .before .before .before .before .before .before .before .before .before .before .before .before .before .before .before .before .before .before .before .before .before .zeros .ensures) (c .before .before .before .before .before .before .before .before .before .before .before .before .before .before .before .before .before .before .before .before .before .before .before .before .before .before .before .before .ordered .ensures) (c .before .before .before .before .before .before .before .before .before .before .before .before .before .before .before .before .before .before .before .before .before .before .before .before .before .second .result) (c .before .before .before .before .before .before .before .before .before .before .before .before .before .before .before .before .before .before .before .before .before .before .before .before .before .second .ensures) (c .before .before .before .before .before .before .before .before .before .before .before .before .before .before .before .before .before .before .before .before .before .before .before .before .if2 .left)
-    (c .before .before .before .before .before .before .before .before .before .before .before .before .before .before .before .before .before .before .before .before .before .before .before .zeros2 .result) (c .before .before .before .before .before .before .before .before .before .before .before .before .before .before .before .before .before .before .before .before .before .before .zeros3 .result) (c .before .before .before .before .before .before .before .before .before .before .before .before .before .before .before .before .before .before .lean .last .1 .1 .1 .1 .0) (c .before .before .before .before .before .before .before .before .before .before .before .before .before .before .before .before .before .before .lean .last .1 .1 .1 .1 .1 .0) (search (c .before .before .before .before .before .before .before .before .before .before .before .before .before .before .before .before .before .before .before .before .before .before .before .zeros2 .ok, needs)) (search (c .before .before .before .before .before .before .before .before .before .before .before .before .before .before .before .before .before .before .before .before .before .before .zeros3 .ok, needs)) (c .before .before .before .before .before .before .before .before .before .before .before .before .before .before .before .before .before .before .lean .ensures) (c .before .before .before .before .before .before .before .before .before .before .before .before .before .before .before .end-a .result) (c .before .before .before .before .before .before .before .before .before .before .before .before .before .before .end-b .result) (c .before .before .before .before .before .before .before .before .before .before .before .before .at .result) (c .before .before .before .before .before .before .before .before .before .before .at2 .result) (c .before .before .before .before .before .before .before .before .before .choose .result) (c .before .before .before .before .before .before .before .before .choose2 .result) (c .before .before .before .before .before .end-a2 .result) (c .before .before .before .before .end-b2 .result) _
-    (c .before .before .before .before .before .before .before .before .before .before .before .before .before .before .before .end-a .ensures) (c .before .before .before .before .before .before .before .before .before .before .before .before .before .before .end-b .ensures) (c .before .before .before .before .before .before .before .before .before .before .before .before .at .ensures) (c .before .before .before .before .before .before .before .before .before .before .at2 .ensures) refl (c .before .before .before .before .before .before .before .before .before .choose .ensures) (c .before .before .before .before .before .before .before .before .choose2 .ensures) (c .before .before .before .before .before .end-a2 .ensures) (c .before .before .before .before .end-b2 .ensures) (c .before .before .close .last .1 .1 .1 .1 .1 .1 .1 .0) (c .before .before .close .result) (c .before .before .close .ensures)
+    let at-end-b2 = c .before .before .before .before in
+    let at-end-a2 = at-end-b2 .before in
+    let at-choose2 = at-end-a2 .before .before .before in
+    let at-choose = at-choose2 .before in
+    let at-at2 = at-choose .before in
+    let at-at = at-at2 .before .before in
+    let at-end-b = at-at .before .before in
+    let at-end-a = at-end-b .before in
+    let at-lean = at-end-a .before .before .before in
+    let at-zeros3 = at-lean .before .before .before .before in
+    let at-zeros2 = at-zeros3 .before in
+    let at-if2 = at-zeros2 .before in
+    let at-second = at-if2 .before in
+    let at-ordered = at-second .before .before .before in
+    let at-zeros = at-ordered .before .before in
+    let at-if1 = at-zeros .before in
+    let at-counts = at-if1 .before in
+    let start = at-counts .before .before .before .before in
+    let a = start .args in
+    told-ring (sure (a .marks .now)) (a .units) (a .links) (a .ends .now) (a .i) (a .j) (a .out .now) (at-zeros .zeros .result) (at-ordered .ordered .last .1 .1 .1 .1 .1 .0) (sym (at-counts .counts .ensures) ∙ not-false _ (at-if1 .if1 .left)) (search (at-zeros .zeros .ok, needs)) (at-zeros .zeros .ensures) (at-ordered .ordered .ensures) (at-second .second .result) (at-second .second .ensures) (at-if2 .if2 .left)
+    (at-zeros2 .zeros2 .result) (at-zeros3 .zeros3 .result) (at-lean .lean .last .1 .1 .1 .1 .0) (at-lean .lean .last .1 .1 .1 .1 .1 .0) (search (at-zeros2 .zeros2 .ok, needs)) (search (at-zeros3 .zeros3 .ok, needs)) (at-lean .lean .ensures) (at-end-a .end-a .result) (at-end-b .end-b .result) (at-at .at .result) (at-at2 .at2 .result) (at-choose .choose .result) (at-choose2 .choose2 .result) (at-end-a2 .end-a2 .result) (at-end-b2 .end-b2 .result) _
+    (at-end-a .end-a .ensures) (at-end-b .end-b .ensures) (at-at .at .ensures) (at-at2 .at2 .ensures) refl (at-choose .choose .ensures) (at-choose2 .choose2 .ensures) (at-end-a2 .end-a2 .ensures) (at-end-b2 .end-b2 .ensures) (c .before .before .close .last .1 .1 .1 .1 .1 .1 .1 .0) (c .before .before .close .result) (c .before .before .close .ensures)
 
 pub ring-spec : {M : Type 1} → statement M
 ring-spec =

@@ -34,7 +34,10 @@ round-requires c κs =
     (g .few, fit-within (a .units) (a .links) (a .ends .now) (search (c .round-arg .given, needs)) (g .fit))
 
 add-made : tie.Need-add-made Inv-loop μ-loop
-add-made c = omega (arith, go (c .before .before .before .before .before .before) .below, c .before .before .before .before .before .before .before .before .before .fits .budget)
+add-made c =
+    let start = c .before .before .before .before .before .before in
+    let start-9 = start .before .before .before in
+    omega (arith, go (start) .below, start-9 .fits .budget)
 
 loop-less : tie.Need-loop-less Inv-loop μ-loop
 loop-less c = omega (arith, go (c .before .before .before .before .before .before) .below)
@@ -42,11 +45,11 @@ loop-less c = omega (arith, go (c .before .before .before .before .before .befor
 loop-again : tie.Need-loop-again Inv-loop μ-loop
 unfolding one
 loop-again c =
-    let r = c .before .before .before .before in
-    let t = r .before .before in
+    let at-round = c .before .before .before .before in
+    let at-loop = at-round .before .before .before .before in
     let g = go t in (
-      search (r .round .ok, needs),
-      turns-on _ _ _ _ _ _ _ (t .before .before .loop .inv .1) (g .test) (rw (c .ticked .ensures, g .inside, c .before .ends .ensures, r .round .ensures)),
+      search (at-round .round .ok, needs),
+      turns-on _ _ _ _ _ _ _ (at-loop .loop .inv .1) (g .test) (rw (c .ticked .ensures, g .inside, c .before .ends .ensures, at-round .round .ensures)),
     )
 
 returns : tie.Need-returns Inv-loop μ-loop

@@ -31,9 +31,9 @@ sub-remaining c = omega (arith, go (c .before) .below)
 
 remaining-requires : tie.Need-remaining-requires Inv-loop μ-loop
 remaining-requires c κs =
-    let t = c .before in
+    let start = c .before .before .before .before .before .before .before .before .before in
     let g = go t in
-    (g .fit, g .inside, omega (arith, g .below, t .before .before .before .before .before .before .before .before .fits .budget))
+    (g .fit, g .inside, omega (arith, g .below, start .fits .budget))
 
 returns : tie.Need-returns Inv-loop μ-loop
 returns c =
@@ -42,16 +42,17 @@ returns c =
 
 round-requires : tie.Need-round-requires Inv-loop μ-loop
 round-requires c κs =
-    let t = c .before in
+    let at-links-fit-arg = c .before .before .before .before .before .before .before .before in
+    let start = at-links-fit-arg .before in
     let g = go t in
-    let lent = t .before .before .before .before .before .before .before in
-    let a = lent .before .args in
-    (g .few, fit-few (a .units) (a .links) (a .ends .now) (g .fit), fit-within (a .units) (a .links) (a .ends .now) (lent .links-fit-arg .given .0) (g .fit))
+    let a = start .args in
+    (g .few, fit-few (a .units) (a .links) (a .ends .now) (g .fit), fit-within (a .units) (a .links) (a .ends .now) (at-links-fit-arg .links-fit-arg .given .0) (g .fit))
 
 add-made : tie.Need-add-made Inv-loop μ-loop
 add-made c =
-    let t = c .before .before .before .before .before in
-    omega (arith, go t .below, t .before .before .before .before .before .before .before .before .fits .budget)
+    let at-below = c .before .before .before .before .before in
+    let start = at-below .before .before .before .before .before .before .before .before in
+    omega (arith, go at-below .below, start .fits .budget)
 
 loop-less : tie.Need-loop-less Inv-loop μ-loop
 loop-less c = omega (arith, go (c .before .before .before .before .before) .below)

@@ -23,12 +23,15 @@ scan-requires c κs = let p = parents (c .before) in (p .0, p .1 .0)
 
 next-by-requires : tie.Need-next-by-requires
 next-by-requires c κs =
-    let s = c .before .before .before .before .before .before .before .before in
-    let near = s .scan in
-    (parents (s .before .before), ((search (near .ok, needs), near .ensures .0), ((search (near .ok, needs), near .ensures .1 .0), (search (near .ok, needs), near .ensures .1 .1))))
+    let at-scan = c .before .before .before .before .before .before .before .before in
+    let start = at-scan .before .before in
+    let near = at-scan .scan in
+    (parents (start), ((search (near .ok, needs), near .ensures .0), ((search (near .ok, needs), near .ensures .1 .0), (search (near .ok, needs), near .ensures .1 .1))))
 
 returns-2 : tie.Need-returns-2
-returns-2 c = c .next-by .ensures ∙ sym (cond-true _ _ _ (passed (c .before .before .before .before .before .before .before .before .before .before .before)))
+returns-2 c =
+    let start = c .before .before .before .before .before .before .before .before .before .before .before in
+    c .next-by .ensures ∙ sym (cond-true _ _ _ (passed (start)))
 
 pub next-round-spec : {M : Type 1} → statement M
 next-round-spec =

@@ -29,12 +29,13 @@ full-sum c = c .before .entries-of-arg4 .given .0
 
 loop-again : tie.Need-loop-again Inv-loop μ-loop
 loop-again c =
-    let s = c .before .before .before in
-    let args = s .before .before .before .before .before .before .before .before .before .args in
+    let at-loop = c .before .before .before in
+    let start = at-loop .before .before .before .before .before .before .before .before .before in
+    let args = start .args in
     let jump = args .jump .now in
     let sum = args .sum .now in
-    let a = s .loop .a in
-    let inv = s .loop .inv in (
+    let a = at-loop .loop .a in
+    let inv = at-loop .loop .inv in (
       search needs,
       over-more a _ jump _ _ _ (inv .1) (jump-taken jump sum a (getD jump a 0) (getD sum a 0) refl refl _ refl (λ e. omega arith)) refl,
       over-more a _ sum _ _ _ (inv .2) (sum-taken jump sum a (getD jump a 0) (getD sum a 0) refl refl _ (c .bounded-sum .ensures) (λ e. omega arith)) refl,
@@ -42,25 +43,28 @@ loop-again c =
 
 loop-again-2 : tie.Need-loop-again-2 Inv-loop μ-loop
 loop-again-2 c =
-    let s = c .before .before .before .before in
-    let args = s .before .before .before .before .before .before .before .before .before .args in
+    let at-loop = c .before .before .before .before in
+    let start = at-loop .before in
+    let start-13 = start .before .before .before .before .before .before .before .before in
+    let args = start-13 .args in
     let jump = args .jump .now in
     let sum = args .sum .now in
-    let a = s .loop .a in
-    let inv = s .loop .inv in (
+    let a = at-loop .loop .a in
+    let inv = at-loop .loop .inv in (
       search needs,
-      over-more a _ jump _ _ _ (inv .1) (jump-past jump sum a (getD jump a 0) (getD sum a 0) refl refl (c .before .if2 .taken) (omega (arith, full-jump (s .before)))) refl,
-      over-more a _ sum _ _ _ (inv .2) (sum-past jump sum a (getD jump a 0) (getD sum a 0) refl refl (c .before .if2 .taken) (omega (arith, full-sum (s .before))) _ (c .bounded-sum2 .ensures)) refl,
+      over-more a _ jump _ _ _ (inv .1) (jump-past jump sum a (getD jump a 0) (getD sum a 0) refl refl (c .before .if2 .taken) (omega (arith, full-jump (start)))) refl,
+      over-more a _ sum _ _ _ (inv .2) (sum-past jump sum a (getD jump a 0) (getD sum a 0) refl refl (c .before .if2 .taken) (omega (arith, full-sum (start))) _ (c .bounded-sum2 .ensures)) refl,
     )
 
 loop-again-3 : tie.Need-loop-again-3 Inv-loop μ-loop
 loop-again-3 c =
-    let s = c .before .before .before in
-    let args = s .before .before .before .before .before .before .before .before .before .args in
+    let at-loop = c .before .before .before in
+    let start = at-loop .before .before .before .before .before .before .before .before .before in
+    let args = start .args in
     let jump = args .jump .now in
     let sum = args .sum .now in
-    let a = s .loop .a in
-    let inv = s .loop .inv in (
+    let a = at-loop .loop .a in
+    let inv = at-loop .loop .inv in (
       search needs,
       jump-stays jump sum a (getD jump a 0) (getD sum a 0) refl refl (c .if2 .left) _ (inv .1),
       sum-stays jump sum a (getD jump a 0) (getD sum a 0) refl refl (c .if2 .left) _ (inv .2),
@@ -69,14 +73,15 @@ loop-again-3 c =
 returns : tie.Need-returns Inv-loop μ-loop
 unfolding jumpRound sumRound
 returns c =
-    let s = c .before in
-    let a = s .before .before .before .before .before .before .before .before .before .args in
+    let at-entries-of = c .before .before .before .before .before in
+    let start = at-entries-of .before .before .before .before .before in
+    let a = start .args in
     let jump = a .jump .now in
     let sum = a .sum .now in
-    let ended : s .loop .a ≡ min (a .objects) 512
-    = omega (arith, s .loop .inv .0, c .loop-test .left, s .before .entries-of2 .ensures, s .before .before .before .before .entries-of .ensures, full-jump (s .before), full-sum (s .before)) in (
-      over-least (a .objects) 512 (jumpAfter jump) jump _ (omega (arith, full-jump (s .before))) (rw ended at (s .loop .inv .1)),
-      over-least (a .objects) 512 (sumAfter jump sum) sum _ (omega (arith, full-sum (s .before))) (rw ended at (s .loop .inv .2)),
+    let ended : c .before .loop .a ≡ min (a .objects) 512
+    = omega (arith, c .before .loop .inv .0, c .loop-test .left, c .before .before .entries-of2 .ensures, at-entries-of .entries-of .ensures, full-jump (c .before .before), full-sum (c .before .before)) in (
+      over-least (a .objects) 512 (jumpAfter jump) jump _ (omega (arith, full-jump (c .before .before))) (rw ended at (c .before .loop .inv .1)),
+      over-least (a .objects) 512 (sumAfter jump sum) sum _ (omega (arith, full-sum (c .before .before))) (rw ended at (c .before .loop .inv .2)),
     )
 
 pub double-spec : {M : Type 1} → statement M

@@ -26,7 +26,10 @@ loop-holds : tie.Need-loop-holds Inv-loop μ-loop
 loop-holds c = turns-begin _ _ _ _
 
 add-made : tie.Need-add-made Inv-loop μ-loop
-add-made c = omega (arith, go (c .before .before .before .before .before .before) .below, c .before .before .before .before .before .before .before .before .before .fits .budget)
+add-made c =
+    let start = c .before .before .before .before .before .before in
+    let start-9 = start .before .before .before in
+    omega (arith, go (start) .below, start-9 .fits .budget)
 
 loop-less : tie.Need-loop-less Inv-loop μ-loop
 loop-less c = omega (arith, go (c .before .before .before .before .before .before) .below)
@@ -34,13 +37,13 @@ loop-less c = omega (arith, go (c .before .before .before .before .before .befor
 loop-again : tie.Need-loop-again Inv-loop μ-loop
 unfolding one rankingEnds
 loop-again c =
-    let t = c .before .before .before in
-    let r = t .before in
-    let i = r .before .before in
+    let at-ticked = c .before .before .before in
+    let at-requests = at-ticked .before in
+    let at-loop = at-requests .before .before .before .before in
+    let start = at-loop .before in
     let g = go i in
-    let l = i .before .before in
-    let all : min (2 * l .before .args .units) 512 ≡ 2 * l .before .args .units = omega (arith, g .few) in
-    turns-on _ _ _ _ _ _ _ (l .loop .inv) (g .test) (rw (c .double .ensures .0, c .double .ensures .1, t .ticked .ensures, g .inside, r .requests .ensures, all))
+    let all : min (2 * start .args .units) 512 ≡ 2 * start .args .units = omega (arith, g .few) in
+    turns-on _ _ _ _ _ _ _ (at-loop .loop .inv) (g .test) (rw (c .double .ensures .0, c .double .ensures .1, at-ticked .ticked .ensures, g .inside, at-requests .requests .ensures, all))
 
 returns : tie.Need-returns Inv-loop μ-loop
 returns c = turns-over _ _ _ _ _ _ (c .before .before .loop .inv) (sym (c .before .goes-on .ensures) ∙ c .if1 .left)

@@ -31,8 +31,9 @@ mark-requires c κs = go (c .before .before .before .before .before .before) .fe
 
 add-made : tie.Need-add-made Inv-loop μ-loop
 add-made c =
-    let i = c .before .before .before .before .before .before .before in
-    omega (arith, go i .below, i .before .before .before .fits .budget)
+    let at-below = c .before .before .before .before .before .before .before in
+    let start = at-below .before .before .before in
+    omega (arith, go at-below .below, start .fits .budget)
 
 loop-less : tie.Need-loop-less Inv-loop μ-loop
 loop-less c = omega (arith, go (c .before .before .before .before .before .before .before) .below)
@@ -40,37 +41,42 @@ loop-less c = omega (arith, go (c .before .before .before .before .before .befor
 loop-again : tie.Need-loop-again Inv-loop μ-loop
 unfolding one
 loop-again c =
-    let t = c .before .before .before .before .before in
-    let i = t .before .before in
-    let l = i .before .before in
+    let at-if2 = c .before .before .before in
+    let at-ticked = at-if2 .before .before in
+    let at-loop = at-ticked .before .before .before .before in
     let g = go i in
-    let first = eq-eqb (l .loop .c .made) 0 (c .before .before .before .if2 .taken) in
-    turns-on _ _ _ _ _ _ _ (l .loop .inv) (g .test) (rw (c .mark .ensures, t .ticked .ensures, g .inside, first))
+    let first = eq-eqb (at-loop .loop .c .made) 0 (at-if2 .if2 .taken) in
+    turns-on _ _ _ _ _ _ _ (at-loop .loop .inv) (g .test) (rw (c .mark .ensures, at-ticked .ticked .ensures, g .inside, first))
 
 descend-requires : tie.Need-descend-requires Inv-loop μ-loop
 descend-requires c κs = go (c .before .before .before .before .before .before) .few
 
 second-requires : tie.Need-second-requires Inv-loop μ-loop
-second-requires c κs = go (c .before .before .before .before .before .before .before .before .before .before) .few
+second-requires c κs =
+    let start = c .before .before .before .before .before .before .before .before .before .before in
+    go (start) .few
 
 add-made-2 : tie.Need-add-made-2 Inv-loop μ-loop
 add-made-2 c =
-    let i = c .before .before .before .before .before .before .before .before .before .before .before in
-    omega (arith, go i .below, i .before .before .before .fits .budget)
+    let at-below = c .before .before .before .before .before .before .before .before .before .before .before in
+    let start = at-below .before .before .before in
+    omega (arith, go at-below .below, start .fits .budget)
 
 loop-less-2 : tie.Need-loop-less-2 Inv-loop μ-loop
-loop-less-2 c = omega (arith, go (c .before .before .before .before .before .before .before .before .before .before .before) .below)
+loop-less-2 c =
+    let start = c .before .before .before .before .before .before .before .before .before .before .before in
+    omega (arith, go (start) .below)
 
 loop-again-2 : tie.Need-loop-again-2 Inv-loop μ-loop
 unfolding one
 loop-again-2 c =
-    let d = c .before .before .before .before in
-    let t = d .before .before .before .before .before in
-    let i = t .before .before in
-    let l = i .before .before in
+    let at-descend = c .before .before .before .before in
+    let at-if2 = at-descend .before .before .before in
+    let at-ticked = at-if2 .before .before in
+    let at-loop = at-ticked .before .before .before .before in
     let g = go i in
-    let later = ne-eqb (l .loop .c .made) 0 (d .before .before .before .if2 .left) in
-    turns-on _ _ _ _ _ _ _ (l .loop .inv) (g .test) (rw (c .second .ensures .0, c .second .ensures .1, d .descend .ensures, t .ticked .ensures, g .inside, later))
+    let later = ne-eqb (at-loop .loop .c .made) 0 (at-if2 .if2 .left) in
+    turns-on _ _ _ _ _ _ _ (at-loop .loop .inv) (g .test) (rw (c .second .ensures .0, c .second .ensures .1, at-descend .descend .ensures, at-ticked .ticked .ensures, g .inside, later))
 
 returns : tie.Need-returns Inv-loop μ-loop
 returns c = turns-over _ _ _ _ _ _ (c .before .before .loop .inv) (sym (c .before .goes-on .ensures) ∙ c .if1 .left)

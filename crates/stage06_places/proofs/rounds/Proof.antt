@@ -31,25 +31,29 @@ number-if-requires c κs = go (c .before .before .before .before .before .before
 
 add-made : tie.Need-add-made Inv-loop μ-loop
 add-made c =
-    let i = c .before .before .before .before .before .before .before .before .before .before in
-    omega (arith, go i .below, i .before .before .before .fits .budget)
+    let at-below = c .before .before .before .before .before .before .before .before .before .before in
+    let start = at-below .before .before .before in
+    omega (arith, go at-below .below, start .fits .budget)
 
 loop-less : tie.Need-loop-less Inv-loop μ-loop
-loop-less c = omega (arith, go (c .before .before .before .before .before .before .before .before .before .before) .below)
+loop-less c =
+    let start = c .before .before .before .before .before .before .before .before .before .before in
+    omega (arith, go (start) .below)
 
 loop-again : tie.Need-loop-again Inv-loop μ-loop
 unfolding one rankingEnds
 loop-again c =
-    let p = c .before .before .before in
-    let t = p .before .before .before in
-    let r = t .before .before in
-    let i = r .before .before in
-    let l = i .before .before in
+    let at-number-if = c .before .before .before in
+    let at-ticked = at-number-if .before .before .before in
+    let at-is-last = at-ticked .before in
+    let at-requests = at-is-last .before in
+    let at-loop = at-requests .before .before .before .before in
+    let start = at-loop .before in
     let g = go i in
-    let few : min (l .before .args .units) 256 ≡ l .before .args .units = omega (arith, g .few) in
-    let all : min (2 * l .before .args .units) 512 ≡ 2 * l .before .args .units = omega (arith, g .few) in
-    let last = rw (few, r .requests .ensures, all) at (t .before .is-last .ensures) in
-    turns-on _ _ _ _ _ _ _ (l .loop .inv) (g .test) (rw (c .double .ensures .0, c .double .ensures .1, p .number-if .ensures, last, t .ticked .ensures, g .inside, r .requests .ensures, all))
+    let few : min (start .args .units) 256 ≡ start .args .units = omega (arith, g .few) in
+    let all : min (2 * start .args .units) 512 ≡ 2 * start .args .units = omega (arith, g .few) in
+    let last = rw (few, at-requests .requests .ensures, all) at (at-is-last .is-last .ensures) in
+    turns-on _ _ _ _ _ _ _ (at-loop .loop .inv) (g .test) (rw (c .double .ensures .0, c .double .ensures .1, at-number-if .number-if .ensures, last, at-ticked .ticked .ensures, g .inside, at-requests .requests .ensures, all))
 
 returns : tie.Need-returns Inv-loop μ-loop
 returns c = turns-over _ _ _ _ _ _ (c .before .before .loop .inv) (sym (c .before .goes-on .ensures) ∙ c .if1 .left)

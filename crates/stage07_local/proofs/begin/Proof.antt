@@ -32,40 +32,47 @@ locals-requires : tie.Need-locals-requires
 locals-requires c κs = (few (c .before .before .before), within (c .before .before .before))
 
 segments-begin-requires : tie.Need-segments-begin-requires
-segments-begin-requires c κs = few (c .before .before .before .before .before .before .before .before .before .before)
+segments-begin-requires c κs =
+    let start = c .before .before .before .before .before .before .before .before .before .before in
+    few (start)
 
 units-begin-requires : tie.Need-units-begin-requires
-units-begin-requires c κs = few (c .before .before .before .before .before .before .before .before .before .before .before .before .before .before .before .before .before)
+units-begin-requires c κs =
+    let start = c .before .before .before .before .before .before .before .before .before .before .before .before .before .before .before .before .before in
+    few (start)
 
 ends-begin-requires : tie.Need-ends-begin-requires
-ends-begin-requires c κs = few (c .before .before .before .before .before .before .before .before .before .before .before .before .before .before .before .before .before .before .before .before)
+ends-begin-requires c κs =
+    let start = c .before .before .before .before .before .before .before .before .before .before .before .before .before .before .before .before .before .before .before .before in
+    few (start)
 
 returns-2 : tie.Need-returns-2
 returns-2 c =
-    let u = c .before .before .before in
-    let g = u .before .before .before .before .before .before .before in
-    let l = g .before .before .before .before .before .before .before in
-    let f = l .before .before in
-    let e = f .before .before in
-    let a = e .before .before .before .before .args in
+    let at-units-begin = c .before .before .before in
+    let at-segments-begin = at-units-begin .before .before .before .before .before .before .before in
+    let at-locals = at-segments-begin .before .before .before .before .before .before .before in
+    let at-firsts = at-locals .before .before in
+    let at-firsts-arg = at-firsts .before in
+    let start = at-firsts-arg .before .before .before .before .before in
+    let a = start .args in
     let on = passed e in
-    let full = f .before .firsts-arg .given .0 in
+    let full = at-firsts-arg .firsts-arg .given .0 in
     let m = a .links in
-    let low = l .locals .result .low in
-    let high = l .locals .result .high in
-    let lows = local-all false (a .ends .now) (a .parent .now) (a .pre .now) m m low full (l .locals .ensures .0) (le-refl m) (le-refl m) in
-    let highs = local-all true (a .ends .now) (a .parent .now) (a .pre .now) m m high full (l .locals .ensures .1) (le-refl m) (le-refl m) in
-    let first = f .firsts .result in (
-      u .units-begin .ensures .0 ∙ range-first min (a .n) m (a .ends .now) (a .parent .now) (a .pre .now) first low (few e) (f .firsts .ensures) lows (a .nd .now) (a .low .now) ∙ sym (cond-true _ _ _ on),
+    let low = at-locals .locals .result .low in
+    let high = at-locals .locals .result .high in
+    let lows = local-all false (a .ends .now) (a .parent .now) (a .pre .now) m m low full (at-locals .locals .ensures .0) (le-refl m) (le-refl m) in
+    let highs = local-all true (a .ends .now) (a .parent .now) (a .pre .now) m m high full (at-locals .locals .ensures .1) (le-refl m) (le-refl m) in
+    let first = at-firsts .firsts .result in (
+      at-units-begin .units-begin .ensures .0 ∙ range-first min (a .n) m (a .ends .now) (a .parent .now) (a .pre .now) first low (few e) (at-firsts .firsts .ensures) lows (a .nd .now) (a .low .now) ∙ sym (cond-true _ _ _ on),
       (
-        u .units-begin .ensures .1 ∙ range-first max (a .n) m (a .ends .now) (a .parent .now) (a .pre .now) first high (few e) (f .firsts .ensures) highs (a .nd .now) (a .high .now) ∙ sym (cond-true _ _ _ on),
+        at-units-begin .units-begin .ensures .1 ∙ range-first max (a .n) m (a .ends .now) (a .parent .now) (a .pre .now) first high (few e) (at-firsts .firsts .ensures) highs (a .nd .now) (a .high .now) ∙ sym (cond-true _ _ _ on),
         (
           c .ends-begin .ensures .0 ∙ sym (cond-true _ _ _ on),
           (
             c .ends-begin .ensures .1 ∙ sym (cond-true _ _ _ on),
             (
-              g .segments-begin .ensures .0 ∙ global-first min (a .n) m (a .ends .now) (a .parent .now) (a .pre .now) first low (few e) (f .firsts .ensures) lows (a .least .now) ∙ sym (cond-true _ _ _ on),
-              g .segments-begin .ensures .1 ∙ global-first max (a .n) m (a .ends .now) (a .parent .now) (a .pre .now) first high (few e) (f .firsts .ensures) highs (a .greatest .now) ∙ sym (cond-true _ _ _ on),
+              at-segments-begin .segments-begin .ensures .0 ∙ global-first min (a .n) m (a .ends .now) (a .parent .now) (a .pre .now) first low (few e) (at-firsts .firsts .ensures) lows (a .least .now) ∙ sym (cond-true _ _ _ on),
+              at-segments-begin .segments-begin .ensures .1 ∙ global-first max (a .n) m (a .ends .now) (a .parent .now) (a .pre .now) first high (few e) (at-firsts .firsts .ensures) highs (a .greatest .now) ∙ sym (cond-true _ _ _ on),
             ),
           ),
         ),

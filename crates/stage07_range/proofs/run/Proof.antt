@@ -35,45 +35,53 @@ loop-holds : tie.Need-loop-holds Inv-loop μ-loop
 loop-holds c = turns-begin _ _ _ _
 
 add-made : tie.Need-add-made Inv-loop μ-loop
-add-made c = let i = c .before .before .before .before .before .before .before .before .before .before .before in omega (arith, go i .below, called i .fits .budget)
+add-made c =
+    let start = c .before .before .before .before .before .before .before .before .before .before .before in
+    let i = start in omega (arith, go i .below, called i .fits .budget)
 
 loop-less : tie.Need-loop-less Inv-loop μ-loop
-loop-less c = omega (arith, go (c .before .before .before .before .before .before .before .before .before .before .before) .below)
+loop-less c =
+    let start = c .before .before .before .before .before .before .before .before .before .before .before in
+    omega (arith, go (start) .below)
 
 loop-again : tie.Need-loop-again Inv-loop μ-loop
 unfolding rangeEnds
 loop-again c =
-    let e = c .before .before .before .before .before .before .before in
-    let t = e .before .before in
-    let i = t .before .before in
-    let l = i .before .before in
+    let at-if2 = c .before .before .before .before .before .before .before in
+    let at-ticked = at-if2 .before .before in
+    let at-loop = at-ticked .before .before .before .before in
+    let at-lg = at-loop .before in
     let g = go i in
     let made = c .begin .ensures in
     let fit = and-true _ _ (le-leb _ _ (g .few)) (g .fit) in
-    let clock = rw (g .inside, l .before .lg .ensures) at (t .ticked .ensures) in
-    turns-on _ _ _ _ _ _ _ (l .loop .inv) (g .test)
-    (begun _ _ _ _ _ _ _ _ _ _ _ _ _ _ (e .if2 .taken) (made .0 ∙ cond-true _ _ _ fit) (made .1 .0 ∙ cond-true _ _ _ fit) (made .1 .1 .0 ∙ cond-true _ _ _ fit)
+    let clock = rw (g .inside, at-lg .lg .ensures) at (at-ticked .ticked .ensures) in
+    turns-on _ _ _ _ _ _ _ (at-loop .loop .inv) (g .test)
+    (begun _ _ _ _ _ _ _ _ _ _ _ _ _ _ (at-if2 .if2 .taken) (made .0 ∙ cond-true _ _ _ fit) (made .1 .0 ∙ cond-true _ _ _ fit) (made .1 .1 .0 ∙ cond-true _ _ _ fit)
     (made .1 .1 .1 .0 ∙ cond-true _ _ _ fit) (made .1 .1 .1 .1 .0 ∙ cond-true _ _ _ fit) (made .1 .1 .1 .1 .1 ∙ cond-true _ _ _ fit) clock)
 
 add-made-2 : tie.Need-add-made-2 Inv-loop μ-loop
-add-made-2 c = let i = c .before .before .before .before .before .before .before .before .before .before .before .before in omega (arith, go i .below, called i .fits .budget)
+add-made-2 c =
+    let start = c .before .before .before .before .before .before .before .before .before .before .before .before in
+    let i = start in omega (arith, go i .below, called i .fits .budget)
 
 loop-less-2 : tie.Need-loop-less-2 Inv-loop μ-loop
-loop-less-2 c = omega (arith, go (c .before .before .before .before .before .before .before .before .before .before .before .before) .below)
+loop-less-2 c =
+    let start = c .before .before .before .before .before .before .before .before .before .before .before .before in
+    omega (arith, go (start) .below)
 
 loop-again-2 : tie.Need-loop-again-2 Inv-loop μ-loop
 unfolding rangeEnds
 loop-again-2 c =
-    let e = c .before .before .before .before .before .before .before .before in
-    let t = e .before .before in
-    let i = t .before .before in
-    let l = i .before .before in
+    let at-if2 = c .before .before .before .before .before .before .before .before in
+    let at-ticked = at-if2 .before .before in
+    let at-loop = at-ticked .before .before .before .before in
+    let at-lg = at-loop .before in
     let g = go i in
     let moved = c .double .ensures in
     let few = le-leb _ _ (g .few) in
-    let clock = rw (g .inside, l .before .lg .ensures) at (t .ticked .ensures) in
-    turns-on _ _ _ _ _ _ _ (l .loop .inv) (g .test)
-    (turned _ _ _ _ _ _ _ _ _ _ _ _ _ _ (e .if2 .left) (moved .0 ∙ cond-true _ _ _ few) (moved .1 .0 ∙ cond-true _ _ _ few) (moved .1 .1 .0 ∙ cond-true _ _ _ few)
+    let clock = rw (g .inside, at-lg .lg .ensures) at (at-ticked .ticked .ensures) in
+    turns-on _ _ _ _ _ _ _ (at-loop .loop .inv) (g .test)
+    (turned _ _ _ _ _ _ _ _ _ _ _ _ _ _ (at-if2 .if2 .left) (moved .0 ∙ cond-true _ _ _ few) (moved .1 .0 ∙ cond-true _ _ _ few) (moved .1 .1 .0 ∙ cond-true _ _ _ few)
     (moved .1 .1 .1 .0 ∙ cond-true _ _ _ few) (moved .1 .1 .1 .1 .0 ∙ cond-true _ _ _ few) (moved .1 .1 .1 .1 .1 ∙ cond-true _ _ _ few) clock)
 
 returns : tie.Need-returns Inv-loop μ-loop

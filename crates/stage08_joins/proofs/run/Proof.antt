@@ -34,7 +34,10 @@ link-joins-requires c κs =
     (g .few, fit-few (a .units) (a .links) (a .ends .now) (g .fit), fit-within (a .units) (a .links) (a .ends .now) (search needs) (g .fit))
 
 add-made : tie.Need-add-made Inv-loop μ-loop
-add-made c = omega (arith, go (c .before .before .before) .below, c .before .before .before .before .before .before .before .before .fits .budget)
+add-made c =
+    let start = c .before .before .before in
+    let start-8 = start .before .before .before .before .before in
+    omega (arith, go (start) .below, start-8 .fits .budget)
 
 loop-less : tie.Need-loop-less Inv-loop μ-loop
 loop-less c = omega (arith, go (c .before .before .before) .below)

@@ -25,8 +25,11 @@ returns c =
 returns-2 : tie.Need-returns-2
 unfolding reportAnswer
 returns-2 c =
-    let s = c .before .before .before .before .before .before .before .before .before .before .before .before .before .before .before .before .before .before .before .args in
-    let none = sym (told (c .before .before .before .before .before .before .before .before .before .before .before .before .before .before .before .before)) ∙ c .before .before .before .before .before .before .before .before .before .before .before .before .before .before .before .if1 .left in
+    let at-if1 = c .before .before .before .before .before .before .before .before .before .before .before .before .before .before .before in
+    let start = at-if1 .before in
+    let start-19 = start .before .before .before in
+    let s = start-19 .args in
+    let none = sym (told (start)) ∙ at-if1 .if1 .left in
     (answered-made _ _ _ _ none, c .before .before .report-lines .ensures ∙ reported-parts (of (s .t1)) (s .out .now) none)
 
 pub report-spec : {M : Type 1} → statement M

@@ -19,27 +19,38 @@ returns c = sym (kept-front (the (c .before .before .before)) (sym (c .before .f
 
 returns-2 : tie.Need-returns-2
 returns-2 c =
-    let v = c .before .before .before .before .before .before .before .before .before in
-    let n3 = v .before .before in
-    let n2 = n3 .before .before .before .before .before in
-    let n1 = n2 .before .before .before .before .before in
-    let number = n1 .before .before .before .before .before .numbers .ensures in
-    let d = n1 .before .before .before .before .before .before in
-    let l = d .before .before in
-    let a = l .before .before in
-    let arc = a .before .before .before .before in
-    let f = arc .before in
-    let w = f .before .before .before .before .before .before in
-    let e = w .before .before in
-    let unit = e .before .before .names .ensures in
-    let t = e .before .before .before in
-    kept-parts (the (t .before .before .before)) _ _ _ _ _ _ _ _ _ _ _ _ _ _ _ _ _ _ _
-    (sym (t .before .front-ok .ensures) ∙ not-false _ (t .if1 .left))
-    (e .within .ensures _ unit) (f .both .ensures ∙ ap₂ _&&_ (w .within2 .ensures _ unit) (f .before .four-ok .ensures _ unit))
-    (a .three-ok .ensures _ (arc .names2 .ensures)) (l .names-ok .ensures) (d .dists-ok .ensures)
-    (n1 .four-ok2 .ensures _ number) (n2 .four-ok3 .ensures _ number) (n3 .four-ok4 .ensures _ number) (v .all-in-range .ensures) refl
-    (c .before .before .before .before .before .before .before .before .both2 .ensures) (c .before .before .before .before .before .before .before .both3 .ensures) (c .before .before .before .before .before .before .both4 .ensures) (c .before .before .before .before .before .both5 .ensures)
-    (c .before .before .before .before .both6 .ensures) (c .before .before .before .both7 .ensures) (c .before .before .both8 .ensures) (c .before .both9 .ensures) (c .both10 .ensures)
+    let at-both7 = c .before .before .before in
+    let at-both6 = at-both7 .before in
+    let at-both5 = at-both6 .before in
+    let at-both4 = at-both5 .before in
+    let at-both3 = at-both4 .before in
+    let at-both2 = at-both3 .before in
+    let at-all-in-range = at-both2 .before in
+    let at-four-ok4 = at-all-in-range .before .before in
+    let at-four-ok3 = at-four-ok4 .before .before .before .before .before in
+    let at-four-ok2 = at-four-ok3 .before .before .before .before .before in
+    let at-numbers = at-four-ok2 .before .before .before .before .before in
+    let at-dists-ok = at-numbers .before in
+    let at-names-ok = at-dists-ok .before .before in
+    let at-three-ok = at-names-ok .before .before in
+    let at-names2 = at-three-ok .before .before .before .before in
+    let at-both = at-names2 .before in
+    let at-four-ok = at-both .before in
+    let at-within2 = at-four-ok .before .before .before .before .before in
+    let at-within = at-within2 .before .before in
+    let at-names = at-within .before .before in
+    let at-if1 = at-names .before in
+    let at-front-ok = at-if1 .before in
+    let start = at-front-ok .before .before in
+    let number = at-numbers .numbers .ensures in
+    let unit = at-names .names .ensures in
+    kept-parts (the (start)) _ _ _ _ _ _ _ _ _ _ _ _ _ _ _ _ _ _ _
+    (sym (at-front-ok .front-ok .ensures) ∙ not-false _ (at-if1 .if1 .left))
+    (at-within .within .ensures _ unit) (at-both .both .ensures ∙ ap₂ _&&_ (at-within2 .within2 .ensures _ unit) (at-four-ok .four-ok .ensures _ unit))
+    (at-three-ok .three-ok .ensures _ (at-names2 .names2 .ensures)) (at-names-ok .names-ok .ensures) (at-dists-ok .dists-ok .ensures)
+    (at-four-ok2 .four-ok2 .ensures _ number) (at-four-ok3 .four-ok3 .ensures _ number) (at-four-ok4 .four-ok4 .ensures _ number) (at-all-in-range .all-in-range .ensures) refl
+    (at-both2 .both2 .ensures) (at-both3 .both3 .ensures) (at-both4 .both4 .ensures) (at-both5 .both5 .ensures)
+    (at-both6 .both6 .ensures) (at-both7 .both7 .ensures) (c .before .before .both8 .ensures) (c .before .both9 .ensures) (c .both10 .ensures)
 
 pub kept-spec : {M : Type 1} → statement M
 kept-spec =

@@ -15,17 +15,31 @@ returns c =
 
 returns-2 : tie.Need-returns-2
 returns-2 c =
-    let a = c .before .before .before .before .before .before .before .before .before .before .before .before .args in
-    let w = c .before .before .before .write in
-    let long : length (a .t1 .table .ends) ≡ 2048 = search (c .before .before .before .before .write-arg3 .given, c .before .before .before .before .before .write-arg2 .given, c .before .before .before .before .before .before .write-arg .given, needs) in
-    told-refused (of (a .t1)) (a .pairs .now) (a .out .now) (w .result) _ (sym (c .before .before .before .before .before .before .before .before .before .early-refusal .ensures) ∙ c .before .before .before .before .before .before .before .before .if1 .left) long (w .ensures .0) (w .ensures .1) (c .if2 .taken)
+    let at-write = c .before .before .before in
+    let at-write-arg3 = at-write .before in
+    let at-write-arg2 = at-write-arg3 .before in
+    let at-write-arg = at-write-arg2 .before in
+    let at-if1 = at-write-arg .before .before in
+    let at-early-refusal = at-if1 .before in
+    let start = at-early-refusal .before .before .before in
+    let a = start .args in
+    let w = at-write .write in
+    let long : length (a .t1 .table .ends) ≡ 2048 = search (at-write-arg3 .write-arg3 .given, at-write-arg2 .write-arg2 .given, at-write-arg .write-arg .given, needs) in
+    told-refused (of (a .t1)) (a .pairs .now) (a .out .now) (w .result) _ (sym (at-early-refusal .early-refusal .ensures) ∙ at-if1 .if1 .left) long (w .ensures .0) (w .ensures .1) (c .if2 .taken)
 
 returns-3 : tie.Need-returns-3
 returns-3 c =
-    let a = c .before .before .before .before .before .before .before .before .before .before .before .before .args in
-    let w = c .before .before .before .write in
-    let long : length (a .t1 .table .ends) ≡ 2048 = search (c .before .before .before .before .write-arg3 .given, c .before .before .before .before .before .write-arg2 .given, c .before .before .before .before .before .before .write-arg .given, needs) in
-    told-lifted (of (a .t1)) (a .pairs .now) (a .out .now) (w .result) _ (sym (c .before .before .before .before .before .before .before .before .before .early-refusal .ensures) ∙ c .before .before .before .before .before .before .before .before .if1 .left) long (w .ensures .0) (w .ensures .1) (c .if2 .left)
+    let at-write = c .before .before .before in
+    let at-write-arg3 = at-write .before in
+    let at-write-arg2 = at-write-arg3 .before in
+    let at-write-arg = at-write-arg2 .before in
+    let at-if1 = at-write-arg .before .before in
+    let at-early-refusal = at-if1 .before in
+    let start = at-early-refusal .before .before .before in
+    let a = start .args in
+    let w = at-write .write in
+    let long : length (a .t1 .table .ends) ≡ 2048 = search (at-write-arg3 .write-arg3 .given, at-write-arg2 .write-arg2 .given, at-write-arg .write-arg .given, needs) in
+    told-lifted (of (a .t1)) (a .pairs .now) (a .out .now) (w .result) _ (sym (at-early-refusal .early-refusal .ensures) ∙ at-if1 .if1 .left) long (w .ensures .0) (w .ensures .1) (c .if2 .left)
 
 pub lift-spec : {M : Type 1} → statement M
 lift-spec =

@@ -28,11 +28,17 @@ returns c =
 returns-2 : tie.Need-returns-2
 unfolding reportAnswer
 returns-2 c =
-    let o = c .before .before .before .before .before .before .before .before .before .before .before .before .before .before .before .before .before .before .before in
-    let r = o .before .before .before .before .before in
-    let a = r .before .before .before .before .before .args in
-    let none = sym (told r) ∙ o .before .before .before .before .if1 .left in
-    (rw none refl, rw (o .order-at .ensures, o .before .tree-at .ensures, o .before .before .components-at .ensures, o .before .before .before .labels-at .ensures, r .before .before .clock-at .ensures, r .before .before .before .table-at .ensures) at (c .before .before .report-lines .ensures) ∙ reported-parts (stateOf (a .state .now)) (a .out .now) none)
+    let at-order-at = c .before .before .before .before .before .before .before .before .before .before .before .before .before .before .before .before .before .before .before in
+    let at-tree-at = at-order-at .before in
+    let at-components-at = at-tree-at .before in
+    let at-labels-at = at-components-at .before in
+    let at-if1 = at-labels-at .before in
+    let at-clock-at = at-if1 .before .before .before in
+    let at-table-at = at-clock-at .before in
+    let start = at-table-at .before .before in
+    let a = start .args in
+    let none = sym (told r) ∙ at-if1 .if1 .left in
+    (rw none refl, rw (at-order-at .order-at .ensures, at-tree-at .tree-at .ensures, at-components-at .components-at .ensures, at-labels-at .labels-at .ensures, at-clock-at .clock-at .ensures, at-table-at .table-at .ensures) at (c .before .before .report-lines .ensures) ∙ reported-parts (stateOf (a .state .now)) (a .out .now) none)
 
 pub report-spec : {M : Type 1} → statement M
 report-spec =

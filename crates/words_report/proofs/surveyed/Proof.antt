@@ -30,7 +30,10 @@ accepted : (e : tie.Else2) → storedLoadRefusal (taken (e .before)) ≡ 0
 accepted e = sym (told (e .before)) ∙ e .if2 .left
 
 fits-in : (c : tie.Else3) → length (taken (c .before .before .before .before .before .before .before .before .before .before) .words) ≤ 2048
-fits-in c = passed-fits (taken (c .before .before .before .before .before .before .before .before .before .before) .units) _ _ (accepted (c .before .before .before .before .before .before .before .before .before)) .0
+fits-in c =
+    let start = c .before .before .before .before .before .before .before .before .before in
+    let start-10 = start .before in
+    passed-fits (taken (start-10) .units) _ _ (accepted (start)) .0
 
 -- the words after the run are the survey
 ended : (r : tie.After-run) → stateOf (r .run .last .0) ≡ surveyed (taken (r .before .before .before .before))
@@ -56,10 +59,13 @@ returns-2 c =
 
 returns-3 : tie.Need-returns-3
 returns-3 c =
-    let e = c .before .before .before .before .before .before .before .before .before in
-    let told = rw (ended (c .before .before .before .before .before .before)) at (c .before .before .before .report .ensures .0) in
-    rw (read-taken _ (taken (e .before)) (e .before .before .before .if1 .left))
-    (report-none (taken (e .before)) (accepted e) _ (λ z. c .if3 .taken (told ∙ z)), laid (c .before .before .before))
+    let at-report = c .before .before .before in
+    let start = at-report .before .before .before in
+    let start-10 = start .before .before .before .before in
+    let at-if1 = start-10 .before .before in
+    let told = rw (ended (start)) at (at-report .report .ensures .0) in
+    rw (read-taken _ (taken (start-10)) (at-if1 .if1 .left))
+    (report-none (taken (start-10)) (accepted e) _ (λ z. c .if3 .taken (told ∙ z)), laid (at-report))
 
 cast-result : tie.Need-cast-result
 cast-result c = omega (arith, fits-in c)
@@ -72,10 +78,13 @@ add-result-2 c = omega (arith, fits-in c)
 
 returns-4 : tie.Need-returns-4
 returns-4 c =
-    let e = c .before .before .before .before .before .before .before .before .before in
-    let told = rw (ended (c .before .before .before .before .before .before)) at (c .before .before .before .report .ensures .0) in
-    rw (read-taken _ (taken (e .before)) (e .before .before .before .if1 .left))
-    (report-all (taken (e .before)) (accepted e) _ (sym told ∙ c .if3 .left), laid (c .before .before .before))
+    let at-report = c .before .before .before in
+    let start = at-report .before .before .before in
+    let start-10 = start .before .before .before .before in
+    let at-if1 = start-10 .before .before in
+    let told = rw (ended (start)) at (at-report .report .ensures .0) in
+    rw (read-taken _ (taken (start-10)) (at-if1 .if1 .left))
+    (report-all (taken (start-10)) (accepted e) _ (sym told ∙ c .if3 .left), laid (at-report))
 
 pub surveyed-spec : {M : Type 1} → statement M
 surveyed-spec =

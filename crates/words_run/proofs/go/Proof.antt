@@ -32,29 +32,33 @@ tree : (c : tie.After-tree-stage Inv-loop μ-loop)
     → (let l = c .before .before .before .before .before .before .before .before in
     Going (l .before .args .budget) (stateOf (l .before .args .words .now)) (l .loop .made + c .tree-stage .result) (stateOf (c .tree-stage .last .0)) × (1 ≤ c .tree-stage .result))
 tree c =
-    let i = c .before .before .before .before .before .before .before in
-    c .tree-stage .ensures _ _ _ (i .before .loop .inv) (i .loop-test .taken) refl
+    let at-loop-test = c .before .before .before .before .before .before .before in
+    let at-loop = at-loop-test .before in
+    c .tree-stage .ensures _ _ _ (at-loop .loop .inv) (at-loop-test .loop-test .taken) refl
 
 classes : (c : tie.After-classes-stage Inv-loop μ-loop)
     → (let l = c .before .before .before .before .before .before .before .before .before in
     Going (l .before .args .budget) (stateOf (l .before .args .words .now)) (l .loop .made + c .classes-stage .result) (stateOf (c .classes-stage .last .0)) × (1 ≤ c .classes-stage .result))
 classes c =
-    let i = c .before .before .before .before .before .before .before .before in
-    c .classes-stage .ensures _ _ _ (i .before .loop .inv) (i .loop-test .taken) refl
+    let at-loop-test = c .before .before .before .before .before .before .before .before in
+    let at-loop = at-loop-test .before in
+    c .classes-stage .ensures _ _ _ (at-loop .loop .inv) (at-loop-test .loop-test .taken) refl
 
 early : (c : tie.After-rounds Inv-loop μ-loop)
     → (let l = c .before .before .before .before .before .before .before .before .before .before in
     Going (l .before .args .budget) (stateOf (l .before .args .words .now)) (l .loop .made + c .rounds .result) (stateOf (c .rounds .last .1 .0)) × (1 ≤ c .rounds .result))
 early c =
-    let i = c .before .before .before .before .before .before .before .before .before in
-    c .rounds .ensures _ _ _ (i .before .loop .inv) (i .loop-test .taken) refl
+    let at-loop-test = c .before .before .before .before .before .before .before .before .before in
+    let at-loop = at-loop-test .before in
+    c .rounds .ensures _ _ _ (at-loop .loop .inv) (at-loop-test .loop-test .taken) refl
 
 late : (c : tie.After-rounds2 Inv-loop μ-loop)
     → (let l = c .before .before .before .before .before .before .before .before .before .before in
     Going (l .before .args .budget) (stateOf (l .before .args .words .now)) (l .loop .made + c .rounds2 .result) (stateOf (c .rounds2 .last .1 .0)) × (1 ≤ c .rounds2 .result))
 late c =
-    let i = c .before .before .before .before .before .before .before .before .before in
-    c .rounds2 .ensures _ _ _ (i .before .loop .inv) (i .loop-test .taken) refl
+    let at-loop-test = c .before .before .before .before .before .before .before .before .before in
+    let at-loop = at-loop-test .before in
+    c .rounds2 .ensures _ _ _ (at-loop .loop .inv) (at-loop-test .loop-test .taken) refl
 
 loop-holds : tie.Need-loop-holds Inv-loop μ-loop
 loop-holds c = begins _ _ (c .pre)
@@ -74,8 +78,9 @@ components-stage-requires c κs =
 
 add-made : tie.Need-add-made Inv-loop μ-loop
 add-made c =
+    let start = c .before .before .before .before .before .before .before .before in
     let m = components c in
-    omega (arith, m .0 .within, c .before .before .before .before .before .before .before .before .fits .budget)
+    omega (arith, m .0 .within, start .fits .budget)
 
 loop-less : tie.Need-loop-less Inv-loop μ-loop
 loop-less c =
@@ -94,8 +99,9 @@ tree-stage-requires c κs =
 
 add-made-2 : tie.Need-add-made-2 Inv-loop μ-loop
 add-made-2 c =
+    let start = c .before .before .before .before .before .before .before .before .before in
     let m = tree c in
-    omega (arith, m .0 .within, c .before .before .before .before .before .before .before .before .before .fits .budget)
+    omega (arith, m .0 .within, start .fits .budget)
 
 loop-less-2 : tie.Need-loop-less-2 Inv-loop μ-loop
 loop-less-2 c =
@@ -106,7 +112,9 @@ loop-again-2 : tie.Need-loop-again-2 Inv-loop μ-loop
 loop-again-2 c = tree c .0
 
 sub-classes-stage : tie.Need-sub-classes-stage Inv-loop μ-loop
-sub-classes-stage c = omega (arith, c .before .before .before .before .before .before .before .before .loop .inv .within)
+sub-classes-stage c =
+    let at-loop = c .before .before .before .before .before .before .before .before in
+    omega (arith, at-loop .loop .inv .within)
 
 classes-stage-requires : tie.Need-classes-stage-requires Inv-loop μ-loop
 classes-stage-requires c κs =
@@ -114,8 +122,9 @@ classes-stage-requires c κs =
 
 add-made-3 : tie.Need-add-made-3 Inv-loop μ-loop
 add-made-3 c =
+    let start = c .before .before .before .before .before .before .before .before .before .before in
     let m = classes c in
-    omega (arith, m .0 .within, c .before .before .before .before .before .before .before .before .before .before .fits .budget)
+    omega (arith, m .0 .within, start .fits .budget)
 
 loop-less-3 : tie.Need-loop-less-3 Inv-loop μ-loop
 loop-less-3 c =
@@ -126,18 +135,23 @@ loop-again-3 : tie.Need-loop-again-3 Inv-loop μ-loop
 loop-again-3 c = classes c .0
 
 sub-rounds : tie.Need-sub-rounds Inv-loop μ-loop
-sub-rounds c = omega (arith, c .before .before .before .before .before .before .before .before .before .loop .inv .within)
+sub-rounds c =
+    let at-loop = c .before .before .before .before .before .before .before .before .before in
+    omega (arith, at-loop .loop .inv .within)
 
 rounds-requires : tie.Need-rounds-requires Inv-loop μ-loop
 rounds-requires c κs =
-    let k = c .before .before .before .before .before .before in
-    let from = rw (shown k) at (kept-exact _ .0 (k .before .before .before .loop .inv .well) .from) in
-    (shown k, (omega (arith, from, c .before .before .before .if3 .left, c .before .before .before .before .if2 .left), omega (arith, c .before .if5 .taken)))
+    let at-if3 = c .before .before .before in
+    let at-if2 = at-if3 .before in
+    let at-loop = at-if2 .before .before .before .before .before in
+    let from = rw (shown k) at (kept-exact _ .0 (at-loop .loop .inv .well) .from) in
+    (shown k, (omega (arith, from, at-if3 .if3 .left, at-if2 .if2 .left), omega (arith, c .before .if5 .taken)))
 
 add-made-4 : tie.Need-add-made-4 Inv-loop μ-loop
 add-made-4 c =
+    let start = c .before .before .before .before .before .before .before .before .before .before .before in
     let m = early c in
-    omega (arith, m .0 .within, c .before .before .before .before .before .before .before .before .before .before .before .fits .budget)
+    omega (arith, m .0 .within, start .fits .budget)
 
 loop-less-4 : tie.Need-loop-less-4 Inv-loop μ-loop
 loop-less-4 c =
@@ -148,7 +162,9 @@ loop-again-4 : tie.Need-loop-again-4 Inv-loop μ-loop
 loop-again-4 c = early c .0
 
 sub-rounds-2 : tie.Need-sub-rounds-2 Inv-loop μ-loop
-sub-rounds-2 c = omega (arith, c .before .before .before .before .before .before .before .before .before .loop .inv .within)
+sub-rounds-2 c =
+    let at-loop = c .before .before .before .before .before .before .before .before .before in
+    omega (arith, at-loop .loop .inv .within)
 
 rounds-requires-2 : tie.Need-rounds-requires-2 Inv-loop μ-loop
 rounds-requires-2 c κs =
@@ -157,8 +173,9 @@ rounds-requires-2 c κs =
 
 add-made-5 : tie.Need-add-made-5 Inv-loop μ-loop
 add-made-5 c =
+    let start = c .before .before .before .before .before .before .before .before .before .before .before in
     let m = late c in
-    omega (arith, m .0 .within, c .before .before .before .before .before .before .before .before .before .before .before .fits .budget)
+    omega (arith, m .0 .within, start .fits .budget)
 
 loop-less-5 : tie.Need-loop-less-5 Inv-loop μ-loop
 loop-less-5 c =

@@ -22,8 +22,11 @@ same-length c = simp length-set (search needs)
 
 returns-3 : tie.Need-returns-3
 returns-3 c =
-    let a = c .before .before .before .before .before .before .before .before .before .before .before .before .before .args in
-    rw (c .before .before .put-byte .ensures, c .before .before .before .before .before .before .before .put-bytes .ensures, c .before .before .before .check-byte .ensures)
+    let at-check-byte = c .before .before .before in
+    let at-put-bytes = at-check-byte .before .before .before .before in
+    let start = at-put-bytes .before .before .before .before .before .before in
+    let a = start .args in
+    rw (c .before .before .put-byte .ensures, at-put-bytes .put-bytes .ensures, at-check-byte .check-byte .ensures)
     (line-laid (a .body .now) (a .out .now) (omega arith))
 
 pub write-spec : {M : Type 1} → statement M

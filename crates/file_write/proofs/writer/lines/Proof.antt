@@ -6,9 +6,11 @@ use Rattle.file_write.proofs.writer.lines.Tie as tie
 
 returns : tie.Need-returns
 returns c =
-    let s = c .before .before .before .before .before .before .before .before .before .before .before .before .before .before in
-    rw (c .before .before .one-number2 .ensures, c .before .before .before .before .before .before .link-lines .ensures, c .before .before .before .before .before .before .before .before .before .before .one-number .ensures)
-    (file-laid (s .args .units) (s .args .words .now) (s .args .levels .now) (s .args .out .now) (s .pre .0 .one) (s .pre .1))
+    let at-link-lines = c .before .before .before .before .before .before in
+    let at-one-number = at-link-lines .before .before .before .before in
+    let start = at-one-number .before .before .before .before in
+    rw (c .before .before .one-number2 .ensures, at-link-lines .link-lines .ensures, at-one-number .one-number .ensures)
+    (file-laid (start .args .units) (start .args .words .now) (start .args .levels .now) (start .args .out .now) (start .pre .0 .one) (start .pre .1))
 
 pub lines-spec : {M : Type 1} → statement M
 lines-spec =

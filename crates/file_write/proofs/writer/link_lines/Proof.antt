@@ -31,15 +31,21 @@ loop-holds c = (omega arith, refl, start (c .before .before .args .out .now))
 
 loop-again : tie.Need-loop-again Inv-loop μ-loop
 loop-again c =
-    let l = c .before .before .before .before .before .before .before .before .before in
-    let a = l .before .before .before .args in
-    let z = getD (a .levels .now) (l .loop .j) (pos 0) in
-    let p = l .before .before .before .pre in
-    let byte = c .before .before .before .before .byte-of .ensures ∙ ap levelByte (toZ-ofZ w16 z (record { sfits = c .before .before .before .before .before .level .given })) in (
-      omega (arith, p .0 .one, c .before .before .before .before .before .before .before .before .loop-test .taken),
+    let at-byte-of = c .before .before .before .before in
+    let at-level = at-byte-of .before in
+    let at-word2 = at-level .before in
+    let at-word = at-word2 .before in
+    let at-loop-test = at-word .before in
+    let at-loop = at-loop-test .before in
+    let start = at-loop .before .before .before in
+    let a = start .args in
+    let z = getD (a .levels .now) (at-loop .loop .j) (pos 0) in
+    let p = start .pre in
+    let byte = at-byte-of .byte-of .ensures ∙ ap levelByte (toZ-ofZ w16 z (record { sfits = at-level .level .given })) in (
+      omega (arith, p .0 .one, at-loop-test .loop-test .taken),
       search needs,
-      rw (c .before .before .two-numbers-and-byte .ensures, c .before .before .before .before .before .before .before .word .ensures, c .before .before .before .before .before .before .word2 .ensures, byte, l .loop .inv .2)
-          (lines-next (a .words .now) (a .levels .now) (a .out .now) (l .loop .j) (p .0 .one) (omega (arith, p .0 .one, c .before .before .before .before .before .before .before .before .loop-test .taken)) (omega (arith, p .1))),
+      rw (c .before .before .two-numbers-and-byte .ensures, at-word .word .ensures, at-word2 .word2 .ensures, byte, at-loop .loop .inv .2)
+          (lines-next (a .words .now) (a .levels .now) (a .out .now) (at-loop .loop .j) (p .0 .one) (omega (arith, p .0 .one, at-loop-test .loop-test .taken)) (omega (arith, p .1))),
     )
 
 returns : tie.Need-returns Inv-loop μ-loop

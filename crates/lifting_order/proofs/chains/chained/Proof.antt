@@ -18,13 +18,18 @@ loop-holds c = (search needs, search needs, search needs, chained-none _ _ _ (c 
 
 loop-again : tie.Need-loop-again Inv-loop μ-loop
 loop-again c =
-    let s = c .before .before .before .before .before .before .before .before .before .before in
-    let b = c .before .before .before .before .before .before .before .before .before .before .before .before .before .before in (
+    let at-put = c .before .before .before .before in
+    let at-word2 = at-put .before .before in
+    let at-word = at-word2 .before .before in
+    let at-loop-test = at-word .before in
+    let at-loop = at-loop-test .before in
+    let start = at-loop .before .before .before .before in
+    let b = start in (
       search needs,
       search needs,
       search needs,
-      chained-more (b .args .t .now) (s .loop .last) (s .loop .next) _ _ (s .loop .i) (b .pre) (c .before .before .before .before .before .before .before .before .before .loop-test .taken) (s .loop .inv .1) (s .loop .inv .2) (s .loop .inv .3)
-          (rw (c .before .before .before .before .before .before .word2 .ensures, c .before .before .before .before .before .before .before .before .word .ensures) at (c .before .before .before .before .put .ensures)) (rw (c .before .before .before .before .before .before .before .before .word .ensures) at (c .before .put2 .ensures)),
+      chained-more (b .args .t .now) (at-loop .loop .last) (at-loop .loop .next) _ _ (at-loop .loop .i) (b .pre) (at-loop-test .loop-test .taken) (at-loop .loop .inv .1) (at-loop .loop .inv .2) (at-loop .loop .inv .3)
+          (rw (at-word2 .word2 .ensures, at-word .word .ensures) at (at-put .put .ensures)) (rw (at-word .word .ensures) at (c .before .put2 .ensures)),
     )
 
 returns : tie.Need-returns Inv-loop μ-loop

@@ -22,24 +22,32 @@ loop-holds c =
 
 loop-less : tie.Need-loop-less Inv-loop μ-loop
 loop-less c =
-    let s = c .before .before .before .before .before .before .before .before .before .before .before .before in
-    let b = s .before .before .before .before .before .before in
-    let a = b .args in
-    along-less (a .t .now) (a .v) (acts (a .t .now) (does (a .mark))) (a .last .now) (a .next .now) (b .pre .1) (s .loop .c) (c .word4 .result) (a .x .now) (s .loop .x)
-    (c .before .before .before .before .before .before .before .before .before .before .before .loop-test .taken) (s .loop .inv .1) (c .word4 .ensures)
+    let at-loop-test = c .before .before .before .before .before .before .before .before .before .before .before in
+    let at-loop = at-loop-test .before in
+    let start = at-loop .before .before .before .before .before .before in
+    let a = start .args in
+    along-less (a .t .now) (a .v) (acts (a .t .now) (does (a .mark))) (a .last .now) (a .next .now) (start .pre .1) (at-loop .loop .c) (c .word4 .result) (a .x .now) (at-loop .loop .x)
+    (at-loop-test .loop-test .taken) (at-loop .loop .inv .1) (c .word4 .ensures)
 
 loop-again : tie.Need-loop-again Inv-loop μ-loop
 loop-again c =
-    let s = c .before .before .before .before .before .before .before .before .before .before .before .before in
-    let b = s .before .before .before .before .before .before in
-    let a = b .args in
-    let put = c .before .before .before .put in
+    let at-put = c .before .before .before in
+    let at-choose = at-put .before .before in
+    let at-less = at-choose .before in
+    let at-word3 = at-less .before in
+    let at-word2 = at-word3 .before .before in
+    let at-other = at-word2 .before in
+    let at-loop-test = at-other .before in
+    let at-loop = at-loop-test .before in
+    let start = at-loop .before .before .before .before .before .before in
+    let a = start .args in
+    let put = at-put .put in
     let new =
-    walk-store (a .mark) (a .t .now) (s .loop .x) (put .last .0) (s .loop .c - 1) (c .before .before .before .before .before .before .before .before .before .before .other .result) (c .before .before .before .before .before .before .before .before .before .word2 .result) (c .before .before .before .before .before .before .before .word3 .result) (c .before .before .before .before .before .before .less .result) (c .before .before .before .before .before .choose .result)
-    (c .before .before .before .before .before .before .before .before .before .before .other .ensures) (c .before .before .before .before .before .before .before .before .before .word2 .ensures) (c .before .before .before .before .before .before .before .word3 .ensures) (c .before .before .before .before .before .before .less .ensures) (c .before .before .before .before .before .choose .ensures) (put .ensures) in (
+    walk-store (a .mark) (a .t .now) (at-loop .loop .x) (put .last .0) (at-loop .loop .c - 1) (at-other .other .result) (at-word2 .word2 .result) (at-word3 .word3 .result) (at-less .less .result) (at-choose .choose .result)
+    (at-other .other .ensures) (at-word2 .word2 .ensures) (at-word3 .word3 .ensures) (at-less .less .ensures) (at-choose .choose .ensures) (put .ensures) in (
       search needs,
-      along-turn (a .t .now) (a .v) (acts (a .t .now) (does (a .mark))) (a .last .now) (a .next .now) (b .pre .1) (s .loop .c) (c .word4 .result) (a .x .now) (s .loop .x) (put .last .0)
-          (c .before .before .before .before .before .before .before .before .before .before .before .loop-test .taken) (s .loop .inv .1) new (c .word4 .ensures),
+      along-turn (a .t .now) (a .v) (acts (a .t .now) (does (a .mark))) (a .last .now) (a .next .now) (start .pre .1) (at-loop .loop .c) (c .word4 .result) (a .x .now) (at-loop .loop .x) (put .last .0)
+          (at-loop-test .loop-test .taken) (at-loop .loop .inv .1) new (c .word4 .ensures),
     )
 
 returns : tie.Need-returns Inv-loop μ-loop

@@ -37,36 +37,54 @@ slice-aggregate-next-up-2 c = sym (c .before .before .before .loop .inv .1 .tabl
 
 returns : tie.Need-returns Inv-loop μ-loop
 returns c =
-    let s = c .before .before .before .before .before in
-    let b = c .before .before .before .before .before .before .before .before .before .before .before .before .before in
-    let a = b .args in
-    growing-stuck (a .units) (a .ends .now) (a .pairs .now) (b .pre .0) (s .loop .order) (s .loop .near) (s .loop .wait) (s .loop .left) (c .before .next-up .result)
-    (c .before .before .before .before .loop-test .taken) (s .loop .inv .1) (c .before .next-up .ensures) (c .if1 .taken)
+    let at-loop-test = c .before .before .before .before in
+    let at-loop = at-loop-test .before in
+    let start = at-loop .before .before .before .before .before .before .before .before in
+    let a = start .args in
+    growing-stuck (a .units) (a .ends .now) (a .pairs .now) (start .pre .0) (at-loop .loop .order) (at-loop .loop .near) (at-loop .loop .wait) (at-loop .loop .left) (c .before .next-up .result)
+    (at-loop-test .loop-test .taken) (at-loop .loop .inv .1) (c .before .next-up .ensures) (c .if1 .taken)
 
 walk-requires : tie.Need-walk-requires Inv-loop μ-loop
-walk-requires c κs = (c .before .before .before .before .before .before .before .before .before .before .before .before .before .before .before .before .before .before .before .before .before .before .before .pre .0 .links, c .before .before .before .before .before .before .before .before .before .before .before .before .before .before .before .before .before .before .before .chained .ensures, next-below (c .before .before .before .before .before .before .before .before .before .before .before .before .before .before .before .before .before .before .before .before .before .before .before .args .units) (c .before .before .before .before .before .before .before .before .before .before .before .next-up .result) (ready (c .before .before .before .before .before .before .before .before .before .before .before .before .before .before .before .loop .near) (c .before .before .before .before .before .before .before .before .before .before .before .before .before .before .before .loop .wait)) (c .before .before .before .before .before .before .before .before .before .before .before .before .before .before .before .before .before .before .before .before .before .before .before .pre .0 .few) (c .before .before .before .before .before .before .before .before .before .before .before .next-up .ensures) (c .before .before .before .before .before .before .before .before .before .before .if1 .left))
+walk-requires c κs =
+    let at-if1 = c .before .before .before .before .before .before .before .before .before .before in
+    let at-next-up = at-if1 .before in
+    let at-loop = at-next-up .before .before .before .before in
+    let at-chained = at-loop .before .before .before .before in
+    let start = at-chained .before .before .before .before in
+    (start .pre .0 .links, at-chained .chained .ensures, next-below (start .args .units) (at-next-up .next-up .result) (ready (at-loop .loop .near) (at-loop .loop .wait)) (start .pre .0 .few) (at-next-up .next-up .ensures) (at-if1 .if1 .left))
 
 walk-requires-2 : tie.Need-walk-requires-2 Inv-loop μ-loop
-walk-requires-2 c κs = (c .before .before .before .before .before .before .before .before .before .before .before .before .before .before .before .before .before .before .before .before .before .before .before .before .before .before .before .before .before .before .before .pre .0 .pairs, c .before .before .before .before .before .before .before .before .before .before .before .before .before .before .before .before .before .before .before .before .before .before .before .before .before .before .chained2 .ensures, next-below (c .before .before .before .before .before .before .before .before .before .before .before .before .before .before .before .before .before .before .before .before .before .before .before .before .before .before .before .before .before .before .before .args .units) (c .before .before .before .before .before .before .before .before .before .before .before .before .before .before .before .before .before .before .before .next-up .result) (ready (c .before .before .before .before .before .before .before .before .before .before .before .before .before .before .before .before .before .before .before .before .before .before .before .loop .near) (c .before .before .before .before .before .before .before .before .before .before .before .before .before .before .before .before .before .before .before .before .before .before .before .loop .wait)) (c .before .before .before .before .before .before .before .before .before .before .before .before .before .before .before .before .before .before .before .before .before .before .before .before .before .before .before .before .before .before .before .pre .0 .few) (c .before .before .before .before .before .before .before .before .before .before .before .before .before .before .before .before .before .before .before .next-up .ensures) (c .before .before .before .before .before .before .before .before .before .before .before .before .before .before .before .before .before .before .if1 .left))
+walk-requires-2 c κs =
+    let at-if1 = c .before .before .before .before .before .before .before .before .before .before .before .before .before .before .before .before .before .before in
+    let at-next-up = at-if1 .before in
+    let at-loop = at-next-up .before .before .before .before in
+    let at-chained2 = at-loop .before .before .before in
+    let start = at-chained2 .before .before .before .before .before in
+    (start .pre .0 .pairs, at-chained2 .chained2 .ensures, next-below (start .args .units) (at-next-up .next-up .result) (ready (at-loop .loop .near) (at-loop .loop .wait)) (start .pre .0 .few) (at-next-up .next-up .ensures) (at-if1 .if1 .left))
 
 loop-again : tie.Need-loop-again Inv-loop μ-loop
 loop-again c =
-    let s = c .before .before .before .before .before .before .before .before .before .before .before .before .before .before .before .before .before .before .before .before .before .before .before .before .before .before .before .before in
-    let b = c .before .before .before .before .before .before .before .before .before .before .before .before .before .before .before .before .before .before .before .before .before .before .before .before .before .before .before .before .before .before .before .before .before .before .before .before in
-    let a = b .args in
-    let next = c .before .before .before .before .before .before .before .before .before .before .before .before .before .before .before .before .before .before .before .before .before .before .before .before .next-up in
-    let put = c .before .before .before .before .before .before .before .before .before .before .before .before .before .before .before .before .before .before .before .before .before .put in (
-      put .kept .0 ∙ s .loop .inv .0,
-      growing-turn (a .units) (a .ends .now) (a .pairs .now) (b .pre .0) (s .loop .order) (s .loop .near) (s .loop .wait) _ _ _ _ (s .loop .left) (next .result)
-          (s .loop .inv .0) (c .before .before .before .before .before .before .before .before .before .before .before .before .before .before .before .before .before .before .before .before .before .before .before .before .before .before .before .loop-test .taken) (s .loop .inv .1) (next .ensures) (c .before .before .before .before .before .before .before .before .before .before .before .before .before .before .before .before .before .before .before .before .before .before .before .if1 .left) (put .ensures) (c .before .before .before .before .before .before .before .before .before .before .before .before .walk .ensures) (c .before .before .before .before .walk2 .ensures) (c .before .put2 .ensures),
+    let at-walk2 = c .before .before .before .before in
+    let at-walk = at-walk2 .before .before .before .before .before .before .before .before in
+    let at-put = at-walk .before .before .before .before .before .before .before .before .before in
+    let at-if1 = at-put .before .before in
+    let at-next-up = at-if1 .before in
+    let at-loop-test = at-next-up .before .before .before in
+    let at-loop = at-loop-test .before in
+    let start = at-loop .before .before .before .before .before .before .before .before in
+    let a = start .args in
+    let next = at-next-up .next-up in
+    let put = at-put .put in (
+      put .kept .0 ∙ at-loop .loop .inv .0,
+      growing-turn (a .units) (a .ends .now) (a .pairs .now) (start .pre .0) (at-loop .loop .order) (at-loop .loop .near) (at-loop .loop .wait) _ _ _ _ (at-loop .loop .left) (next .result)
+          (at-loop .loop .inv .0) (at-loop-test .loop-test .taken) (at-loop .loop .inv .1) (next .ensures) (at-if1 .if1 .left) (put .ensures) (at-walk .walk .ensures) (at-walk2 .walk2 .ensures) (c .before .put2 .ensures),
     )
 
 returns-2 : tie.Need-returns-2 Inv-loop μ-loop
 returns-2 c =
-    let s = c .before in
-    let b = c .before .before .before .before .before .before .before .before .before in
-    let a = b .args in
-    growing-done (a .units) (a .ends .now) (a .pairs .now) (b .pre .0) (s .loop .order) (s .loop .near) (s .loop .wait) (s .loop .left) (search needs) (s .loop .inv .1)
+    let start = c .before .before .before .before .before .before .before .before .before in
+    let a = start .args in
+    growing-done (a .units) (a .ends .now) (a .pairs .now) (start .pre .0) (c .before .loop .order) (c .before .loop .near) (c .before .loop .wait) (c .before .loop .left) (search needs) (c .before .loop .inv .1)
 
 pub grown-spec : {M : Type 1} → statement M
 grown-spec =

@@ -8,19 +8,18 @@ use Rattle.one_way.proofs.pass.pass.Tie as tie
 
 rekey-requires : tie.Need-rekey-requires
 rekey-requires c κs =
-    let o = c .before .before .before .before .before .before .before .before .before .before .before .before .before .before .before .before .before .before .before in
-    omega (arith, o .pre .0 .few, o .pre .1)
+    let start = c .before .before .before .before .before .before .before .before .before .before .before .before .before .before .before .before .before .before .before in
+    omega (arith, start .pre .0 .few, start .pre .1)
 
 returns : tie.Need-returns
 returns c =
-    let r = c .before .before in
-    let m = r .before .before .before .before .before .before in
-    let b = m .before .before .before .before in
-    let f = b .before .before .before in
-    let o = f .before .before .before .before .before .before .before in
-    let site = o .pre .0 in
-    passed (o .args .units) (o .args .links .now) (o .args .key .now) (f .forward .result) (b .backward .result) (site .few) (omega (arith, site .few, o .pre .1)) (ends-within (o .args .units) (o .args .links .now) (site .ends)) (site .loopless)
-    (f .forward .ensures) (b .backward .ensures) (o .args .out .now) _ _ (search needs) (m .mark .ensures) (r .rekey .ensures)
+    let at-mark = c .before .before .before .before .before .before .before .before in
+    let at-backward = at-mark .before .before .before .before in
+    let at-forward = at-backward .before .before .before in
+    let start = at-forward .before .before .before .before .before .before .before in
+    let site = start .pre .0 in
+    passed (start .args .units) (start .args .links .now) (start .args .key .now) (at-forward .forward .result) (at-backward .backward .result) (site .few) (omega (arith, site .few, start .pre .1)) (ends-within (start .args .units) (start .args .links .now) (site .ends)) (site .loopless)
+    (at-forward .forward .ensures) (at-backward .backward .ensures) (start .args .out .now) _ _ (search needs) (at-mark .mark .ensures) (c .before .before .rekey .ensures)
 
 pub pass-spec : {M : Type 1} → statement M
 pass-spec =

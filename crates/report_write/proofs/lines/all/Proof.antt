@@ -6,12 +6,15 @@ use Rattle.report_write.proofs.lines.all.Tie as tie
 
 returns : tie.Need-returns
 returns c =
-    let link = c .before .before .before .before .before .before .link-part .ensures in
-    let unit = c .before .before .before .before .before .before .before .before .before .before .unit-part .ensures in
-    let head = c .before .before .before .before .before .before .before .before .before .before .before .before .before .before in
-    let a = head .before .before .before .before .before .before .before .before .args in
+    let at-link-part = c .before .before .before .before .before .before in
+    let at-unit-part = at-link-part .before .before .before .before in
+    let at-head-line = at-unit-part .before .before .before .before in
+    let start = at-head-line .before .before .before .before .before .before .before .before in
+    let link = at-link-part .link-part .ensures in
+    let unit = at-unit-part .unit-part .ensures in
+    let a = start .args in
     parts-down (a .units) (a .links) (a .rounds) (a .requests) (a .ends .now) (a .label .now) (a .color .now) (a .parent .now) (a .place .now) (a .out .now) _ _ _ _ _ _
-    (head .head-line .ensures) (unit .1) (link .1) (c .before .before .tail-line .ensures) (unit .0) (link .0)
+    (at-head-line .head-line .ensures) (unit .1) (link .1) (c .before .before .tail-line .ensures) (unit .0) (link .0)
 
 pub all-spec : {M : Type 1} → statement M
 all-spec =

@@ -7,9 +7,11 @@ use Rattle.report_write.proofs.lines.unit_part.Tie as tie
 
 returns : tie.Need-returns
 returns c =
-    let a = c .before .before .before .before .before .before .before .before .before .before .before .before .before .before in
-    let singles = c .before .before .before .before .before .before .before .singles .ensures in
-    (rw (c .count-flags .ensures, singles) (flags-count 256 (a .args .units) (single (a .args .links) (a .args .ends .now) (a .args .label .now)) (a .pre)), rw (c .before .before .before .before .unit-lines .ensures, singles))
+    let at-unit-lines = c .before .before .before .before in
+    let at-singles = at-unit-lines .before .before .before in
+    let start = at-singles .before .before .before .before .before .before .before in
+    let singles = at-singles .singles .ensures in
+    (rw (c .count-flags .ensures, singles) (flags-count 256 (start .args .units) (single (start .args .links) (start .args .ends .now) (start .args .label .now)) (start .pre)), rw (at-unit-lines .unit-lines .ensures, singles))
 
 pub unit-part-spec : {M : Type 1} → statement M
 unit-part-spec =

@@ -27,13 +27,18 @@ loop-again c = (search needs, search needs, search needs, search needs, c .befor
 
 loop-again-2 : tie.Need-loop-again-2 Inv-loop μ-loop
 loop-again-2 c =
-    let s = c .before .before .before .before .before .before .before .before .before .before .before .before .before .before .before .before .before .before .before .loop in
-    let a = c .before .before .before .before .before .before .before .before .before .before .before .before .before .before .before .before .before .before .before .before .before .before .before .before .before .before .args in (
+    let at-reach = c .before .before .before .before .before .before .before in
+    let at-store = at-reach .before .before .before .before .before in
+    let at-at = at-store .before .before .before .before in
+    let at-loop = at-at .before .before .before in
+    let start = at-loop .before .before .before .before .before .before .before in
+    let s = at-loop .loop in
+    let a = start .args in (
       search needs,
-      c .before .before .before .before .before .before .before .before .before .before .before .before .store .kept .0 ∙ s .inv .1,
-      c .before .before .before .before .before .before .before .reach .kept .1 .1 .1 .1 .1 .0 ∙ s .inv .2,
-      c .before .before .before .before .before .before .before .reach .kept .1 .1 .1 .1 .1 .1 .0 ∙ s .inv .3,
-      spanned-more (sure (a .marks .now)) (a .links) (a .ends .now) ((c .before .before .before .before .before .before .before .before .before .before .before .before .before .before .before .before .at .result - 1) / 2) (a .parent .now) (a .seq .now) 2 (s .parent) (s .seq) (s .count) (c .before .before .before .before .before .before .before .reach .last .1 .1 .1 .1 .1 .0) (c .before .before .before .before .before .before .before .reach .last .1 .1 .1 .1 .1 .1 .0) (c .before .before .before .before .before .before .before .reach .result) (s .inv .4) (c .before .before .before .before .before .before .before .reach .ensures),
+      at-store .store .kept .0 ∙ s .inv .1,
+      at-reach .reach .kept .1 .1 .1 .1 .1 .0 ∙ s .inv .2,
+      at-reach .reach .kept .1 .1 .1 .1 .1 .1 .0 ∙ s .inv .3,
+      spanned-more (sure (a .marks .now)) (a .links) (a .ends .now) ((at-at .at .result - 1) / 2) (a .parent .now) (a .seq .now) 2 (s .parent) (s .seq) (s .count) (at-reach .reach .last .1 .1 .1 .1 .1 .0) (at-reach .reach .last .1 .1 .1 .1 .1 .1 .0) (at-reach .reach .result) (s .inv .4) (at-reach .reach .ensures),
     )
 
 returns-2 : tie.Need-returns-2 Inv-loop μ-loop

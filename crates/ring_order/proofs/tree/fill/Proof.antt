@@ -22,18 +22,24 @@ loop-holds c =
 
 returns : tie.Need-returns Inv-loop μ-loop
 returns c =
-    let s = c .before .before .before .before .before .before .before .before .before .loop in
-    let a = c .before .before .before .before .before .before .before .before .before .before .before .before .before .before .args in
-    filled-same (sure (a .marks .now)) (a .links) (a .ends .now) (a .parent .now) (a .seq .now) (a .count) (s .k) (s .parent) (s .seq) (s .c) (s .inv .3) (c .before .before .before .before .before .sweep .last .1 .1 .1 .1 .0) (c .before .before .before .before .before .sweep .last .1 .1 .1 .1 .1 .0) (c .before .before .before .before .before .sweep .result) (c .before .before .before .before .before .sweep .ensures) (c .if1 .taken)
+    let at-sweep = c .before .before .before .before .before in
+    let at-loop = at-sweep .before .before .before .before in
+    let start = at-loop .before .before .before .before .before in
+    let s = at-loop .loop in
+    let a = start .args in
+    filled-same (sure (a .marks .now)) (a .links) (a .ends .now) (a .parent .now) (a .seq .now) (a .count) (s .k) (s .parent) (s .seq) (s .c) (s .inv .3) (at-sweep .sweep .last .1 .1 .1 .1 .0) (at-sweep .sweep .last .1 .1 .1 .1 .1 .0) (at-sweep .sweep .result) (at-sweep .sweep .ensures) (c .if1 .taken)
 
 loop-again : tie.Need-loop-again Inv-loop μ-loop
 loop-again c =
-    let s = c .before .before .before .before .before .before .before .before .before .loop in
-    let a = c .before .before .before .before .before .before .before .before .before .before .before .before .before .before .args in (
+    let at-sweep = c .before .before .before .before .before in
+    let at-loop = at-sweep .before .before .before .before in
+    let start = at-loop .before .before .before .before .before in
+    let s = at-loop .loop in
+    let a = start .args in (
       search needs,
-      c .before .before .before .before .before .sweep .kept .1 .1 .1 .1 .0 ∙ s .inv .1,
-      c .before .before .before .before .before .sweep .kept .1 .1 .1 .1 .1 .0 ∙ s .inv .2,
-      filling-more (sure (a .marks .now)) (a .links) (a .ends .now) (a .parent .now) (a .seq .now) (a .count) (s .k) (s .parent) (s .seq) (s .c) (s .inv .3) (c .before .before .before .before .before .sweep .last .1 .1 .1 .1 .0) (c .before .before .before .before .before .sweep .last .1 .1 .1 .1 .1 .0) (c .before .before .before .before .before .sweep .result) (c .before .before .before .before .before .sweep .ensures) (c .if1 .left),
+      at-sweep .sweep .kept .1 .1 .1 .1 .0 ∙ s .inv .1,
+      at-sweep .sweep .kept .1 .1 .1 .1 .1 .0 ∙ s .inv .2,
+      filling-more (sure (a .marks .now)) (a .links) (a .ends .now) (a .parent .now) (a .seq .now) (a .count) (s .k) (s .parent) (s .seq) (s .c) (s .inv .3) (at-sweep .sweep .last .1 .1 .1 .1 .0) (at-sweep .sweep .last .1 .1 .1 .1 .1 .0) (at-sweep .sweep .result) (at-sweep .sweep .ensures) (c .if1 .left),
     )
 
 returns-2 : tie.Need-returns-2 Inv-loop μ-loop

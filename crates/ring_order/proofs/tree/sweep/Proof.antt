@@ -23,12 +23,16 @@ loop-holds c =
 
 loop-again : tie.Need-loop-again Inv-loop μ-loop
 loop-again c =
-    let s = c .before .before .before .before .before .before .before .before .loop in
-    let a = c .before .before .before .before .before .before .before .before .before .before .before .before .before .args in (
+    let at-reach = c .before .before .before .before in
+    let at-loop-test = at-reach .before .before .before in
+    let at-loop = at-loop-test .before in
+    let start = at-loop .before .before .before .before .before in
+    let s = at-loop .loop in
+    let a = start .args in (
       search needs,
-      c .before .before .before .before .reach .kept .1 .1 .1 .1 .1 .0 ∙ s .inv .1,
-      c .before .before .before .before .reach .kept .1 .1 .1 .1 .1 .1 .0 ∙ s .inv .2,
-      swept-more (sure (a .marks .now)) (a .links) (a .ends .now) (s .j) (a .parent .now) (a .seq .now) (a .count) (s .parent) (s .seq) (s .c) (c .before .before .before .before .reach .last .1 .1 .1 .1 .1 .0) (c .before .before .before .before .reach .last .1 .1 .1 .1 .1 .1 .0) (c .before .before .before .before .reach .result) (c .before .before .before .before .before .before .before .loop-test .taken) (s .inv .3) (c .before .before .before .before .reach .ensures),
+      at-reach .reach .kept .1 .1 .1 .1 .1 .0 ∙ s .inv .1,
+      at-reach .reach .kept .1 .1 .1 .1 .1 .1 .0 ∙ s .inv .2,
+      swept-more (sure (a .marks .now)) (a .links) (a .ends .now) (s .j) (a .parent .now) (a .seq .now) (a .count) (s .parent) (s .seq) (s .c) (at-reach .reach .last .1 .1 .1 .1 .1 .0) (at-reach .reach .last .1 .1 .1 .1 .1 .1 .0) (at-reach .reach .result) (at-loop-test .loop-test .taken) (s .inv .3) (at-reach .reach .ensures),
     )
 
 returns : tie.Need-returns Inv-loop μ-loop

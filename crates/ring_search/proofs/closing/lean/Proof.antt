@@ -22,13 +22,17 @@ loop-holds c =
 
 loop-again : tie.Need-loop-again Inv-loop μ-loop
 loop-again c =
-    let s = c .before .before .before .before .before .before .before .before .loop in
-    let a = c .before .before .before .before .before .before .before .before .before .before .before .before .before .before .args in (
+    let at-lean-one = c .before .before .before .before in
+    let at-loop-test = at-lean-one .before .before .before in
+    let at-loop = at-loop-test .before in
+    let start = at-loop .before .before .before .before .before .before in
+    let s = at-loop .loop in
+    let a = start .args in (
       search needs,
-      c .before .before .before .before .lean-one .kept .1 .1 .1 .1 .0 ∙ s .inv .1,
-      c .before .before .before .before .lean-one .kept .1 .1 .1 .1 .1 .0 ∙ s .inv .2,
-      leans-more (sure (a .marks .now)) (a .links) (a .ends .now) (a .pos .now) (s .j) (a .low .now) (a .high .now) (s .low) (s .high) (c .before .before .before .before .lean-one .last .1 .1 .1 .1 .0) (c .before .before .before .before .lean-one .last .1 .1 .1 .1 .1 .0)
-          (c .before .before .before .before .before .before .before .loop-test .taken) (s .inv .3) (c .before .before .before .before .lean-one .ensures),
+      at-lean-one .lean-one .kept .1 .1 .1 .1 .0 ∙ s .inv .1,
+      at-lean-one .lean-one .kept .1 .1 .1 .1 .1 .0 ∙ s .inv .2,
+      leans-more (sure (a .marks .now)) (a .links) (a .ends .now) (a .pos .now) (s .j) (a .low .now) (a .high .now) (s .low) (s .high) (at-lean-one .lean-one .last .1 .1 .1 .1 .0) (at-lean-one .lean-one .last .1 .1 .1 .1 .1 .0)
+          (at-loop-test .loop-test .taken) (s .inv .3) (at-lean-one .lean-one .ensures),
     )
 
 returns : tie.Need-returns Inv-loop μ-loop

@@ -15,10 +15,20 @@ returns c =
 
 returns-2 : tie.Need-returns-2
 returns-2 c =
-    let a = c .before .before .before .before .before .before .before .before .before .before .before .before .before .before .before .before .before .before .before .before .before .args in
-    leans-store (sure (a .marks .now)) (a .ends .now) (a .pos .now) (a .j) (a .low .now) (a .high .now) (c .before .before .before .before .before .before .store .last .0) (c .before .before .store2 .last .0)
-    (c .before .before .before .before .before .before .before .before .before .before .before .before .before .end-a .result) (c .before .before .before .before .before .before .before .before .before .before .before .before .end-b .result) (c .before .before .before .before .before .before .before .before .before .before .before .at .result) (c .before .before .before .before .before .before .before .before .before .before .at2 .result) (c .before .before .before .before .before .before .before .before .before .choose .result) (c .before .before .before .before .before .before .before .before .choose2 .result) _ (sym (c .before .before .before .before .before .before .before .before .before .before .before .before .before .before .before .within .ensures) ∙ not-false _ (c .before .before .before .before .before .before .before .before .before .before .before .before .before .before .if1 .left))
-    (c .before .before .before .before .before .before .before .before .before .before .before .before .before .end-a .ensures) (c .before .before .before .before .before .before .before .before .before .before .before .before .end-b .ensures) (c .before .before .before .before .before .before .before .before .before .before .before .at .ensures) (c .before .before .before .before .before .before .before .before .before .before .at2 .ensures) refl (c .before .before .before .before .before .before .before .before .before .choose .ensures) (c .before .before .before .before .before .before .before .before .choose2 .ensures) (c .before .before .before .before .before .before .store .ensures) (c .before .before .store2 .ensures)
+    let at-store = c .before .before .before .before .before .before in
+    let at-choose2 = at-store .before .before in
+    let at-choose = at-choose2 .before in
+    let at-at2 = at-choose .before in
+    let at-at = at-at2 .before in
+    let at-end-b = at-at .before in
+    let at-end-a = at-end-b .before in
+    let at-if1 = at-end-a .before in
+    let at-within = at-if1 .before in
+    let start = at-within .before .before .before .before .before .before in
+    let a = start .args in
+    leans-store (sure (a .marks .now)) (a .ends .now) (a .pos .now) (a .j) (a .low .now) (a .high .now) (at-store .store .last .0) (c .before .before .store2 .last .0)
+    (at-end-a .end-a .result) (at-end-b .end-b .result) (at-at .at .result) (at-at2 .at2 .result) (at-choose .choose .result) (at-choose2 .choose2 .result) _ (sym (at-within .within .ensures) ∙ not-false _ (at-if1 .if1 .left))
+    (at-end-a .end-a .ensures) (at-end-b .end-b .ensures) (at-at .at .ensures) (at-at2 .at2 .ensures) refl (at-choose .choose .ensures) (at-choose2 .choose2 .ensures) (at-store .store .ensures) (c .before .before .store2 .ensures)
 
 pub lean-one-spec : {M : Type 1} → statement M
 lean-one-spec =

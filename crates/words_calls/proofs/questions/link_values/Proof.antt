@@ -5,7 +5,11 @@ use Rattle.words_calls.proofs.questions.link_values.Statement.{statemen
 use Rattle.words_calls.proofs.questions.link_values.Tie as tie
 
 returns : tie.Need-returns
-returns c = rw (c .word-of .ensures, c .before .lone .ensures, c .before .before .before .before .before .word .ensures, c .before .before .before .before .before .before .before .before .before .labels-at .ensures, c .before .before .before .before .before .before .before .before .before .before .table-at .ensures) refl
+returns c =
+    let at-word = c .before .before .before .before .before in
+    let at-labels-at = at-word .before .before .before .before in
+    let at-table-at = at-labels-at .before in
+    rw (c .word-of .ensures, c .before .lone .ensures, at-word .word .ensures, at-labels-at .labels-at .ensures, at-table-at .table-at .ensures) refl
 
 pub link-values-spec : {M : Type 1} → statement M
 link-values-spec =

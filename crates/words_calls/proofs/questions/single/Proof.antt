@@ -5,7 +5,10 @@ use Rattle.words_calls.proofs.questions.single.Statement.{statement}
 use Rattle.words_calls.proofs.questions.single.Tie as tie
 
 returns : tie.Need-returns
-returns c = rw (c .word-of .ensures, c .before .single .ensures, c .before .before .before .before .before .before .before .before .labels-at .ensures, c .before .before .before .before .before .before .before .before .before .table-at .ensures) refl
+returns c =
+    let at-labels-at = c .before .before .before .before .before .before .before .before in
+    let at-table-at = at-labels-at .before in
+    rw (c .word-of .ensures, c .before .single .ensures, at-labels-at .labels-at .ensures, at-table-at .table-at .ensures) refl
 
 pub single-spec : {M : Type 1} → statement M
 single-spec =

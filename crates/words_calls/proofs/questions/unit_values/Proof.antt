@@ -6,8 +6,12 @@ use Rattle.words_calls.proofs.questions.unit_values.Tie as tie
 
 returns : tie.Need-returns
 returns c =
-    let o = c .before .before .before .before .before .before .before .before .before .before .before .before .before in
-    rw (c .single .ensures, c .before .word3 .ensures, c .before .before .before .before .before .word2 .ensures, c .before .before .before .before .before .before .before .before .before .word .ensures, o .order-at .ensures, o .before .tree-at .ensures, o .before .before .components-at .ensures) refl
+    let at-word2 = c .before .before .before .before .before in
+    let at-word = at-word2 .before .before .before .before in
+    let at-order-at = at-word .before .before .before .before in
+    let at-tree-at = at-order-at .before in
+    let at-components-at = at-tree-at .before in
+    rw (c .single .ensures, c .before .word3 .ensures, at-word2 .word2 .ensures, at-word .word .ensures, at-order-at .order-at .ensures, at-tree-at .tree-at .ensures, at-components-at .components-at .ensures) refl
 
 pub unit-values-spec : {M : Type 1} → statement M
 unit-values-spec =

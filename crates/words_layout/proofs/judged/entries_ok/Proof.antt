@@ -6,26 +6,33 @@ use Rattle.words_layout.proofs.judged.entries_ok.Tie as tie
 
 returns : tie.Need-returns
 returns c =
-    let w10 = c .before .before .before .before .before .before .before .before .before in
-    let level = w10 .before .before in
-    let w9 = level .before in
-    let w8 = w9 .before .before in
-    let number = w8 .before .before in
-    let w7 = number .before in
-    let dist = w7 .before .before in
-    let w6 = dist .before in
-    let link = w6 .before .before in
-    let w5 = link .before in
-    let arc = w5 .before .before in
-    let w4 = arc .before in
-    let w3 = w4 .before .before in
-    let w2 = w3 .before .before in
-    let w1 = w2 .before .before in
-    let unit = w1 .before .before in
-    let s = unit .before in
-    rw (c .both9 .ensures, c .before .both8 .ensures, c .before .before .both7 .ensures, c .before .before .before .both6 .ensures, c .before .before .before .before .both5 .ensures, c .before .before .before .before .before .both4 .ensures, c .before .before .before .before .before .before .both3 .ensures, c .before .before .before .before .before .before .before .both2 .ensures, c .before .before .before .before .before .before .before .before .both .ensures)
-    (rw (w9 .within9 .ensures _ (number .numbers .ensures), w10 .within10 .ensures _ (level .levels .ensures), w8 .within8 .ensures _ (number .numbers .ensures), w7 .within7 .ensures _ (dist .dists .ensures), w6 .within6 .ensures _ (link .names3 .ensures), w5 .within5 .ensures _ (arc .names2 .ensures), w4 .within4 .ensures _ (unit .names .ensures), w3 .within3 .ensures _ (unit .names .ensures), w2 .within2 .ensures _ (unit .names .ensures), w1 .within .ensures _ (unit .names .ensures))
-    (entries-judged (s .args .words .now) (w1 .before .within-arg .given .0) (s .args .units) (s .args .links) (s .pre .0) (s .pre .1)))
+    let at-both6 = c .before .before .before in
+    let at-both5 = at-both6 .before in
+    let at-both4 = at-both5 .before in
+    let at-both3 = at-both4 .before in
+    let at-both2 = at-both3 .before in
+    let at-both = at-both2 .before in
+    let at-within10 = at-both .before in
+    let at-levels = at-within10 .before .before in
+    let at-within9 = at-levels .before in
+    let at-within8 = at-within9 .before .before in
+    let at-numbers = at-within8 .before .before in
+    let at-within7 = at-numbers .before in
+    let at-dists = at-within7 .before .before in
+    let at-within6 = at-dists .before in
+    let at-names3 = at-within6 .before .before in
+    let at-within5 = at-names3 .before in
+    let at-names2 = at-within5 .before .before in
+    let at-within4 = at-names2 .before in
+    let at-within3 = at-within4 .before .before in
+    let at-within2 = at-within3 .before .before in
+    let at-within = at-within2 .before .before in
+    let at-within-arg = at-within .before in
+    let at-names = at-within-arg .before in
+    let start = at-names .before in
+    rw (c .both9 .ensures, c .before .both8 .ensures, c .before .before .both7 .ensures, at-both6 .both6 .ensures, at-both5 .both5 .ensures, at-both4 .both4 .ensures, at-both3 .both3 .ensures, at-both2 .both2 .ensures, at-both .both .ensures)
+    (rw (at-within9 .within9 .ensures _ (at-numbers .numbers .ensures), at-within10 .within10 .ensures _ (at-levels .levels .ensures), at-within8 .within8 .ensures _ (at-numbers .numbers .ensures), at-within7 .within7 .ensures _ (at-dists .dists .ensures), at-within6 .within6 .ensures _ (at-names3 .names3 .ensures), at-within5 .within5 .ensures _ (at-names2 .names2 .ensures), at-within4 .within4 .ensures _ (at-names .names .ensures), at-within3 .within3 .ensures _ (at-names .names .ensures), at-within2 .within2 .ensures _ (at-names .names .ensures), at-within .within .ensures _ (at-names .names .ensures))
+    (entries-judged (start .args .words .now) (at-within-arg .within-arg .given .0) (start .args .units) (start .args .links) (start .pre .0) (start .pre .1)))
 
 pub entries-ok-spec : {M : Type 1} → statement M
 entries-ok-spec =

@@ -9,11 +9,16 @@ use Rattle.words_run.proofs.front.components_stage.Tie as tie
 
 returns : tie.Need-returns
 returns c =
-    let start = c .before .before .before .before .before .before .before .before .before .before .before .before .before .before .before .before .before in
+    let at-lay-clock = c .before .before .before .before in
+    let at-run = at-lay-clock .before .before .before in
+    let at-clock-at = at-run .before in
+    let at-components-at = at-clock-at .before .before .before .before .before in
+    let at-table-at = at-components-at .before .before in
+    let start = at-table-at .before .before in
     let s = stateOf (start .args .words .now) in
     moved (Rounds.stage s) (start .args .budget) (record { color = s .components .color; clock = s .clock; made = 0 }) _ s _ (start .pre) refl refl
-    (rw (c .before .before .before .before .before .before .before .before .clock-at .ensures, c .before .before .before .before .before .before .before .before .before .before .before .before .before .components-at .ensures, c .before .before .before .before .before .before .before .before .before .before .before .before .before .before .before .table-at .ensures) at (c .before .before .before .before .before .before .before .run .ensures))
-    (rw (c .lay-components .ensures, c .before .before .before .before .lay-clock .ensures) refl)
+    (rw (at-clock-at .clock-at .ensures, at-components-at .components-at .ensures, at-table-at .table-at .ensures) at (at-run .run .ensures))
+    (rw (c .lay-components .ensures, at-lay-clock .lay-clock .ensures) refl)
 
 pub components-stage-spec : {M : Type 1} → statement M
 components-stage-spec =

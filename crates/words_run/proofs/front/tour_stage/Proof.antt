@@ -9,11 +9,19 @@ use Rattle.words_run.proofs.front.tour_stage.Tie as tie
 
 returns : tie.Need-returns
 returns c =
-    let start = c .before .before .before .before .before .before .before .before .before .before .before .before .before .before .before .before .before .before .before .before .before .before .before .before .before .before .before .before .before .before in
+    let at-lay-tour = c .before .before .before .before .before in
+    let at-lay-clock = at-lay-tour .before .before .before .before .before in
+    let at-run = at-lay-clock .before .before .before in
+    let at-clock-at = at-run .before in
+    let at-ranking-at = at-clock-at .before .before .before .before .before .before in
+    let at-tour-at = at-ranking-at .before .before .before .before in
+    let at-tree-at = at-tour-at .before .before in
+    let at-table-at = at-tree-at .before .before in
+    let start = at-table-at .before .before in
     let s = stateOf (start .args .words .now) in
     moved (Rounds.stage s) (start .args .budget) (record { next = s .tour .next; pred = s .tour .pred; jump = s .ranking .jump; sum = s .ranking .sum; clock = s .clock; made = 0 }) _ s _ (start .pre) refl refl
-    (rw (c .before .before .before .before .before .before .before .before .before .before .before .before .before .before .clock-at .ensures, c .before .before .before .before .before .before .before .before .before .before .before .before .before .before .before .before .before .before .before .before .ranking-at .ensures, c .before .before .before .before .before .before .before .before .before .before .before .before .before .before .before .before .before .before .before .before .before .before .before .before .tour-at .ensures, c .before .before .before .before .before .before .before .before .before .before .before .before .before .before .before .before .before .before .before .before .before .before .before .before .before .before .tree-at .ensures, c .before .before .before .before .before .before .before .before .before .before .before .before .before .before .before .before .before .before .before .before .before .before .before .before .before .before .before .before .table-at .ensures) at (c .before .before .before .before .before .before .before .before .before .before .before .before .before .run .ensures))
-    (rw (c .lay-ranking .ensures, c .before .before .before .before .before .lay-tour .ensures, c .before .before .before .before .before .before .before .before .before .before .lay-clock .ensures) refl)
+    (rw (at-clock-at .clock-at .ensures, at-ranking-at .ranking-at .ensures, at-tour-at .tour-at .ensures, at-tree-at .tree-at .ensures, at-table-at .table-at .ensures) at (at-run .run .ensures))
+    (rw (c .lay-ranking .ensures, at-lay-tour .lay-tour .ensures, at-lay-clock .lay-clock .ensures) refl)
 
 pub tour-stage-spec : {M : Type 1} → statement M
 tour-stage-spec =

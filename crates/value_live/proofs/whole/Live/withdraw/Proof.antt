@@ -25,7 +25,9 @@ passed : (c : tie.Else1) → givenRefusal (of (c .before .before .before .before
 passed c = sym (c .before .refusal .ensures) ∙ c .if1 .left
 
 few : (c : tie.Else1) → c .before .before .before .before .before .before .before .before .before .args .t1 .links ≤ 1024
-few c = given-links (of (c .before .before .before .before .before .before .before .before .before .args .t1)) (passed c)
+few c =
+    let start = c .before .before .before .before .before .before .before .before .before in
+    given-links (of (start .args .t1)) (passed c)
 
 -- what the checks of the two units said
 own : (c : tie.After-pair-refusal) → c .pair-refusal .result
@@ -38,16 +40,18 @@ own c = c .pair-refusal .ensures
 
 late : (c : tie.After-pair-refusal) → c .pair-refusal .result ≡ withdrawRefusal (c .before .before .before .before .before .before .before .before .before .before .before .before .before .before .args .a) (c .before .before .before .before .before .before .before .before .before .before .before .before .before .before .args .b) (of (c .before .before .before .before .before .before .before .before .before .before .before .before .before .before .args .t1))
 late c =
-    let e = c .before .before .before .before .before in
-    let a = e .before .before .before .before .before .before .before .before .before .args in
-    let full = sized (e .before .before) in
+    let start = c .before .before .before .before .before .before .before in
+    let start-14 = start .before .before .before .before .before .before .before in
+    let a = start-14 .args in
+    let full = sized (start) in
     withdraw-late (of (a .t1)) (full .0) (full .1) (passed e) (a .a) (a .b) (c .before .place-in .result) (c .before .place-in .ensures) (c .pair-refusal .result) (own c)
 
 returns : tie.Need-returns
 unfolding withdrawAnswer
 returns c =
+    let start = c .before .before .before .before .before .before .before .before .before in
     let r = c .before .refusal in
-    let a = c .before .before .before .before .before .before .before .before .before .args in
+    let a = start .args in
     answer-refused (withdrawRefusal (a .a) (a .b) (of (a .t1))) (r .result) (of (a .t1)) _ (withdraw-early (of (a .t1)) (a .a) (a .b) (r .result) (r .ensures) (c .if1 .taken)) (c .if1 .taken)
 
 place-in-requires : tie.Need-place-in-requires
@@ -58,24 +62,26 @@ place-in-requires c κs =
 returns-2 : tie.Need-returns-2
 unfolding withdrawAnswer
 returns-2 c =
-    let q = c .before in
-    let a = q .before .before .before .before .before .before .before .before .before .before .before .before .before .before .args in
-    answer-refused (withdrawRefusal (a .a) (a .b) (of (a .t1))) (q .pair-refusal .result) (of (a .t1)) _ (late q) (c .if2 .taken)
+    let start = c .before .before .before .before .before .before .before .before .before .before .before .before .before .before .before in
+    let a = start .args in
+    answer-refused (withdrawRefusal (a .a) (a .b) (of (a .t1))) (c .before .pair-refusal .result) (of (a .t1)) _ (late q) (c .if2 .taken)
 
 shorter-requires : tie.Need-shorter-requires
 shorter-requires c κs =
-    let q = c .before in
-    let a = q .before .before .before .before .before .before .before .before .before .before .before .before .before .before .args in (
-      pair-found (q .before .place-in .result) (a .t1 .links) (q .pair-refusal .result) (leb (a .t1 .units) (a .a) || leb (a .t1 .units) (a .b)) (eqb (a .a) (a .b)) (own q) (c .if2 .left),
-      few (q .before .before .before .before .before),
+    let start = c .before .before .before .before .before .before in
+    let start-15 = start .before .before .before .before .before .before .before .before .before in
+    let a = start-15 .args in (
+      pair-found (c .before .before .place-in .result) (a .t1 .links) (c .before .pair-refusal .result) (leb (a .t1 .units) (a .a) || leb (a .t1 .units) (a .b)) (eqb (a .a) (a .b)) (own q) (c .if2 .left),
+      few (start),
     )
 
 returns-3 : tie.Need-returns-3
 unfolding withdrawAnswer
 returns-3 c =
-    let q = c .before .before in
-    let a = q .before .before .before .before .before .before .before .before .before .before .before .before .before .before .args in
-    let made = c .shorter .ensures ∙ ap (λ j. liveOf (lessLink j (held (of (a .t1))))) (q .before .place-in .ensures) in
+    let at-place-in = c .before .before .before in
+    let start = at-place-in .before .before .before .before .before .before .before .before .before .before .before .before .before in
+    let a = start .args in
+    let made = c .shorter .ensures ∙ ap (λ j. liveOf (lessLink j (held (of (a .t1))))) (at-place-in .place-in .ensures) in
     rw made (answer-made (withdrawRefusal (a .a) (a .b) (of (a .t1))) 0 (of (a .t1)) _ (sym (c .before .if2 .left) ∙ late q) refl)
 
 pub withdraw-spec : {M : Type 1} → statement M
