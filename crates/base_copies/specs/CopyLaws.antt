@@ -38,7 +38,8 @@ module _ (from ws : List ℕ) (at n place : ℕ) (there : at + n ≤ length from
   carry-begin = paste-zero ws place (part at n from)
 
   pub carry-next : (i : ℕ) → i < n → place + n ≤ length ws
-      → set (paste ws place (part at n from) i) (place + i) (getD from (at + i) 0) ≡ paste ws place (part at n from) (i + 1)
+      → set (paste ws place (part at n from) i) (place + i) (getD from (at + i) 0)
+      ≡ paste ws place (part at n from) (i + 1)
   carry-next i h l =
       rw (add-one i)
       (ap (λ (x : ℕ). set (paste ws place (part at n from) i) (place + i) x) (sym (word i h))
@@ -55,9 +56,11 @@ module _ (from ws : List ℕ) (at n place : ℕ) (there : at + n ≤ length from
 pub paste-next : (ws xs : List ℕ) (at i x : ℕ) → x ≡ getD xs i 0 → i < length xs → at + length xs ≤ length ws
     → set (paste ws at xs i) (at + i) x ≡ paste ws at xs (i + 1)
 paste-next ws xs at i x e h l =
-    rw (add-one i) (ap (λ (y : ℕ). set (paste ws at xs i) (at + i) y) e ∙ paste-suc ws at xs i 0 (omega (arith, h, l)) h)
+    rw (add-one i) (ap (λ (y : ℕ). set (paste ws at xs i) (at + i) y) e
+    ∙ paste-suc ws at xs i 0 (omega (arith, h, l)) h)
 
-pub paste-end : (ws xs : List ℕ) (at i : ℕ) → i ≡ length xs → at + length xs ≤ length ws → paste ws at xs i ≡ laidIn at xs ws
+pub paste-end : (ws xs : List ℕ) (at i : ℕ) → i ≡ length xs → at + length xs ≤ length ws →
+    paste ws at xs i ≡ laidIn at xs ws
 unfolding laid laidIn
 paste-end ws xs at i e l = rw (le-leb (at + length xs) (length ws) l, e, take-length xs) refl
 
@@ -67,7 +70,8 @@ part-whole : (xs : List ℕ) → part 0 (length xs) xs ≡ xs
 unfolding part
 part-whole xs = take-length xs
 
-pub laid-whole : (at : ℕ) (xs ws : List ℕ) → leb (at + length xs) (length ws) ≡ true → laid at (part 0 (length xs) xs) ws ≡ laidIn at xs ws
+pub laid-whole : (at : ℕ) (xs ws : List ℕ) → leb (at + length xs) (length ws) ≡ true →
+    laid at (part 0 (length xs) xs) ws ≡ laidIn at xs ws
 unfolding laidIn
 laid-whole at xs ws h = rw (h, part-whole xs) refl
 
@@ -75,11 +79,13 @@ pub laid-out : (at : ℕ) (xs ws : List ℕ) → leb (at + length xs) (length ws
 unfolding laidIn
 laid-out at xs ws h = rw h refl
 
-pub laid-in : (at : ℕ) (xs ws : List ℕ) {new : List ℕ} → new ≡ laidIn at xs ws → at + length xs ≤ length ws → new ≡ laid at xs ws
+pub laid-in : (at : ℕ) (xs ws : List ℕ) {new : List ℕ} → new ≡ laidIn at xs ws → at + length xs ≤ length ws →
+    new ≡ laid at xs ws
 unfolding laidIn
 laid-in at xs ws e h = e ∙ rw (le-leb (at + length xs) (length ws) h) refl
 
-pub laid-front : (xs ws : List ℕ) {new : List ℕ} → new ≡ laidIn 0 xs ws → length xs ≤ length ws → new ≡ xs ++ drop (length xs) ws
+pub laid-front : (xs ws : List ℕ) {new : List ℕ} → new ≡ laidIn 0 xs ws → length xs ≤ length ws →
+    new ≡ xs ++ drop (length xs) ws
 unfolding laid
 laid-front xs ws e h = laid-in 0 xs ws e (omega (arith, h)) ∙ whole
   where
@@ -88,10 +94,16 @@ laid-front xs ws e h = laid-in 0 xs ws e (omega (arith, h)) ∙ whole
 
 -- ---- a part out of words
 
-pub copied-whole : (at : ℕ) (ws old : List ℕ) → leb (at + length old) (length ws) ≡ true → laid 0 (part at (length old) ws) old ≡ copied at ws old
+pub copied-whole : (at : ℕ) (ws old : List ℕ) → leb (at + length old) (length ws) ≡ true →
+    laid 0 (part at (length old) ws) old ≡ copied at ws old
 unfolding laid copied
 copied-whole at ws old h =
-    rw (h, length-part ws old at (length old) 0 (leb-true (at + length old) (length ws) h), zero-add (length old), drop-length old)
+    rw (
+      h,
+      length-part ws old at (length old) 0 (leb-true (at + length old) (length ws) h),
+      zero-add (length old),
+      drop-length old,
+    )
     (append-nil (part at (length old) ws))
 
 pub copied-out : (at : ℕ) (ws old : List ℕ) → leb (at + length old) (length ws) ≡ false → old ≡ copied at ws old
@@ -107,17 +119,20 @@ part-or n at ws e = (
 
 -- ---- and levels
 
-pub levels-or : (n at : ℕ) (ws : List ℕ) {r : List ℤ} → r ≡ copiedLevels at ws (replicate n (pos 0)) → LevelsOr at n ws r
+pub levels-or : (n at : ℕ) (ws : List ℕ) {r : List ℤ} → r ≡ copiedLevels at ws (replicate n (pos 0)) →
+    LevelsOr at n ws r
 unfolding copiedLevels
 levels-or n at ws e = (
   λ h. e ∙ rw (length-replicate n (pos 0), le-leb (at + n) (length ws) h) refl,
   λ h. e ∙ rw (length-replicate n (pos 0), lt-leb (at + n) (length ws) h) refl,
 )
 
-pub levels-whole : (at : ℕ) (ws : List ℕ) (old : List ℤ) → leb (at + length old) (length ws) ≡ true → fromWords (part at (length old) ws) ≡ copiedLevels at ws old
+pub levels-whole : (at : ℕ) (ws : List ℕ) (old : List ℤ) → leb (at + length old) (length ws) ≡ true →
+    fromWords (part at (length old) ws) ≡ copiedLevels at ws old
 unfolding copiedLevels
 levels-whole at ws old h = rw h refl
 
-pub levels-out : (at : ℕ) (ws : List ℕ) (old : List ℤ) → leb (at + length old) (length ws) ≡ false → old ≡ copiedLevels at ws old
+pub levels-out : (at : ℕ) (ws : List ℕ) (old : List ℤ) → leb (at + length old) (length ws) ≡ false →
+    old ≡ copiedLevels at ws old
 unfolding copiedLevels
 levels-out at ws old h = rw h refl

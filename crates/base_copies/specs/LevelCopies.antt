@@ -40,16 +40,24 @@ from-one [] w = refl
 from-one (v ∷ ws) w = ap (λ (l : List ℤ). wordLevel v ∷ l) (from-one ws w)
 
 pub levels-next : (ws : List ℕ) (to : List ℤ) (at i : ℕ) → i < length to → at + length to ≤ length ws
-    → set (fromWords (part at i ws) ++ drop i to) i (wordLevel (getD ws (at + i) 0)) ≡ fromWords (part at (i + 1) ws) ++ drop (i + 1) to
+    → set (fromWords (part at i ws) ++ drop i to) i (wordLevel (getD ws (at + i) 0))
+    ≡ fromWords (part at (i + 1) ws) ++ drop (i + 1) to
 unfolding part
 levels-next ws to at i h l =
     let rest : i < length (drop at ws) = omega (arith, length-drop at ws) in
-    put-one (fromWords (take i (drop at ws))) to i (wordLevel (getD ws (at + i) 0)) (length-from (take i (drop at ws)) ∙ length-take-le i (drop at ws) (omega arith)) h
-    ∙ rw (add-one i, take-suc (drop at ws) i 0 rest, getD-drop at ws i 0, from-one (take i (drop at ws)) (getD ws (at + i) 0)) refl
+    put-one (fromWords (take i (drop at ws))) to i (wordLevel (getD ws (at + i) 0)) (length-from (take i (drop at ws))
+    ∙ length-take-le i (drop at ws) (omega arith)) h
+    ∙ rw (
+      add-one i,
+      take-suc (drop at ws) i 0 rest,
+      getD-drop at ws i 0,
+      from-one (take i (drop at ws)) (getD ws (at + i) 0),
+    ) refl
 
 pub levels-begin : (ws : List ℕ) (to : List ℤ) (at : ℕ) → to ≡ fromWords (part at 0 ws) ++ drop 0 to
 unfolding part fromWords
 levels-begin ws to at = refl
 
-pub levels-end : (ws : List ℕ) (to : List ℤ) (at i : ℕ) → i ≡ length to → fromWords (part at i ws) ++ drop i to ≡ fromWords (part at (length to) ws)
+pub levels-end : (ws : List ℕ) (to : List ℤ) (at i : ℕ) → i ≡ length to →
+    fromWords (part at i ws) ++ drop i to ≡ fromWords (part at (length to) ws)
 levels-end ws to at i e = rw (e, drop-length to) (append-nil (fromWords (part at (length to) ws)))

@@ -30,7 +30,9 @@ PartOr at n ws r = (at + n ≤ length ws → r ≡ part at n ws) × (length ws <
 
 -- the same of levels
 abbrev pub LevelsOr : ℕ → ℕ → List ℕ → List ℤ → Type 0
-LevelsOr at n ws r = (at + n ≤ length ws → r ≡ fromWords (part at n ws)) × (length ws < at + n → r ≡ replicate n (pos 0))
+LevelsOr at n ws r = (at + n ≤ length ws → r ≡ fromWords (part at n ws))
+    × (length ws < at + n → r ≡ replicate n (pos 0))
 
 unfoldable pub copiedLevels : ℕ → List ℕ → List ℤ → List ℤ
-copiedLevels at ws old = let new = fromWords (part at (length old) ws) in cond (leb (at + length old) (length ws)) new old
+copiedLevels at ws old = let new = fromWords (part at (length old) ws) in cond
+    (leb (at + length old) (length ws)) new old

@@ -64,7 +64,8 @@ pub fn fill(x: u16, at: usize, count: usize, words: &mut [u16])
 // Levels over the words from `at` on, each as its word, which stands for it.
 pub fn lay_levels(levels: &[i16], at: usize, words: &mut [u16])
     ensures words { λ _. ⌜ now (words .exit) ≡ laidIn at (toWords (now (levels .entry))) (now (words .entry)) ⌝ }
-    ensures back { λ _. ⌜ (at + length (now (levels .entry)) ≤ length (now (words .entry)) → fromWords (toWords (now (levels .entry))) ≡ now (levels .entry)) ⌝ }
+    ensures back { λ _. ⌜ (at + length (now (levels .entry)) ≤ length (now (words .entry)) →
+        fromWords (toWords (now (levels .entry))) ≡ now (levels .entry)) ⌝ }
 {
     if !fits(at, levels.len(), words.len()) {
         return;

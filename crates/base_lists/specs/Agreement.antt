@@ -11,22 +11,26 @@ use borrow.Author.Tests.{eqb-true, eqb-false}
 use Rattle.base_lists.specs.Folds.{agree}
 use Rattle.base_lists.specs.Tests.{either, and-left, and-right}
 
-pub agree-at : (n : ℕ) (s t : List ℕ) (d : ℕ) → n ≤ length s → n ≤ length t → agree n s t ≡ true → (i : ℕ) → i < n → getD s i d ≡ getD t i d
+pub agree-at : (n : ℕ) (s t : List ℕ) (d : ℕ) → n ≤ length s → n ≤ length t → agree n s t ≡ true → (i : ℕ) → i < n →
+    getD s i d ≡ getD t i d
 agree-at zero s t d hs ht e i l = absurd (not-suc-le-zero l)
 agree-at (suc n) [] t d hs ht e i l = absurd (not-suc-le-zero hs)
 agree-at (suc n) (x ∷ s) [] d hs ht e i l = absurd (not-suc-le-zero ht)
 agree-at (suc n) (x ∷ s) (y ∷ t) d hs ht e zero l = eqb-true x y (and-left (eqb x y) (agree n s t) e)
 agree-at (suc n) (x ∷ s) (y ∷ t) d hs ht e (suc i) l =
-    agree-at n s t d (le-of-suc-le-suc hs) (le-of-suc-le-suc ht) (and-right (eqb x y) (agree n s t) e) i (le-of-suc-le-suc l)
+    agree-at n s t d (le-of-suc-le-suc hs) (le-of-suc-le-suc ht) (and-right (eqb x y) (agree n s t) e) i
+    (le-of-suc-le-suc l)
 
 -- where it fails two entries differ
-pub agree-differ : (n : ℕ) (s t : List ℕ) (d : ℕ) → agree n s t ≡ false → (i : ℕ) × (i < n) × (getD s i d ≡ getD t i d → ⊥)
+pub agree-differ : (n : ℕ) (s t : List ℕ) (d : ℕ) → agree n s t ≡ false →
+    (i : ℕ) × (i < n) × (getD s i d ≡ getD t i d → ⊥)
 agree-differ zero s t d e = absurd (true≢false e)
 agree-differ (suc n) [] t d e = absurd (true≢false e)
 agree-differ (suc n) (x ∷ s) [] d e = absurd (true≢false e)
 agree-differ (suc n) (x ∷ s) (y ∷ t) d e = go (either (eqb x y)) (agree-differ n s t d)
   where
-    go : (eqb x y ≡ true) ⊎ (eqb x y ≡ false) → (agree n s t ≡ false → (i : ℕ) × (i < n) × (getD s i d ≡ getD t i d → ⊥))
+    go : (eqb x y ≡ true) ⊎ (eqb x y ≡ false) →
+        (agree n s t ≡ false → (i : ℕ) × (i < n) × (getD s i d ≡ getD t i d → ⊥))
         → (i : ℕ) × (i < suc n) × (getD (x ∷ s) i d ≡ getD (y ∷ t) i d → ⊥)
     go (inl h) later =
         let f : agree n s t ≡ false = rw h at e in

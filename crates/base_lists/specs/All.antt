@@ -21,11 +21,15 @@ module _ {A : Type 0} where
   all-at P (x ∷ t) zero d h a = a .0
   all-at P (x ∷ t) (suc i) d h a = all-at P t i d h (a .1)
 
-  pub all-over : (P : A → Type 0) (n : ℕ) (f : ℕ → A) (t : List A) → ((i : ℕ) → i < n → P (f i)) → All P t → All P (over n f t)
+  pub all-over : (P : A → Type 0) (n : ℕ) (f : ℕ → A) (t : List A) → ((i : ℕ) → i < n → P (f i)) → All P t →
+      All P (over n f t)
   all-over P zero f t h a = a
   all-over P (suc n) f [] h a = a
-  all-over P (suc n) f (x ∷ t) h a =
-      (h zero (suc-le-suc zero-le), all-over P n (λ (k : ℕ). f (suc k)) t (λ (i : ℕ) (l : i < n). h (suc i) (suc-le-suc l)) (a .1))
+  all-over P (suc n) f (x ∷ t) h a = (
+    h zero (suc-le-suc zero-le),
+    all-over P n (λ (k : ℕ). f (suc k)) t
+        (λ (i : ℕ) (l : i < n). h (suc i) (suc-le-suc l)) (a .1),
+  )
 
   pub all-append : (P : A → Type 0) (s t : List A) → All P s → All P t → All P (s ++ t)
   all-append P [] t a b = b
@@ -43,13 +47,20 @@ module _ {A : Type 0} where
   -- by index
   pub all-of : (P : A → Type 0) (t : List A) (d : A) → ((i : ℕ) → i < length t → P (getD t i d)) → All P t
   all-of P [] d h = tt
-  all-of P (x ∷ t) d h = (h zero (suc-le-suc zero-le), all-of P t d (λ (i : ℕ) (l : i < length t). h (suc i) (suc-le-suc l)))
+  all-of P (x ∷ t) d h = (
+    h zero (suc-le-suc zero-le),
+    all-of P t d (λ (i : ℕ) (l : i < length t). h (suc i) (suc-le-suc l)),
+  )
 
   -- the test `every` decides it, where p decides P
-  pub every-exact : (p : A → Bool) (P : A → Type 0) → ((x : A) → (p x ≡ true) ↔ P x) → (t : List A) → (every p t ≡ true) ↔ All P t
+  pub every-exact : (p : A → Bool) (P : A → Type 0) → ((x : A) → (p x ≡ true) ↔ P x) → (t : List A) →
+      (every p t ≡ true) ↔ All P t
   every-exact p P h [] = (λ e. tt, λ a. refl)
   every-exact p P h (x ∷ t) = (
-    λ (e : (p x && every p t) ≡ true). (h x .0 (and-left (p x) (every p t) e), every-exact p P h t .0 (and-right (p x) (every p t) e)),
+    λ (e : (p x && every p t) ≡ true). (
+      h x .0 (and-left (p x) (every p t) e),
+      every-exact p P h t .0 (and-right (p x) (every p t) e),
+    ),
     λ (a : P x × All P t). and-true (p x) (every p t) (h x .1 (a .0)) (every-exact p P h t .1 (a .1)),
   )
 

@@ -21,7 +21,8 @@ count-le zero p = omega arith
 count-le (suc n) p = omega (arith, count-le n p, cond-one (p n))
 
 pub count-cong : (n : ℕ) (p q : ℕ → Bool) → ((i : ℕ) → i < n → p i ≡ q i) → count n p ≡ count n q
-count-cong n p q h = sum-cong n (λ (i : ℕ). cond (p i) 1 0) (λ (i : ℕ). cond (q i) 1 0) (λ (i : ℕ) (l : i < n). rw (h i l) refl)
+count-cong n p q h = sum-cong n (λ (i : ℕ). cond (p i) 1 0) (λ (i : ℕ). cond (q i) 1 0)
+    (λ (i : ℕ) (l : i < n). rw (h i l) refl)
 
 cond-le : (a b : Bool) → (a ≡ true → b ≡ true) → cond a 1 0 ≤ cond b 1 0
 cond-le true b h = rw (h refl) (le-refl 1)
@@ -29,10 +30,12 @@ cond-le false true h = omega arith
 cond-le false false h = le-refl 0
 
 count-mono : (n : ℕ) (p q : ℕ → Bool) → ((i : ℕ) → i < n → p i ≡ true → q i ≡ true) → count n p ≤ count n q
-count-mono n p q h = sum-le n (λ (i : ℕ). cond (p i) 1 0) (λ (i : ℕ). cond (q i) 1 0) (λ (i : ℕ) (l : i < n). cond-le (p i) (q i) (h i l))
+count-mono n p q h = sum-le n (λ (i : ℕ). cond (p i) 1 0) (λ (i : ℕ). cond (q i) 1 0)
+    (λ (i : ℕ) (l : i < n). cond-le (p i) (q i) (h i l))
 
 -- a test that passes where another does, and once more, passes more often
-pub count-less : (n : ℕ) (p q : ℕ → Bool) (j : ℕ) → j < n → p j ≡ false → q j ≡ true → ((i : ℕ) → i < n → p i ≡ true → q i ≡ true) → count n p < count n q
+pub count-less : (n : ℕ) (p q : ℕ → Bool) (j : ℕ) → j < n → p j ≡ false → q j ≡ true →
+    ((i : ℕ) → i < n → p i ≡ true → q i ≡ true) → count n p < count n q
 count-less zero p q j l a b h = absurd (not-suc-le-zero l)
 count-less (suc n) p q j l a b h =
     go (ℕ-discrete n j) (λ (k : j < n). count-less n p q j k a b (λ (i : ℕ) (c : i < n). h i (le-step c)))
@@ -51,20 +54,28 @@ count-true (suc n) = omega (arith, count-true n)
 
 -- one that fails somewhere
 pub count-fewer : (n : ℕ) (p : ℕ → Bool) (j : ℕ) → j < n → p j ≡ false → count n p < n
-count-fewer n p j l e = omega (arith, count-less n p (λ (i : ℕ). true) j l e refl (λ (i : ℕ) (k : i < n) (h : p i ≡ true). refl), count-true n)
+count-fewer n p j l e = omega (
+  arith,
+  count-less n p (λ (i : ℕ). true) j l e refl
+      (λ (i : ℕ) (k : i < n) (h : p i ≡ true). refl),
+  count-true n,
+)
 
 -- tests that agree but at one number
-pub count-next : (n : ℕ) (p q : ℕ → Bool) (j : ℕ) → j < n → p j ≡ true → q j ≡ false → ((i : ℕ) → i < n → i ≢ j → p i ≡ q i)
+pub count-next : (n : ℕ) (p q : ℕ → Bool) (j : ℕ) → j < n → p j ≡ true → q j ≡ false →
+    ((i : ℕ) → i < n → i ≢ j → p i ≡ q i)
     → count n p ≡ suc (count n q)
 count-next n p q j l a b h =
     let one : cond (p j) 1 0 ≡ cond (q j) 1 0 + 1 = rw (a, b) refl in
     omega (
       arith,
-      sum-more n (λ (i : ℕ). cond (p i) 1 0) (λ (i : ℕ). cond (q i) 1 0) j 1 l one (λ (i : ℕ) (k : i < n) (d : i ≢ j). rw (h i k d) refl),
+      sum-more n (λ (i : ℕ). cond (p i) 1 0) (λ (i : ℕ). cond (q i) 1 0) j 1 l one
+          (λ (i : ℕ) (k : i < n) (d : i ≢ j). rw (h i k d) refl),
     )
 
 -- tests that never pass together
-pub count-apart : (n : ℕ) (p q r : ℕ → Bool) → ((i : ℕ) → i < n → p i ≡ true → (r i ≡ true) × (q i ≡ false)) → ((i : ℕ) → i < n → q i ≡ true → r i ≡ true)
+pub count-apart : (n : ℕ) (p q r : ℕ → Bool) → ((i : ℕ) → i < n → p i ≡ true → (r i ≡ true) × (q i ≡ false)) →
+    ((i : ℕ) → i < n → q i ≡ true → r i ≡ true)
     → count n p + count n q ≤ count n r
 count-apart zero p q r f g = le-refl 0
 count-apart (suc n) p q r f g =
@@ -74,7 +85,8 @@ count-apart (suc n) p q r f g =
       here (p n) (q n) (r n) (f n (le-refl (suc n))) (g n (le-refl (suc n))),
     )
   where
-    here : (a b c : Bool) → (a ≡ true → (c ≡ true) × (b ≡ false)) → (b ≡ true → c ≡ true) → cond a 1 0 + cond b 1 0 ≤ cond c 1 0
+    here : (a b c : Bool) → (a ≡ true → (c ≡ true) × (b ≡ false)) → (b ≡ true → c ≡ true) →
+        cond a 1 0 + cond b 1 0 ≤ cond c 1 0
     here true b c s t = let w = s refl in rw (w .0, w .1) (le-refl 1)
     here false true c s t = rw (t refl) (le-refl 1)
     here false false c s t = omega arith
@@ -82,14 +94,17 @@ count-apart (suc n) p q r f g =
 pub count-none : (n : ℕ) (p : ℕ → Bool) → ((i : ℕ) → i < n → p i ≡ false) → count n p ≡ 0
 count-none zero p h = refl
 count-none (suc n) p h =
-    rw (h n (le-refl (suc n))) (let r : count n p ≡ 0 = count-none n p (λ (i : ℕ) (l : i < n). h i (le-step l)) in omega arith)
+    rw (h n (le-refl (suc n))) (let r : count n p
+    ≡ 0 = count-none n p (λ (i : ℕ) (l : i < n). h i (le-step l)) in omega arith)
 
 -- a number that passes, or a count of none
-pub count-some : (n : ℕ) (p : ℕ → Bool) → ((i : ℕ) × (i < n) × (p i ≡ true)) ⊎ ((count n p ≡ 0) × ((i : ℕ) → i < n → p i ≡ false))
+pub count-some : (n : ℕ) (p : ℕ → Bool) →
+    ((i : ℕ) × (i < n) × (p i ≡ true)) ⊎ ((count n p ≡ 0) × ((i : ℕ) → i < n → p i ≡ false))
 count-some zero p = inr (refl, λ (i : ℕ) (l : i < 0). absurd (not-suc-le-zero l))
 count-some (suc n) p = go (either (p n)) (count-some n p)
   where
-    go : (p n ≡ true) ⊎ (p n ≡ false) → ((i : ℕ) × (i < n) × (p i ≡ true)) ⊎ ((count n p ≡ 0) × ((i : ℕ) → i < n → p i ≡ false))
+    go : (p n ≡ true) ⊎ (p n ≡ false) → ((i : ℕ) × (i < n) × (p i ≡ true))
+        ⊎ ((count n p ≡ 0) × ((i : ℕ) → i < n → p i ≡ false))
         → ((i : ℕ) × (i < suc n) × (p i ≡ true)) ⊎ ((count (suc n) p ≡ 0) × ((i : ℕ) → i < suc n → p i ≡ false))
     go (inl e) w = inl (n, le-refl (suc n), e)
     go (inr e) (inl w) = inl (w .0, le-step (w .1), w .2)
@@ -101,7 +116,8 @@ pub count-positive : (n : ℕ) (p : ℕ → Bool) (i : ℕ) → i < n → p i �
 count-positive zero p i l h = absurd (not-suc-le-zero l)
 count-positive (suc n) p i l h =
     below-suc (λ (j : ℕ). p j ≡ true → 1 ≤ count (suc n) p) n
-    (λ (j : ℕ) (k : j < n) (e : p j ≡ true). omega (arith, count-positive n p j k e)) (λ (e : p n ≡ true). rw e (omega arith)) i l h
+    (λ (j : ℕ) (k : j < n) (e : p j ≡ true). omega (arith, count-positive n p j k e))
+    (λ (e : p n ≡ true). rw e (omega arith)) i l h
 
 -- two that pass
 count-two : (n : ℕ) (p : ℕ → Bool) (i j : ℕ) → i < j → j < n → p i ≡ true → p j ≡ true → 2 ≤ count n p
@@ -116,14 +132,19 @@ count-two (suc n) p i j h l a b = go (decLt j n) (λ k. count-two n p i j h k a 
     go (no k) below = last (omega arith)
 
 -- one alone that passes
-count-alone : (n : ℕ) (p : ℕ → Bool) (j : ℕ) → j < n → p j ≡ true → ((k : ℕ) → k < n → p k ≡ true → k ≡ j) → count n p ≡ 1
+count-alone : (n : ℕ) (p : ℕ → Bool) (j : ℕ) → j < n → p j ≡ true → ((k : ℕ) → k < n → p k ≡ true → k ≡ j) →
+    count n p ≡ 1
 count-alone zero p j l e h = absurd (not-suc-le-zero l)
 count-alone (suc n) p j l e h = go (decLt j n) (λ k. count-alone n p j k e (λ i m. h i (le-step m)))
   where
     last : j ≡ n → count (suc n) p ≡ 1
     last q =
         let f : p n ≡ true = rw (← q) e in
-        rw f (omega (arith, count-none n p (λ i m. refuted (p i) (λ g. let z : i ≡ j = h i (le-step m) g in omega arith))))
+        rw f (omega (
+          arith,
+          count-none n p
+              (λ i m. refuted (p i) (λ g. let z : i ≡ j = h i (le-step m) g in omega arith)),
+        ))
 
     go : Dec (j < n) → (j < n → count n p ≡ 1) → count (suc n) p ≡ 1
     go (yes k) below =
@@ -132,7 +153,8 @@ count-alone (suc n) p j l e h = go (decLt j n) (λ k. count-alone n p j k e (λ 
     go (no k) below = last (omega arith)
 
 -- a count of one
-pub count-one : (n : ℕ) (p : ℕ → Bool) (j : ℕ) → j < n → p j ≡ true → (count n p ≡ 1) ↔ ((k : ℕ) → k < n → p k ≡ true → k ≡ j)
+pub count-one : (n : ℕ) (p : ℕ → Bool) (j : ℕ) → j < n → p j ≡ true →
+    (count n p ≡ 1) ↔ ((k : ℕ) → k < n → p k ≡ true → k ≡ j)
 count-one n p j l e = (λ c k m f. only c k m f (decLt k j) (decLt j k), count-alone n p j l e)
   where
     only : count n p ≡ 1 → (k : ℕ) → k < n → p k ≡ true → Dec (k < j) → Dec (j < k) → k ≡ j
@@ -141,5 +163,6 @@ count-one n p j l e = (λ c k m f. only c k m f (decLt k j) (decLt j k), count-a
     only c k m f (no h) (no g) = omega arith
 
 -- a turn of a loop that counts
-pub count-more : (n : ℕ) (p : ℕ → Bool) (k new x : ℕ) → k ≡ count n p → x ≡ cond (p n) 1 0 → new ≡ k + x → new ≡ count (n + 1) p
+pub count-more : (n : ℕ) (p : ℕ → Bool) (k new x : ℕ) → k ≡ count n p → x ≡ cond (p n) 1 0 → new ≡ k + x →
+    new ≡ count (n + 1) p
 count-more n p k new x was is put = rw (put, was, is, add-one)

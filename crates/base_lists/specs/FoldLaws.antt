@@ -1,4 +1,5 @@
--- Folds by any operation: equal term by term, what they keep, and folds by one that picks the least or the greatest of its two operands.
+-- Folds by any operation: equal term by term, what they keep, and folds by one that picks the least or the greatest of
+-- its two operands.
 use mathlib.Core.Path.{_≡_, refl, ap₂, _∙_}
 use mathlib.Core.Logic.{_⊎_, inl, inr}
 use Prim.Native.Nat.{ℕ, zero, suc, _≤_, _<_, min, max}
@@ -8,7 +9,8 @@ use native.Mathlib.Omega.{arith}
 use Rattle.base_lists.specs.Below.{below-suc}
 use Rattle.base_lists.specs.Folds.{fold}
 
-pub fold-cong : (op : ℕ → ℕ → ℕ) (n : ℕ) (f g : ℕ → ℕ) (x : ℕ) → ((i : ℕ) → i < n → f i ≡ g i) → fold op n f x ≡ fold op n g x
+pub fold-cong : (op : ℕ → ℕ → ℕ) (n : ℕ) (f g : ℕ → ℕ) (x : ℕ) → ((i : ℕ) → i < n → f i ≡ g i) →
+    fold op n f x ≡ fold op n g x
 fold-cong op zero f g x h = refl
 fold-cong op (suc n) f g x h =
     ap₂ op (fold-cong op n f g x (λ (i : ℕ) (l : i < n). h i (le-step l))) (h n (le-refl (suc n)))
@@ -83,13 +85,15 @@ max-choice = record {
 module _ {op : ℕ → ℕ → ℕ} {le : ℕ → ℕ → Type 0} (choice : Choice op le) where
   pub fold-start : (n : ℕ) (f : ℕ → ℕ) (x : ℕ) → le (fold op n f x) x
   fold-start zero f x = choice .same x
-  fold-start (suc n) f x = choice .through (fold op (suc n) f x) (fold op n f x) x (choice .left (fold op n f x) (f n)) (fold-start n f x)
+  fold-start (suc n) f x = choice .through (fold op (suc n) f x) (fold op n f x) x (choice .left (fold op n f x) (f n))
+      (fold-start n f x)
 
   pub fold-before : (n : ℕ) (f : ℕ → ℕ) (x i : ℕ) → i < n → le (fold op n f x) (f i)
   fold-before zero f x i l = absurd (not-suc-le-zero l)
   fold-before (suc n) f x i l =
       below-suc (λ (j : ℕ). le (fold op (suc n) f x) (f j)) n
-      (λ (j : ℕ) (h : j < n). choice .through (fold op (suc n) f x) (fold op n f x) (f j) (choice .left (fold op n f x) (f n)) (fold-before n f x j h))
+      (λ (j : ℕ) (h : j < n). choice .through (fold op (suc n) f x) (fold op n f x) (f j)
+      (choice .left (fold op n f x) (f n)) (fold-before n f x j h))
       (choice .right (fold op n f x) (f n)) i l
 
   pub fold-is : (n : ℕ) (f : ℕ → ℕ) (x : ℕ) → (fold op n f x ≡ x) ⊎ ((i : ℕ) × (i < n) × (fold op n f x ≡ f i))

@@ -15,10 +15,12 @@ module _ {ℓ} {A : Type ℓ} where
   gathered (suc n) f = gathered n f ++ f n
 
 module _ {A : Type 0} where
-  pub length-gathered : (n k : ℕ) (f : ℕ → List A) → ((i : ℕ) → i < n → length (f i) ≡ k) → length (gathered n f) ≡ k * n
+  pub length-gathered : (n k : ℕ) (f : ℕ → List A) → ((i : ℕ) → i < n → length (f i) ≡ k) →
+      length (gathered n f) ≡ k * n
   length-gathered zero k f h = omega arith
   length-gathered (suc n) k f h =
-      length-append (gathered n f) (f n) ∙ omega (arith, length-gathered n k f (λ (i : ℕ) (l : i < n). h i (le-step l)), h n (le-refl (suc n)))
+      length-append (gathered n f) (f n)
+      ∙ omega (arith, length-gathered n k f (λ (i : ℕ) (l : i < n). h i (le-step l)), h n (le-refl (suc n)))
 
   pub gathered-cong : (n : ℕ) (f g : ℕ → List A) → ((i : ℕ) → i < n → f i ≡ g i) → gathered n f ≡ gathered n g
   gathered-cong zero f g h = refl
@@ -31,10 +33,12 @@ module _ {A : Type 0} where
   gathered-at (suc n) k f rest h i l =
       below-suc (λ (j : ℕ). take k (drop (k * j) (gathered n f ++ f n ++ rest)) ≡ f j) n
       (λ (j : ℕ) (m : j < n).
-      rw (append-assoc (gathered n f) (f n) rest) (gathered-at n k f (f n ++ rest) (λ (q : ℕ) (b : q < n). h q (le-step b)) j m)) last i l
+      rw (append-assoc (gathered n f) (f n) rest)
+      (gathered-at n k f (f n ++ rest) (λ (q : ℕ) (b : q < n). h q (le-step b)) j m)) last i l
     where
       last : take k (drop (k * n) (gathered n f ++ f n ++ rest)) ≡ f n
       last =
           let d : drop (k * n) (gathered n f ++ (f n ++ rest)) ≡ f n ++ rest =
-          drop-at (gathered n f) (f n ++ rest) (k * n) (length-gathered n k f (λ (j : ℕ) (q : j < n). h j (le-step q))) in
+          drop-at (gathered n f) (f n ++ rest) (k * n)
+          (length-gathered n k f (λ (j : ℕ) (q : j < n). h j (le-step q))) in
           rw (append-assoc (gathered n f) (f n) rest, d) (take-at (f n) rest k (h n (le-refl (suc n))))

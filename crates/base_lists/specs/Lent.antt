@@ -1,4 +1,5 @@
--- A slice whose rest from a place on is lent to a call, `&xs[at..]` or `&mut xs[at..]`: what the call is lent, and the whole after it.
+-- A slice whose rest from a place on is lent to a call, `&xs[at..]` or `&mut xs[at..]`: what the call is lent, and the
+-- whole after it.
 use mathlib.Core.Path.{_≡_, sym}
 use mathlib.Core.List.{List, _++_, append-assoc, append-nil}
 use Prim.Native.Nat.{ℕ, _+_, _-_}
@@ -22,10 +23,19 @@ module _ {ℓ} {A : Type ℓ} where
   back-rest at xs ys =
       rw (drop-of-length-le (drop at xs) {i = length xs - at} (omega (arith, length-drop at xs)), append-nil ys)
 
-  -- a part laid down over the rest, past what is laid down already: f is what the call does to the slice that it is lent
-  pub back-next : (f : List A → List A) (part p out : List A) (at n : ℕ) → length p ≡ at → f (drop at out) ≡ part ++ drop n (drop at out)
+  -- a part laid down over the rest, past what is laid down already: f is what the call does to the slice that it is
+  -- lent
+  pub back-next : (f : List A → List A) (part p out : List A) (at n : ℕ) → length p ≡ at →
+      f (drop at out) ≡ part ++ drop n (drop at out)
       → back at (p ++ drop at out) (f (lent at (p ++ drop at out))) ≡ (p ++ part) ++ drop (at + n) out
   back-next f part p out at n e h =
       let xs = p ++ drop at out in
-      rw (back-rest at xs (f (lent at xs)), lent-rest at xs, take-at p (drop at out) at e, drop-at p (drop at out) at e, h, drop-drop n at out)
+      rw (
+        back-rest at xs (f (lent at xs)),
+        lent-rest at xs,
+        take-at p (drop at out) at e,
+        drop-at p (drop at out) at e,
+        h,
+        drop-drop n at out,
+      )
       (sym (append-assoc p part (drop (at + n) out)))

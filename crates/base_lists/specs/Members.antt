@@ -90,11 +90,13 @@ distinct-join (x ∷ s) t ds dt h = (λ m. go (mem-cases x s t m), distinct-join
     go (inr m) = h x (inl refl) m
 
 pub distinct-swap : (s t : List ℕ) → Distinct (s ++ t) → Distinct (t ++ s)
-distinct-swap s t d = distinct-join t s (distinct-right s t d) (distinct-left s t d) (λ x m h. distinct-apart s t d x h m)
+distinct-swap s t d = distinct-join t s (distinct-right s t d) (distinct-left s t d)
+    (λ x m h. distinct-apart s t d x h m)
 
 pub distinct-reverse : (l : List ℕ) → Distinct l → Distinct (reverse l)
 distinct-reverse [] d = tt
-distinct-reverse (x ∷ l) d = rw reverse-cons (distinct-join (reverse l) (x ∷ []) (distinct-reverse l (d .1)) (λ m. m, tt) apart)
+distinct-reverse (x ∷ l) d = rw reverse-cons
+    (distinct-join (reverse l) (x ∷ []) (distinct-reverse l (d .1)) (λ m. m, tt) apart)
   where
     apart : Disjoint (reverse l) (x ∷ [])
     apart y m (inl e) = d .0 (subst (λ (z : ℕ). Mem z l) e (mem-reverse y l m))

@@ -60,11 +60,13 @@ odd-multiple i x (c, e) h = go (c / 2) (parity c)
         pick (yes l) = inl (omega arith)
         pick (no l) = inr (omega arith)
 
-    go : (d : ℕ) → (c ≡ d + d) ⊎ (c ≡ suc (d + d)) → (2 ^ i ≤ x) × Multiple (2 ^ suc i) (x + 2 ^ i) × Multiple (2 ^ suc i) (x - 2 ^ i)
+    go : (d : ℕ) → (c ≡ d + d) ⊎ (c ≡ suc (d + d)) →
+        (2 ^ i ≤ x) × Multiple (2 ^ suc i) (x + 2 ^ i) × Multiple (2 ^ suc i) (x - 2 ^ i)
     go d (inl q) =
         let even : x ≡ (d + d) * 2 ^ i = e ∙ rw q in
         absurd (h (multiple-remainder (2 ^ suc i) x (d, omega (arith, double i d, add-mul d d (2 ^ i)))))
     go d (inr q) =
         let uneven : x ≡ suc (d + d) * 2 ^ i = e ∙ rw q in
-        let parts : x ≡ d * 2 ^ suc i + 2 ^ i = omega (arith, double i d, add-mul d d (2 ^ i), suc-mul (d + d) (2 ^ i)) in
+        let parts : x ≡ d * 2 ^ suc i + 2 ^ i =
+        omega (arith, double i d, add-mul d d (2 ^ i), suc-mul (d + d) (2 ^ i)) in
         (omega arith, (suc d, omega (arith, suc-mul d (2 ^ suc i))), (d, omega arith))

@@ -50,7 +50,8 @@ module _ (on : ℕ → Bool) where
   any-find [] h = absurd (true≢false (sym h))
   any-find (x ∷ l) h = go (any-find l) (or-cases (on x) (any on l) h)
     where
-      go : (any on l ≡ true → (z : ℕ) × Mem z l × (on z ≡ true)) → (on x ≡ true) ⊎ (any on l ≡ true) → (z : ℕ) × Mem z (x ∷ l) × (on z ≡ true)
+      go : (any on l ≡ true → (z : ℕ) × Mem z l × (on z ≡ true)) → (on x ≡ true) ⊎ (any on l ≡ true) →
+          (z : ℕ) × Mem z (x ∷ l) × (on z ≡ true)
       go f (inl k) = (x, inl refl, k)
       go f (inr k) = let r = f k in (r .0, inr (r .1), r .2)
 
@@ -70,7 +71,8 @@ module _ (on : ℕ → Bool) where
   first-on [] h = absurd (true≢false (sym h))
   first-on (x ∷ l) h = go (on x) refl h (first-on l)
     where
-      go : (b : Bool) → on x ≡ b → b || any on l ≡ true → (any on l ≡ true → on (firstOn on l) ≡ true) → on (cond b x (firstOn on l)) ≡ true
+      go : (b : Bool) → on x ≡ b → b || any on l ≡ true → (any on l ≡ true → on (firstOn on l) ≡ true) →
+          on (cond b x (firstOn on l)) ≡ true
       go true e k f = e
       go false e k f = f k
 

@@ -1,5 +1,5 @@
--- Different numbers, each picked among 0 .. n − 1 by a test, are at most as many as the test picks; and what follows: a map
--- of 0 .. n − 1 into itself that takes no two numbers to one takes some number to each.
+-- Different numbers, each picked among 0 .. n − 1 by a test, are at most as many as the test picks; and what follows: a
+-- map of 0 .. n − 1 into itself that takes no two numbers to one takes some number to each.
 use mathlib.Core.Path.{_≡_, refl, sym, ap, subst, _∙_}
 use mathlib.Core.Logic.{inl, inr, _≢_}
 use mathlib.Core.Bool.{Bool, true}
@@ -32,7 +32,8 @@ remove x (y ∷ l) d (inr m) =
     go k both z (inl e) = (inl e, λ h. d .0 (subst (λ (w : ℕ). Mem w l) (sym h ∙ e) m))
     go k both z (inr h) = (inr (both z h .0), both z h .1)
 
-pub pigeonhole : (p : ℕ → Bool) (n : ℕ) (l : List ℕ) → Distinct l → ((z : ℕ) → Mem z l → Picked p n z) → length l ≤ count n p
+pub pigeonhole : (p : ℕ → Bool) (n : ℕ) (l : List ℕ) → Distinct l → ((z : ℕ) → Mem z l → Picked p n z) →
+    length l ≤ count n p
 pigeonhole p zero [] d h = omega arith
 pigeonhole p zero (y ∷ l) d h = let k = h y (inl refl) .below in omega arith
 pigeonhole p (suc n) l d h = go (pigeonhole p n) (mem? n l)
@@ -40,7 +41,8 @@ pigeonhole p (suc n) l d h = go (pigeonhole p n) (mem? n l)
     lower : (z : ℕ) → Picked p (suc n) z → z ≢ n → Picked p n z
     lower z k e = let b = k .below in record { below = omega arith; passes = k .passes }
 
-    go : ((k : List ℕ) → Distinct k → ((z : ℕ) → Mem z k → Picked p n z) → length k ≤ count n p) → Dec (Mem n l) → length l ≤ count (suc n) p
+    go : ((k : List ℕ) → Distinct k → ((z : ℕ) → Mem z k → Picked p n z) → length k ≤ count n p) → Dec (Mem n l) →
+        length l ≤ count (suc n) p
     go ih (yes m) =
         let r = remove n l d m in
         let a = ih (r .0) (r .2) (λ z k. lower z (h z (r .3 z k .0)) (r .3 z k .1)) in
@@ -100,7 +102,12 @@ onto f n into inj v b = go (find f v n)
   where
     go : Dec ((i : ℕ) × (i < n) × (f i ≡ v)) → (i : ℕ) × (i < n) × (f i ≡ v)
     go (yes k) = k
-    go (no k) = absurd (omega (arith, pigeonhole (λ i. true) n (v ∷ images f n) (fresh, distinct-images f n inj) all, length-images f n, count-true n))
+    go (no k) = absurd (omega (
+      arith,
+      pigeonhole (λ i. true) n (v ∷ images f n) (fresh, distinct-images f n inj) all,
+      length-images f n,
+      count-true n,
+    ))
       where
         fresh : Mem v (images f n) → ⊥
         fresh m = let r = mem-images f n v m in k (r .0, r .1, sym (r .2))

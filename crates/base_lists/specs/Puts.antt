@@ -9,8 +9,13 @@ use lib.Seq.{drop-cons, set-at, append-snoc}
 
 module _ {ℓ} {A : Type ℓ} where
   -- one element more
-  pub put-one : (p o : List A) (n : ℕ) (x : A) → length p ≡ n → n < length o → set (p ++ drop n o) n x ≡ (p ++ x ∷ []) ++ drop (n + 1) o
-  put-one p o n x e h = rw (add-one, drop-cons o n x h, set-at p (getD o n x) (drop (suc n) o) x n e) (sym (append-snoc p x (drop (suc n) o)))
+  pub put-one : (p o : List A) (n : ℕ) (x : A) → length p ≡ n → n < length o →
+      set (p ++ drop n o) n x ≡ (p ++ x ∷ []) ++ drop (n + 1) o
+  put-one p o n x e h = rw (
+    add-one,
+    drop-cons o n x h,
+    set-at p (getD o n x) (drop (suc n) o) x n e,
+  ) (sym (append-snoc p x (drop (suc n) o)))
 
   -- two elements more
   pub put-two : (p o : List A) (n : ℕ) (x y : A) → length p ≡ n → n + 2 ≤ length o
@@ -18,4 +23,9 @@ module _ {ℓ} {A : Type ℓ} where
   put-two p o n x y e h =
       let longer : length (p ++ x ∷ []) ≡ n + 1 = length-append p (x ∷ []) ∙ omega arith in
       let further : n + 2 ≡ n + 1 + 1 = omega arith in
-      rw (put-one p o n x e (omega arith), put-one (p ++ x ∷ []) o (n + 1) y longer (omega arith), further, append-assoc p (x ∷ []) (y ∷ []))
+      rw (
+        put-one p o n x e (omega arith),
+        put-one (p ++ x ∷ []) o (n + 1) y longer (omega arith),
+        further,
+        append-assoc p (x ∷ []) (y ∷ []),
+      )

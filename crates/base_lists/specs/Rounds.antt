@@ -43,12 +43,15 @@ module _ {ℓ} {A : Type ℓ} where
       (λ (i : ℕ) (l : n ≤ i) (m : i < length old). getD-over-past n f old i d l)
 
   -- a round that gives each entry what it has
-  pub over-same : (d : A) (n : ℕ) (f : ℕ → A) (old : List A) → ((i : ℕ) → i < n → getD old i d ≡ f i) → old ≡ over n f old
+  pub over-same : (d : A) (n : ℕ) (f : ℕ → A) (old : List A) → ((i : ℕ) → i < n → getD old i d ≡ f i) →
+      old ≡ over n f old
   over-same d n f old h =
-      over-ext d n f old old refl (λ (i : ℕ) (l : i < n) (m : i < length old). h i l) (λ (i : ℕ) (l : n ≤ i) (m : i < length old). refl)
+      over-ext d n f old old refl (λ (i : ℕ) (l : i < n) (m : i < length old). h i l)
+      (λ (i : ℕ) (l : n ≤ i) (m : i < length old). refl)
 
   -- a turn of a loop that fills a table in order, right where the table has the entry
-  over-more-in : (n : ℕ) (f : ℕ → A) (old t new : List A) (x : A) → t ≡ over n f old → (n < length old → x ≡ f n) → new ≡ set t n x
+  over-more-in : (n : ℕ) (f : ℕ → A) (old t new : List A) (x : A) → t ≡ over n f old → (n < length old → x ≡ f n) →
+      new ≡ set t n x
       → new ≡ over (n + 1) f old
   over-more-in n f old t new x was is put = go (decLt n (length old))
     where
@@ -59,11 +62,14 @@ module _ {ℓ} {A : Type ℓ} where
           (sym (set-out (over n f old) n (f n) (omega (arith, length-over n f old))) ∙ set-over n f old)
 
   -- a turn that fills two entries
-  pub over-pair : (v : ℕ) (f : ℕ → A) (old t new : List A) (x y : A) → t ≡ over (2 * v) f old → (2 * v < length old → x ≡ f (2 * v))
-      → (2 * v + 1 < length old → y ≡ f (2 * v + 1)) → new ≡ set (set t (2 * v) x) (2 * v + 1) y → new ≡ over (2 * (v + 1)) f old
+  pub over-pair : (v : ℕ) (f : ℕ → A) (old t new : List A) (x y : A) → t ≡ over (2 * v) f old →
+      (2 * v < length old → x ≡ f (2 * v))
+      → (2 * v + 1 < length old → y ≡ f (2 * v + 1)) → new ≡ set (set t (2 * v) x) (2 * v + 1) y →
+      new ≡ over (2 * (v + 1)) f old
   over-pair v f old t new x y was is is′ put =
       let e : 2 * (v + 1) ≡ 2 * v + 1 + 1 = omega arith in
-      rw e (over-more-in (2 * v + 1) f old (set t (2 * v) x) new y (over-more-in (2 * v) f old t (set t (2 * v) x) x was is refl) is′ put)
+      rw e (over-more-in (2 * v + 1) f old (set t (2 * v) x) new y
+      (over-more-in (2 * v) f old t (set t (2 * v) x) x was is refl) is′ put)
 
 -- a pass that stops at the table's end makes the whole round
 pub over-least : (n m : ℕ) (f : ℕ → ℕ) (old t : List ℕ) → length old ≤ m → t ≡ over (min n m) f old → t ≡ over n f old

@@ -33,7 +33,8 @@ op-swap true x y z = omega arith
 op-swap false x y z = omega arith
 
 -- a fold takes in without change what its start has taken in
-pub fold-absorbs : (b : Bool) (k : ℕ) (f : ℕ → ℕ) (x y : ℕ) → opOf b x y ≡ x → opOf b (fold (opOf b) k f x) y ≡ fold (opOf b) k f x
+pub fold-absorbs : (b : Bool) (k : ℕ) (f : ℕ → ℕ) (x y : ℕ) → opOf b x y ≡ x →
+    opOf b (fold (opOf b) k f x) y ≡ fold (opOf b) k f x
 fold-absorbs b zero f x y h = h
 fold-absorbs b (suc k) f x y h = rw (op-swap b (fold (opOf b) k f x) (f k) y, fold-absorbs b k f x y h)
 
@@ -84,17 +85,20 @@ module _ (op : ℕ → ℕ → ℕ) (n : ℕ) (f : ℕ → ℕ) (old : List ℕ)
   takes-go (inr e) =
       rw e
       (over-cong n f with-in old
-      (λ (i : ℕ) (h : i < n). sym (cond-false (eqb a i) (op (f i) x) (f i) (ne-eqb a i (λ q. omega (arith, ltb-false a n e))))))
+      (λ (i : ℕ) (h : i < n). sym (cond-false (eqb a i) (op (f i) x) (f i)
+      (ne-eqb a i (λ q. omega (arith, ltb-false a n e))))))
 
   pub takes-over : takesIn op n (over n f old) a x ≡ over n (λ (v : ℕ). cond (eqb a v) (op (f v) x) (f v)) old
   takes-over = takes-go (either (ltb a n))
 
--- an item with two targets, which take in x and y: the same where they are one target. `rest` is what the others hear, and have taken in already
+-- an item with two targets, which take in x and y: the same where they are one target. `rest` is what the others hear,
+-- and have taken in already
 module _ (b : Bool) (v z a c x y rest : ℕ) (same : a ≡ c → x ≡ y) (own : opOf b z rest ≡ z) where
   abbrev once : ℕ
   once = cond (eqb a v) (opOf b z x) z
 
-  pair-one : Dec (a ≡ v) → Dec (c ≡ v) → cond (eqb c v) (opOf b once y) once ≡ opOf b z (cond (eqb a v) x (cond (eqb c v) y rest))
+  pair-one : Dec (a ≡ v) → Dec (c ≡ v) →
+      cond (eqb c v) (opOf b once y) once ≡ opOf b z (cond (eqb a v) x (cond (eqb c v) y rest))
   pair-one (yes p) (yes q) = rw (eq-eqb a v p, eq-eqb c v q, ← same (p ∙ sym q)) (op-twice b z x)
   pair-one (yes p) (no q) = rw (eq-eqb a v p, ne-eqb c v q)
   pair-one (no p) (yes q) = rw (ne-eqb a v p, eq-eqb c v q)
@@ -105,9 +109,13 @@ module _ (b : Bool) (n : ℕ) (f rest : ℕ → ℕ) (old : List ℕ) (a c x y :
       → takesIn (opOf b) n (takesIn (opOf b) n (over n f old) a x) c y
       ≡ over n (λ (v : ℕ). opOf b (f v) (cond (eqb a v) x (cond (eqb c v) y (rest v)))) old
   pair-over same own =
-      rw (takes-over (opOf b) n f old a x, takes-over (opOf b) n (λ (v : ℕ). cond (eqb a v) (opOf b (f v) x) (f v)) old c y)
+      rw (
+        takes-over (opOf b) n f old a x,
+        takes-over (opOf b) n (λ (v : ℕ). cond (eqb a v) (opOf b (f v) x) (f v)) old c y,
+      )
       (over-cong n
-      (λ (v : ℕ). cond (eqb c v) (opOf b (cond (eqb a v) (opOf b (f v) x) (f v)) y) (cond (eqb a v) (opOf b (f v) x) (f v)))
+      (λ (v : ℕ). cond (eqb c v) (opOf b (cond (eqb a v) (opOf b (f v) x) (f v)) y)
+      (cond (eqb a v) (opOf b (f v) x) (f v)))
       (λ (v : ℕ). opOf b (f v) (cond (eqb a v) x (cond (eqb c v) y (rest v)))) old
       (λ (v : ℕ) (l : v < n). pair-one b v (f v) a c x y (rest v) same (own v) (ℕ-discrete a v) (ℕ-discrete c v)))
 
@@ -122,5 +130,6 @@ module _ (b : Bool) (n : ℕ) (f rest : ℕ → ℕ) (old : List ℕ) (a x : ℕ
       → takesIn (opOf b) n (over n f old) a x ≡ over n (λ (v : ℕ). opOf b (f v) (cond (eqb a v) x (rest v))) old
   single-over own =
       takes-over (opOf b) n f old a x
-      ∙ over-cong n (λ (v : ℕ). cond (eqb a v) (opOf b (f v) x) (f v)) (λ (v : ℕ). opOf b (f v) (cond (eqb a v) x (rest v))) old
+      ∙ over-cong n (λ (v : ℕ). cond (eqb a v) (opOf b (f v) x) (f v))
+      (λ (v : ℕ). opOf b (f v) (cond (eqb a v) x (rest v))) old
       (λ (v : ℕ) (l : v < n). single-one v (own v) (ℕ-discrete a v))

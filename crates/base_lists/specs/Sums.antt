@@ -19,7 +19,8 @@ pub sum-add : (n : ℕ) (f g : ℕ → ℕ) → sum n (λ (i : ℕ). f i + g i) 
 sum-add zero f g = refl
 sum-add (suc n) f g = omega (arith, sum-add n f g)
 
-pub sum-swap : (n m : ℕ) (f : ℕ → ℕ → ℕ) → sum n (λ (i : ℕ). sum m (λ (j : ℕ). f i j)) ≡ sum m (λ (j : ℕ). sum n (λ (i : ℕ). f i j))
+pub sum-swap : (n m : ℕ) (f : ℕ → ℕ → ℕ) →
+    sum n (λ (i : ℕ). sum m (λ (j : ℕ). f i j)) ≡ sum m (λ (j : ℕ). sum n (λ (i : ℕ). f i j))
 sum-swap zero m f = sym (sum-zero m (λ (j : ℕ). 0) (λ (i : ℕ) (l : i < m). refl))
 sum-swap (suc n) m f = omega (arith, sum-swap n m f, sum-add m (λ (j : ℕ). sum n (λ (i : ℕ). f i j)) (λ (j : ℕ). f n j))
 
@@ -36,9 +37,11 @@ sum-further n (suc k) f h = go (decLt k n) (sum-further n k f)
     go (no l) before = omega (arith, before (omega arith))
 
 -- two sums that differ at one place
-pub sum-more : (n : ℕ) (f g : ℕ → ℕ) (j x : ℕ) → j < n → f j ≡ g j + x → ((i : ℕ) → i < n → i ≢ j → f i ≡ g i) → sum n f ≡ sum n g + x
+pub sum-more : (n : ℕ) (f g : ℕ → ℕ) (j x : ℕ) → j < n → f j ≡ g j + x → ((i : ℕ) → i < n → i ≢ j → f i ≡ g i) →
+    sum n f ≡ sum n g + x
 sum-more zero f g j x l e h = absurd (not-suc-le-zero l)
-sum-more (suc n) f g j x l e h = go (ℕ-discrete n j) (λ (k : j < n). sum-more n f g j x k e (λ (i : ℕ) (b : i < n) (d : i ≢ j). h i (le-step b) d))
+sum-more (suc n) f g j x l e h = go (ℕ-discrete n j)
+    (λ (k : j < n). sum-more n f g j x k e (λ (i : ℕ) (b : i < n) (d : i ≢ j). h i (le-step b) d))
   where
     go : Dec (n ≡ j) → (j < n → sum n f ≡ sum n g + x) → sum (suc n) f ≡ sum (suc n) g + x
     go (yes s) below =
@@ -48,4 +51,8 @@ sum-more (suc n) f g j x l e h = go (ℕ-discrete n j) (λ (k : j < n). sum-more
 
 -- a sum with one term
 pub sum-one : (n : ℕ) (f : ℕ → ℕ) (j : ℕ) → j < n → ((i : ℕ) → i < n → i ≢ j → f i ≡ 0) → sum n f ≡ f j
-sum-one n f j l h = omega (arith, sum-more n f (λ (i : ℕ). 0) j (f j) l (omega arith) h, sum-zero n (λ (i : ℕ). 0) (λ (i : ℕ) (b : i < n). refl))
+sum-one n f j l h = omega (
+  arith,
+  sum-more n f (λ (i : ℕ). 0) j (f j) l (omega arith) h,
+  sum-zero n (λ (i : ℕ). 0) (λ (i : ℕ) (b : i < n). refl),
+)

@@ -1,4 +1,5 @@
--- Tables made over a range: entry i is f i. The head waits in a `let`, so that a table costs its length and not its square.
+-- Tables made over a range: entry i is f i. The head waits in a `let`, so that a table costs its length and not its
+-- square.
 use mathlib.Core.Path.{_≡_, refl, ap, ap₂, _∙_}
 use mathlib.Core.List.{List, [], _∷_}
 use Prim.Native.Nat.{ℕ, zero, suc, _≤_, _<_, zero-le, suc-le-suc}
@@ -37,7 +38,8 @@ module _ {ℓ} {A : Type ℓ} where
   length-over (suc n) f (x ∷ old) = ap suc (length-over n (λ (k : ℕ). f (suc k)) old)
 
   -- an entry below n
-  pub getD-over : (n : ℕ) (f : ℕ → A) (old : List A) (i : ℕ) (d : A) → i < n → i < length old → getD (over n f old) i d ≡ f i
+  pub getD-over : (n : ℕ) (f : ℕ → A) (old : List A) (i : ℕ) (d : A) → i < n → i < length old →
+      getD (over n f old) i d ≡ f i
   getD-over zero f old i d h l = absurd (not-suc-le-zero h)
   getD-over (suc n) f [] i d h l = absurd (not-suc-le-zero l)
   getD-over (suc n) f (x ∷ old) zero d h l = refl
@@ -45,7 +47,8 @@ module _ {ℓ} {A : Type ℓ} where
       getD-over n (λ (k : ℕ). f (suc k)) old i d (le-of-suc-le-suc h) (le-of-suc-le-suc l)
 
   -- an entry from n on
-  pub getD-over-past : (n : ℕ) (f : ℕ → A) (old : List A) (i : ℕ) (d : A) → n ≤ i → getD (over n f old) i d ≡ getD old i d
+  pub getD-over-past : (n : ℕ) (f : ℕ → A) (old : List A) (i : ℕ) (d : A) → n ≤ i →
+      getD (over n f old) i d ≡ getD old i d
   getD-over-past zero f old i d h = refl
   getD-over-past (suc n) f [] i d h = refl
   getD-over-past (suc n) f (x ∷ old) zero d h = absurd (not-suc-le-zero h)
@@ -62,7 +65,8 @@ module _ {ℓ} {A : Type ℓ} where
   pub over-over : (n : ℕ) (f g : ℕ → A) (old : List A) → over n f (over n g old) ≡ over n f old
   over-over zero f g old = refl
   over-over (suc n) f g [] = refl
-  over-over (suc n) f g (x ∷ old) = ap {B = List A} (λ (l : List A). f zero ∷ l) (over-over n (λ (k : ℕ). f (suc k)) (λ (k : ℕ). g (suc k)) old)
+  over-over (suc n) f g (x ∷ old) = ap {B = List A} (λ (l : List A). f zero ∷ l)
+      (over-over n (λ (k : ℕ). f (suc k)) (λ (k : ℕ). g (suc k)) old)
 
   pub over-cong : (n : ℕ) (f g : ℕ → A) (old : List A) → ((i : ℕ) → i < n → f i ≡ g i) → over n f old ≡ over n g old
   over-cong zero f g old h = refl

@@ -21,9 +21,11 @@ from-reaches : (fuel k x : ℕ) → x ≤ 2 ^ (k + fuel) → x ≤ 2 ^ lgFrom fu
 unfolding lgFrom
 from-reaches zero k x h = rw add-zero at h
 from-reaches (suc fuel) k x h =
-    from-step-reaches (leb x (2 ^ k)) k (lgFrom fuel (suc k) x) x refl (from-reaches fuel (suc k) x (rw (suc-add, ← add-suc) h))
+    from-step-reaches (leb x (2 ^ k)) k (lgFrom fuel (suc k) x) x refl
+    (from-reaches fuel (suc k) x (rw (suc-add, ← add-suc) h))
 
-from-step-least : (b : Bool) (k further x j : ℕ) → leb x (2 ^ k) ≡ b → k ≤ j → x ≤ 2 ^ j → (suc k ≤ j → further ≤ j) → cond b k further ≤ j
+from-step-least : (b : Bool) (k further x j : ℕ) → leb x (2 ^ k) ≡ b → k ≤ j → x ≤ 2 ^ j → (suc k ≤ j → further ≤ j) →
+    cond b k further ≤ j
 from-step-least true k further x j e l h later = l
 from-step-least false k further x j e l h later = later (omega (arith, unequal))
   where
@@ -34,7 +36,8 @@ from-least : (fuel k x j : ℕ) → k ≤ j → x ≤ 2 ^ j → lgFrom fuel k x 
 unfolding lgFrom
 from-least zero k x j l h = l
 from-least (suc fuel) k x j l h =
-    from-step-least (leb x (2 ^ k)) k (lgFrom fuel (suc k) x) x j refl l h (λ (l′ : suc k ≤ j). from-least fuel (suc k) x j l′ h)
+    from-step-least (leb x (2 ^ k)) k (lgFrom fuel (suc k) x) x j refl l h
+    (λ (l′ : suc k ≤ j). from-least fuel (suc k) x j l′ h)
 
 -- ---- the two laws of lg
 
@@ -71,7 +74,8 @@ lg-small x h = lg-unique x 0 (omega arith) (λ (j : ℕ) (r : x ≤ 2 ^ j). omeg
 pub lg-by-zeros : (w x : ℕ) → 1 < x → x - 1 < 2 ^ w → w - leadingZeros w (x - 1) ≡ lg x
 lg-by-zeros w x h fits = from (leading-top w (x - 1) (omega arith) fits)
   where
-    from : (j : ℕ) × (leadingZeros w (x - 1) + suc j ≡ w) × (2 ^ j ≤ x - 1) × (x - 1 < 2 ^ suc j) → w - leadingZeros w (x - 1) ≡ lg x
+    from : (j : ℕ) × (leadingZeros w (x - 1) + suc j ≡ w) × (2 ^ j ≤ x - 1) × (x - 1 < 2 ^ suc j) →
+        w - leadingZeros w (x - 1) ≡ lg x
     from t =
         let j : ℕ = t .0 in
         let least : (k : ℕ) → x ≤ 2 ^ k → suc j ≤ k = λ (k : ℕ) (r : x ≤ 2 ^ k). lt-of-pow j k (omega (arith, t .2)) in

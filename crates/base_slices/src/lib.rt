@@ -1,5 +1,5 @@
-// Reads and stores that are right for every index: past the end a read gives 0 and a store does nothing (document 01: a value read
-// at a missing place is 0). They leave no index for a caller to prove.
+// Reads and stores that are right for every index: past the end a read gives 0 and a store does nothing (document 01: a
+// value read at a missing place is 0). They leave no index for a caller to prove.
 ghost use mathlib.Core.Path.{_≡_};
 ghost use lib.ListN.{getD, set};
 

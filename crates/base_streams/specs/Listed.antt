@@ -7,7 +7,13 @@ use Rattle.base_streams.specs.Stream.{numberAt}
 use Rattle.base_streams.specs.Series.{afterNumbers, afterLevels}
 
 unfoldable pub wordsAt : List ℕ → Cursor → Listed
-wordsAt stream c = let size = numberAt stream c in record { count = size .value; cursor = afterNumbers (size .value) stream (size .cursor) }
+wordsAt stream c = let size = numberAt stream c in record {
+  count = size .value;
+  cursor = afterNumbers (size .value) stream (size .cursor);
+}
 
 unfoldable pub levelsAt : List ℕ → Cursor → Listed
-levelsAt stream c = let size = numberAt stream c in record { count = size .value; cursor = afterLevels (size .value) stream (size .cursor) }
+levelsAt stream c = let size = numberAt stream c in record {
+  count = size .value;
+  cursor = afterLevels (size .value) stream (size .cursor);
+}

@@ -34,12 +34,14 @@ abbrev pub levelFrom : List ℕ → Cursor → ℕ → ℤ
 levelFrom s c i = levelAt s (afterLevels i s c) .value
 
 -- one entry more
-pub numbers-more : (s : List ℕ) (c : Cursor) (i : ℕ) (at : Cursor) (next : Number) → at ≡ afterNumbers i s c → next ≡ numberAt s at
+pub numbers-more : (s : List ℕ) (c : Cursor) (i : ℕ) (at : Cursor) (next : Number) → at ≡ afterNumbers i s c →
+    next ≡ numberAt s at
     → next .cursor ≡ afterNumbers (i + 1) s c
 unfolding afterNumbers
 numbers-more s c i at next was is = rw add-one (ap (λ (n : Number). n .cursor) (is ∙ ap (numberAt s) was))
 
-pub levels-more : (s : List ℕ) (c : Cursor) (i : ℕ) (at : Cursor) (next : Level) → at ≡ afterLevels i s c → next ≡ levelAt s at
+pub levels-more : (s : List ℕ) (c : Cursor) (i : ℕ) (at : Cursor) (next : Level) → at ≡ afterLevels i s c →
+    next ≡ levelAt s at
     → next .cursor ≡ afterLevels (i + 1) s c
 unfolding afterLevels
 levels-more s c i at next was is = rw add-one (ap (λ (l : Level). l .cursor) (is ∙ ap (levelAt s) was))
@@ -50,11 +52,16 @@ unfolding levelAt
 level-small s c = go (partAt s c (start s (c .at)))
   where
     go : (p : Number)
-        → mag ((cond {A = Level} (p .cursor .fault || ltb 32767 (p .value)) (record { value = pos 0; cursor = record { at = c .at; fault = true } }) (record { value = signed (eqb (getD s (c .at) 0) 45) (p .value); cursor = p .cursor })) .value) < 32768
+        → mag ((cond {A = Level} (p .cursor .fault || ltb 32767 (p .value))
+        (record { value = pos 0; cursor = record { at = c .at; fault = true } })
+        (record { value = signed (eqb (getD s (c .at) 0) 45) (p .value); cursor = p .cursor })) .value) < 32768
     go p = by (p .cursor .fault) (decLt 32767 (p .value))
       where
         by : (f : Bool) → Dec (32767 < p .value)
-            → mag ((cond {A = Level} (f || ltb 32767 (p .value)) (record { value = pos 0; cursor = record { at = c .at; fault = true } }) (record { value = signed (eqb (getD s (c .at) 0) 45) (p .value); cursor = p .cursor })) .value) < 32768
+            → mag ((cond {A = Level} (f || ltb 32767 (p .value))
+            (record { value = pos 0; cursor = record { at = c .at; fault = true } })
+            (record { value = signed (eqb (getD s (c .at) 0) 45) (p .value); cursor = p .cursor })) .value) < 32768
         by true _ = omega arith
         by false (yes l) = rw (lt-ltb 32767 (p .value) l) (omega arith)
-        by false (no l) = rw (le-ltb 32767 (p .value) (omega (arith, l))) (signed-small (eqb (getD s (c .at) 0) 45) (p .value) (omega (arith, l)))
+        by false (no l) = rw (le-ltb 32767 (p .value) (omega (arith, l)))
+            (signed-small (eqb (getD s (c .at) 0) 45) (p .value) (omega (arith, l)))

@@ -1,4 +1,5 @@
--- A stream of numbers: bytes, base ten, one space or one line feed after a number (or the stream's end), `-` before a negative one.
+-- A stream of numbers: bytes, base ten, one space or one line feed after a number (or the stream's end), `-` before a
+-- negative one.
 use mathlib.Core.Bool.{Bool, true, false, cond, not, _&&_, _||_}
 use mathlib.Core.List.{List, [], _∷_}
 use Prim.Native.Nat.{ℕ, zero, suc, _+_, _*_, _-_}

@@ -36,20 +36,24 @@ module _ (v c : ℕ) (e : goes v c ≡ true) where
   digit-low = leb-true 48 c (and-left (leb 48 c) (leb c 57 && ltb v 100000000) e)
 
   pub digit-high : c ≤ 57
-  digit-high = leb-true c 57 (and-left (leb c 57) (ltb v 100000000) (and-right (leb 48 c) (leb c 57 && ltb v 100000000) e))
+  digit-high = leb-true c 57 (and-left (leb c 57) (ltb v 100000000)
+      (and-right (leb 48 c) (leb c 57 && ltb v 100000000) e))
 
   pub value-small : v < 100000000
-  value-small = ltb-true v 100000000 (and-right (leb c 57) (ltb v 100000000) (and-right (leb 48 c) (leb c 57 && ltb v 100000000) e))
+  value-small = ltb-true v 100000000 (and-right (leb c 57) (ltb v 100000000)
+      (and-right (leb 48 c) (leb c 57 && ltb v 100000000) e))
 
 module _ (s : List ℕ) (i v : ℕ) where
   pub digit-inside : goes v (getD s i 0) ≡ true → i < length s
   digit-inside e = inside s i (omega (arith, digit-low v (getD s i 0) e))
 
-  pub value-more : goes v (getD s i 0) ≡ true → valueOf v (drop i s) ≡ valueOf (10 * v + (getD s i 0 - 48)) (drop (i + 1) s)
+  pub value-more : goes v (getD s i 0) ≡ true →
+      valueOf v (drop i s) ≡ valueOf (10 * v + (getD s i 0 - 48)) (drop (i + 1) s)
   unfolding valueOf
   value-more e = rw (rest-one s i 0 (digit-inside e), e) refl
 
-  pub width-more : goes v (getD s i 0) ≡ true → width v (drop i s) ≡ suc (width (10 * v + (getD s i 0 - 48)) (drop (i + 1) s))
+  pub width-more : goes v (getD s i 0) ≡ true →
+      width v (drop i s) ≡ suc (width (10 * v + (getD s i 0 - 48)) (drop (i + 1) s))
   unfolding width
   width-more e = rw (rest-one s i 0 (digit-inside e), e) refl
 
@@ -81,7 +85,8 @@ pub part-fault : (s : List ℕ) (c : Cursor) (from : ℕ) → c .fault ≡ true 
 unfolding partAt
 part-fault s c from e = rw e refl
 
-module _ (s : List ℕ) (c : Cursor) (from end : ℕ) (clean : c .fault ≡ false) (e : end ≡ from + width 0 (drop from s)) where
+module _ (s : List ℕ) (c : Cursor) (from end : ℕ) (clean : c .fault ≡ false)
+    (e : end ≡ from + width 0 (drop from s)) where
   pub part-empty : end ≤ from → faulty c ≡ partAt s c from
   unfolding partAt
   part-empty h = rw (← e) (rw (clean, le-ltb from end h) refl)
@@ -90,7 +95,8 @@ module _ (s : List ℕ) (c : Cursor) (from end : ℕ) (clean : c .fault ≡ fals
   unfolding partAt
   part-open l o = rw (← e) (rw (clean, lt-ltb from end l, o) refl)
 
-  pub part-read : (value next : ℕ) → from < end → closed s end ≡ true → value ≡ valueOf 0 (drop from s) → next ≡ after s end
+  pub part-read : (value next : ℕ) → from < end → closed s end ≡ true → value ≡ valueOf 0 (drop from s) →
+      next ≡ after s end
       → _≡_ {A = Number} (record { value = value; cursor = record { at = next; fault = false } }) (partAt s c from)
   unfolding partAt
   part-read value next l o v n = rw (v, n) (rw (← e) (rw (clean, lt-ltb from end l, o) refl))
@@ -109,7 +115,8 @@ module _ (s : List ℕ) (c : Cursor) (p : Number) (e : p ≡ partAt s c (start s
   unfolding levelAt
   level-great f l = rw (← e) (rw (f, lt-ltb 32767 (p .value) l) refl)
 
-  pub level-read : (x : ℤ) → p .cursor .fault ≡ false → p .value ≤ 32767 → x ≡ signed (eqb (getD s (c .at) 0) 45) (p .value)
+  pub level-read : (x : ℤ) → p .cursor .fault ≡ false → p .value ≤ 32767 →
+      x ≡ signed (eqb (getD s (c .at) 0) 45) (p .value)
       → _≡_ {A = Level} (record { value = x; cursor = p .cursor }) (levelAt s c)
   unfolding levelAt
   level-read x f l q = rw q (rw (← e) (rw (f, le-ltb 32767 (p .value) l) refl))

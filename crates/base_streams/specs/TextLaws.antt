@@ -34,7 +34,8 @@ module _ (k v at′ : ℕ) (out new : List ℕ) (end p : ℕ) (z : k ≡ 0 → �
   unfolding shown
   shown-bytes = go k z ep (either (leb p v))
     where
-      go : (j : ℕ) → (j ≡ 0 → ⊥) → p ≡ tens j → (leb p v ≡ true) ⊎ (leb p v ≡ false) → sets out end (shown j v) ≡ sets new at′ (shown (j - 1) v)
+      go : (j : ℕ) → (j ≡ 0 → ⊥) → p ≡ tens j → (leb p v ≡ true) ⊎ (leb p v ≡ false) →
+          sets out end (shown j v) ≡ sets new at′ (shown (j - 1) v)
       go zero n e d = absurd (n refl)
       go (suc j) n e (inl d) =
           let q : suc j - 1 ≡ j = omega arith in
@@ -47,7 +48,8 @@ module _ (k v at′ : ℕ) (out new : List ℕ) (end p : ℕ) (z : k ≡ 0 → �
   unfolding shown
   shown-length = go k z ep (either (leb p v))
     where
-      go : (j : ℕ) → (j ≡ 0 → ⊥) → p ≡ tens j → (leb p v ≡ true) ⊎ (leb p v ≡ false) → end + length (shown j v) ≡ at′ + length (shown (j - 1) v)
+      go : (j : ℕ) → (j ≡ 0 → ⊥) → p ≡ tens j → (leb p v ≡ true) ⊎ (leb p v ≡ false) →
+          end + length (shown j v) ≡ at′ + length (shown (j - 1) v)
       go zero n e d = absurd (n refl)
       go (suc j) n e (inl d) =
           let q : suc j - 1 ≡ j = omega arith in

@@ -33,7 +33,8 @@ fn more(value: u32, byte: u8) -> u32
 
 // The value of the digits from `at` on, and where they end.
 pub(crate) fn read(stream: &[u8], at: usize) -> Digits
-    ensures { λ r. ⌜ (r .value ≡ valueOf 0 (drop at (now (stream .entry)))) × (r .end ≡ at + width 0 (drop at (now (stream .entry)))) ⌝ }
+    ensures { λ r. ⌜ (r .value ≡ valueOf 0 (drop at (now (stream .entry))))
+        × (r .end ≡ at + width 0 (drop at (now (stream .entry)))) ⌝ }
 {
     let mut value: u32 = 0;
     let mut end = at;

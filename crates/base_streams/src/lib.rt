@@ -1,5 +1,6 @@
-// Streams of numbers as tests read them: base ten, one space or one line feed after a number, `-` before one that is negative. A cursor goes by
-// value through a lent slice of bytes. One that met a fault stays faulty and gives 0, so that a reader need ask only at the end.
+// Streams of numbers as tests read them: base ten, one space or one line feed after a number, `-` before one that is
+// negative. A cursor goes by value through a lent slice of bytes. One that met a fault stays faulty and gives 0, so
+// that a reader need ask only at the end.
 ghost use mathlib.Core.Path.{_≡_};
 ghost use Rattle.base_streams.specs.Stream.{begun, endedAt, numberAt, partAt, levelAt};
 

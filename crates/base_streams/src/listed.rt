@@ -1,4 +1,5 @@
-// Lists as a stream has them: how many numbers there are, then each, into a lent slice; those that have no room are read over.
+// Lists as a stream has them: how many numbers there are, then each, into a lent slice; those that have no room are
+// read over.
 use super::Cursor;
 use super::series;
 ghost use mathlib.Core.Path.{_≡_};
@@ -16,7 +17,9 @@ pub struct Listed {
 // As words.
 pub fn words(stream: &[u8], cursor: Cursor, words: &mut [u16]) -> Listed
     ensures list { λ r. ⌜ r ≡ wordsAt (now (stream .entry)) cursor ⌝ }
-    ensures words { λ _. ⌜ now (words .exit) ≡ over (numberAt (now (stream .entry)) cursor .value) (wordFrom (now (stream .entry)) (numberAt (now (stream .entry)) cursor .cursor)) (now (words .entry)) ⌝ }
+    ensures words { λ _. ⌜ now (words .exit)
+        ≡ over (numberAt (now (stream .entry)) cursor .value)
+        (wordFrom (now (stream .entry)) (numberAt (now (stream .entry)) cursor .cursor)) (now (words .entry)) ⌝ }
 {
     let size = super::next_number(stream, cursor);
     let after = series::words(stream, size.cursor, size.value, words);
@@ -29,7 +32,9 @@ pub fn words(stream: &[u8], cursor: Cursor, words: &mut [u16]) -> Listed
 // As levels.
 pub fn levels(stream: &[u8], cursor: Cursor, levels: &mut [i16]) -> Listed
     ensures list { λ r. ⌜ r ≡ levelsAt (now (stream .entry)) cursor ⌝ }
-    ensures levels { λ _. ⌜ now (levels .exit) ≡ over (numberAt (now (stream .entry)) cursor .value) (levelFrom (now (stream .entry)) (numberAt (now (stream .entry)) cursor .cursor)) (now (levels .entry)) ⌝ }
+    ensures levels { λ _. ⌜ now (levels .exit)
+        ≡ over (numberAt (now (stream .entry)) cursor .value)
+        (levelFrom (now (stream .entry)) (numberAt (now (stream .entry)) cursor .cursor)) (now (levels .entry)) ⌝ }
 {
     let size = super::next_number(stream, cursor);
     let after = series::levels(stream, size.cursor, size.value, levels);

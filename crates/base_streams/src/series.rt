@@ -8,7 +8,8 @@ ghost use Rattle.base_streams.specs.Series.{afterNumbers, afterLevels, w
 // As words: a number's low 16 bits.
 pub fn words(stream: &[u8], cursor: Cursor, count: u32, words: &mut [u16]) -> Cursor
     ensures cursor { λ r. ⌜ r ≡ afterNumbers count (now (stream .entry)) cursor ⌝ }
-    ensures words { λ _. ⌜ now (words .exit) ≡ over count (wordFrom (now (stream .entry)) cursor) (now (words .entry)) ⌝ }
+    ensures words { λ _. ⌜ now (words .exit)
+        ≡ over count (wordFrom (now (stream .entry)) cursor) (now (words .entry)) ⌝ }
 {
     let mut c = cursor;
     let mut i: u32 = 0;
@@ -25,7 +26,8 @@ pub fn words(stream: &[u8], cursor: Cursor, count: u32, words: &mut [u16]) -> Cu
 // Levels.
 pub fn levels(stream: &[u8], cursor: Cursor, count: u32, levels: &mut [i16]) -> Cursor
     ensures cursor { λ r. ⌜ r ≡ afterLevels count (now (stream .entry)) cursor ⌝ }
-    ensures levels { λ _. ⌜ now (levels .exit) ≡ over count (levelFrom (now (stream .entry)) cursor) (now (levels .entry)) ⌝ }
+    ensures levels { λ _. ⌜ now (levels .exit)
+        ≡ over count (levelFrom (now (stream .entry)) cursor) (now (levels .entry)) ⌝ }
 {
     let mut c = cursor;
     let mut i: u32 = 0;

@@ -1,5 +1,5 @@
-// Numbers in base ten and single bytes, laid down in a lent slice of bytes from a place on; the place after them comes back. What has no room is left out,
-// and a place past the slice stays.
+// Numbers in base ten and single bytes, laid down in a lent slice of bytes from a place on; the place after them comes
+// back. What has no room is left out, and a place past the slice stays.
 ghost use mathlib.Core.Path.{_≡_};
 ghost use mathlib.Core.Bool.{cond};
 ghost use Prim.Native.Nat.{_+_, _/_, _%_, _<_};
@@ -44,7 +44,8 @@ pub fn number(value: u32, at: usize, out: &mut [u8]) -> usize
 fn digit(value: u32, power: u32, at: usize, out: &mut [u8]) -> usize
     requires { ⌜ (0 < power) × (at < 9223372036854775900) ⌝ }
     ensures place { λ r. ⌜ r ≡ cond (leb power value) (at + 1) at ⌝ }
-    ensures bytes { λ _. ⌜ now (out .exit) ≡ cond (leb power value) (set (now (out .entry)) at (value / power % 10 + 48)) (now (out .entry)) ⌝ }
+    ensures bytes { λ _. ⌜ now (out .exit)
+        ≡ cond (leb power value) (set (now (out .entry)) at (value / power % 10 + 48)) (now (out .entry)) ⌝ }
 {
     if value < power {
         return at;

@@ -1,5 +1,5 @@
-// Asks for the verdict on each two links of each case of each stream that an argument names: a line with, for each question, 2 always, 1 perhaps, 0 never, or
-// the number of a refusal. "fault" stands for a stream that is none.
+// Asks for the verdict on each two links of each case of each stream that an argument names: a line with, for each
+// question, 2 always, 1 perhaps, 0 never, or the number of a refusal. "fault" stands for a stream that is none.
 use base_streams::Cursor;
 use base_streams::listed;
 use base_streams::text;

@@ -1,5 +1,5 @@
-// Reads each file that an argument names and writes it back, and does the same with what was written: a line with its name, and the number of a refusal, or
-// "same" where every byte of what was written came back.
+// Reads each file that an argument names and writes it back, and does the same with what was written: a line with its
+// name, and the number of a refusal, or "same" where every byte of what was written came back.
 use file_spec::Writing;
 use libc::STDOUT_FILENO;
 

@@ -1,5 +1,6 @@
-// Asks for the lifting order of each case of each stream that an argument names: a line with the number of a refusal, or with 0 and the order. A line has
-// a `!` for each word past the order that was altered; "fault" stands for a stream that is none.
+// Asks for the lifting order of each case of each stream that an argument names: a line with the number of a refusal,
+// or with 0 and the order. A line has a `!` for each word past the order that was altered; "fault" stands for a stream
+// that is none.
 use base_streams::Cursor;
 use base_streams::listed;
 use base_streams::text;

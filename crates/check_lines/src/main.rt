@@ -1,6 +1,7 @@
-// Surveys each case of each stream that an argument names, round by round: after the load and after each round the foreman's line and the service line. A
-// line "altered" follows where a byte past the line is not as it was, or any byte where the slice is one place too short, "not refused" where that call is
-// not refused with 14, and "fault" stands for a stream that is none.
+// Surveys each case of each stream that an argument names, round by round: after the load and after each round the
+// foreman's line and the service line. A line "altered" follows where a byte past the line is not as it was, or any
+// byte where the slice is one place too short, "not refused" where that call is not refused with 14, and "fault" stands
+// for a stream that is none.
 use base_streams::Cursor;
 use base_streams::listed;
 use libc::STDOUT_FILENO;

@@ -1,6 +1,7 @@
-// Plays the steps of each case of each stream on a live table by value. The arguments are in pairs, what to print and the stream's name: with `lines` a
-// line for each step and the table at the end of a case, with `numbers` the number of each step alone. A line has a `!` for each end past the links that is
-// not absent and each level past them that is not 0; "fault" stands for a stream that is none.
+// Plays the steps of each case of each stream on a live table by value. The arguments are in pairs, what to print and
+// the stream's name: with `lines` a line for each step and the table at the end of a case, with `numbers` the number of
+// each step alone. A line has a `!` for each end past the links that is not absent and each level past them that is not
+// 0; "fault" stands for a stream that is none.
 use base_streams::Cursor;
 use base_streams::Level;
 use base_streams::text;
@@ -287,7 +288,8 @@ fn choose(here: bool, x: u16, y: u16) -> u16 {
     if here { x } else { y }
 }
 
-// A table with another field overwritten: 0 the unit count, 1 the number of links, 2 an end, 4 the stored number of a unit.
+// A table with another field overwritten: 0 the unit count, 1 the number of links, 2 an end, 4 the stored number of a
+// unit.
 fn with_word(live: Live, what: u32, i: usize, x: u16) -> Live {
     let Live {
         units,

@@ -1,5 +1,6 @@
-// Loads or writes the table of each case of each stream that an argument names: a line with the number of a refusal, or with 0 and the countdown after the
-// load, or with 0 and the characters of the file. A line has a `!` for each byte past the file that was altered; "fault" stands for a stream that is none.
+// Loads or writes the table of each case of each stream that an argument names: a line with the number of a refusal, or
+// with 0 and the countdown after the load, or with 0 and the characters of the file. A line has a `!` for each byte
+// past the file that was altered; "fault" stands for a stream that is none.
 use base_streams::Cursor;
 use base_streams::Level;
 use base_streams::listed;
@@ -202,7 +203,8 @@ fn table(call: u32, t: Sizes, words: &[u16], levels: &[i16], parents: &[u16], pl
     );
 }
 
-// A case: the call, the unit count, the list of words, the list of levels, the list of parents, the places of the slice.
+// A case: the call, the unit count, the list of words, the list of levels, the list of parents, the places of the
+// slice.
 fn case(stream: &[u8], cursor: Cursor) -> Cursor {
     let call = base_streams::next_number(stream, cursor);
     let units = base_streams::next_number(stream, call.cursor);

@@ -1,5 +1,6 @@
-// Surveys the one-way links of each case of each stream that an argument names: a line with the number of a refusal, or with 0, the passes and the number
-// of each unit. A line has a `!` for each word past the numbers that was altered; "fault" stands for a stream that is none.
+// Surveys the one-way links of each case of each stream that an argument names: a line with the number of a refusal, or
+// with 0, the passes and the number of each unit. A line has a `!` for each word past the numbers that was altered;
+// "fault" stands for a stream that is none.
 use base_streams::Cursor;
 use base_streams::text;
 use libc::STDOUT_FILENO;

@@ -1,5 +1,6 @@
-// Surveys the table of each case of each stream that an argument names and adds up its parts from the library's answers (T-14): the number of labels, each
-// label with the units that its links touch, less one, the sum, and the units less the groups. "fault" stands for a stream that is none.
+// Surveys the table of each case of each stream that an argument names and adds up its parts from the library's answers
+// (T-14): the number of labels, each label with the units that its links touch, less one, the sum, and the units less
+// the groups. "fault" stands for a stream that is none.
 use base_streams::Cursor;
 use base_streams::listed;
 use base_streams::text;

@@ -1,5 +1,6 @@
-// Groups of what goes together, each marked with the least of it: of units that are linked up, or of links. A link is one word, its ends in
-// the high and the low byte; words past the last link are 0, and join nothing. Shares nothing with the stages.
+// Groups of what goes together, each marked with the least of it: of units that are linked up, or of links. A link is
+// one word, its ends in the high and the low byte; words past the last link are 0, and join nothing. Shares nothing
+// with the stages.
 ghost use Prim.Native.Nat.{_≤_};
 
 // No unit, and no link.

@@ -1,5 +1,6 @@
-// Surveys the tables of each stream with the library and again by removal, and compares: all tables of one to five units, then tables of every shape. A
-// line for each stream has the counts and its name; the arguments are the file and the name of each. "fault" stands for a stream that is none.
+// Surveys the tables of each stream with the library and again by removal, and compares: all tables of one to five
+// units, then tables of every shape. A line for each stream has the counts and its name; the arguments are the file and
+// the name of each. "fault" stands for a stream that is none.
 mod compare;
 mod groups;
 mod removal;

@@ -36,10 +36,10 @@ fn meet_all(pairs: &[u16; 1024], x: u16, left: &[u16], first: &mut [u16], labels
     }
 }
 
-// Removes unit `x`. The group that it was in falls into as many groups as there are joins fewer: where those are two or more, two other units
-// that were linked up are parted, and it is a single point.
-// A ring holds two links that meet at `x` exactly when their other ends are linked up without `x`, and neighbours on a ring meet so. Labels that
-// begin each by itself are therefore right when every unit has been removed.
+// Removes unit `x`. The group that it was in falls into as many groups as there are joins fewer: where those are two or
+// more, two other units that were linked up are parted, and it is a single point. A ring holds two links that meet at
+// `x` exactly when their other ends are linked up without `x`, and neighbours on a ring meet so. Labels that begin each
+// by itself are therefore right when every unit has been removed.
 pub(crate) fn unit(pairs: &[u16; 1024], joins: u16, x: u16, labels: &mut [u16]) -> bool {
     let mut left = [0u16; 256];
     let mut first = [NONE; 256];

@@ -1,4 +1,5 @@
-// Reads each survey file that an argument names and prints the file written from what was read, or the line of the refusal.
+// Reads each survey file that an argument names and prints the file written from what was read, or the line of the
+// refusal.
 use file_spec::Writing;
 use libc::STDOUT_FILENO;
 

@@ -1,6 +1,6 @@
-// Asks for the rings of each case of each stream that an argument names: a line with, for each question, 1 where a ring is shown, 0 where there is none, or
-// the number of a refusal. A ring that is none, does not hold both links or starts otherwise is 98, a word altered that should stay 99; "fault" stands for a
-// stream that is none.
+// Asks for the rings of each case of each stream that an argument names: a line with, for each question, 1 where a ring
+// is shown, 0 where there is none, or the number of a refusal. A ring that is none, does not hold both links or starts
+// otherwise is 98, a word altered that should stay 99; "fault" stands for a stream that is none.
 use base_streams::Cursor;
 use base_streams::text;
 use libc::STDOUT_FILENO;

@@ -1,5 +1,6 @@
-// Plays the loads and ticks of each case of each stream that an argument names: a line with the number of a load; a line with the number of a refused tick,
-// or with 0, the seat and its status; at the end of a case a line for each seat. "fault" stands for a stream that is none.
+// Plays the loads and ticks of each case of each stream that an argument names: a line with the number of a load; a
+// line with the number of a refused tick, or with 0, the seat and its status; at the end of a case a line for each
+// seat. "fault" stands for a stream that is none.
 use base_streams::Cursor;
 use base_streams::listed;
 use base_streams::text;

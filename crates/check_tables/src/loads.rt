@@ -1,4 +1,5 @@
-// The survey of the table that a text gives: a survey file, which begins with 0, or a stream of numbers, which begins with the digits of a unit count.
+// The survey of the table that a text gives: a survey file, which begins with 0, or a stream of numbers, which begins
+// with the digits of a unit count.
 use base_streams::Cursor;
 use base_streams::listed;
 use file_spec::Reading;
@@ -43,7 +44,8 @@ fn stored(units: u16, links: usize, words: &[u16], levels: &[i16]) -> Survey {
     answer.survey
 }
 
-// ---- a stream: the unit count, the list of words, the list of levels and, where the planner drew a tree (document 02, T-05), the list of parents
+// ---- a stream: the unit count, the list of words, the list of levels and, where the planner drew a tree (document 02,
+// T-05), the list of parents
 
 fn streamed(stream: &[u8]) -> Survey {
     let units = base_streams::next_number(stream, base_streams::begin());

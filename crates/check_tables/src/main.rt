@@ -1,5 +1,5 @@
-// Surveys the table of each file that an argument names, round by round: a line with its name, then every table after the load and after each round.
-// "fault" stands for a stream that is none.
+// Surveys the table of each file that an argument names, round by round: a line with its name, then every table after
+// the load and after each round. "fault" stands for a stream that is none.
 use survey::Aux;
 use survey::Components;
 use survey::Global;
@@ -13,7 +13,8 @@ use survey::Tree;
 mod loads;
 mod say;
 
-// The tables by unit, by place and by link, a group or two at a time: a function that holds the whole state is long to prove.
+// The tables by unit, by place and by link, a group or two at a time: a function that holds the whole state is long to
+// prove.
 fn trees(units: u16, components: Components, tree: Tree) {
     say::row(b"color", units, &components.color);
     say::row(b"parent", units, &tree.parent);

@@ -1,4 +1,5 @@
-// Surveys each file that an argument names, round by round: a line with its name, then the status after the load and after each round.
+// Surveys each file that an argument names, round by round: a line with its name, then the status after the load and
+// after each round.
 use file_spec::Reading;
 use libc::STDOUT_FILENO;
 use survey::Reply;

@@ -1,5 +1,5 @@
-// Takes its arguments two by two, a survey file and what the program must print for it: a line for each with its name, and at the end the
-// number of files and of those that differ.
+// Takes its arguments two by two, a survey file and what the program must print for it: a line for each with its name,
+// and at the end the number of files and of those that differ.
 ghost use Prim.Native.Nat.{_+_, _≤_, _<_, _^_};
 ghost use Rattle.io.specs.Counts.{Counts};
 use libc::STDOUT_FILENO;

@@ -26,7 +26,8 @@ headBody rounds requests = HEAD ∷ wordBytes rounds ++ wordBytes requests
 
 -- 12: unit, colour, parent, place, one byte for a single point
 abbrev pub unitBody : ℕ → ℕ → ℕ → ℕ → ℕ → List ℕ
-unitBody unit color parent place single = UNIT ∷ wordBytes unit ++ wordBytes color ++ wordBytes parent ++ wordBytes place ++ single ∷ []
+unitBody unit color parent place single =
+    UNIT ∷ wordBytes unit ++ wordBytes color ++ wordBytes parent ++ wordBytes place ++ single ∷ []
 
 -- 13: position, label, one byte for a lone link
 abbrev pub labelBody : ℕ → ℕ → ℕ → List ℕ

@@ -1,5 +1,6 @@
--- A frame, one a line (document 01): upper-case hexadecimal digits, two a byte, then a line feed. The first byte is the kind; the last makes
--- the sum of all bytes wrap to 0 in eight bits. Here a frame's body is its bytes without that check byte.
+-- A frame, one a line (document 01): upper-case hexadecimal digits, two a byte, then a line feed. The first byte is the
+-- kind; the last makes the sum of all bytes wrap to 0 in eight bits. Here a frame's body is its bytes without that
+-- check byte.
 use mathlib.Core.Bool.{Bool, true, cond, _&&_}
 use mathlib.Core.List.{List, [], _∷_, _++_}
 use Prim.Native.Nat.{ℕ, _+_, _*_, _-_, _/_, _%_}
@@ -82,4 +83,5 @@ bytesOf (c ∷ d ∷ s) = byteOf c d ∷ bytesOf s
 -- characters begin with the line of a frame of this many bytes: its digits, a sum of 0, its line feed
 unfoldable pub lineFront : ℕ → List ℕ → Bool
 lineFront bytes s =
-    eqb (getD s (2 * bytes) 0) LF && allDigits (take (2 * bytes) s) && eqb (sumOf (bytesOf (take (2 * bytes) s)) % 256) 0
+    eqb (getD s (2 * bytes) 0) LF && allDigits (take (2 * bytes) s)
+    && eqb (sumOf (bytesOf (take (2 * bytes) s)) % 256) 0

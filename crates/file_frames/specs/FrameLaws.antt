@@ -10,7 +10,8 @@ use lib.Dec.{ltb}
 use lib.ListN.{length, getD, length-append}
 use borrow.Author.Tests.{le-leb, lt-leb, lt-ltb, le-ltb, ltb-true}
 use Rattle.base_lists.specs.Tests.{and-left, and-right}
-use Rattle.file_frames.specs.Frame.{LF, digitOf, digitValue, byteOf, hexOf, hexesOf, sumOf, checkByte, lineOf, lineLength, allDigits, bytesOf}
+use Rattle.file_frames.specs.Frame.{LF, digitOf, digitValue, byteOf, hexOf, hexesOf, sumOf, checkByte, lineOf}
+use Rattle.file_frames.specs.Frame.{lineLength, allDigits, bytesOf}
 
 -- every number of the list is a byte
 abbrev pub Bytes : List ℕ → Type 0
@@ -70,9 +71,11 @@ digit-kind c = go (decLt c 48) (decLt 57 c) (decLt c 65) (decLt 70 c)
     go : Dec (c < 48) → Dec (57 < c) → Dec (c < 65) → Dec (70 < c) → Kind c
     go (yes a) p q r = other (no-digit c (λ d. omega (arith, d .0)) (λ d. omega (arith, d .0))) (value-low c a)
     go (no a) (no b) q r = numeral (omega arith) (omega arith) (value-numeral c (omega arith) (omega arith))
-    go (no a) (yes b) (yes l) r = other (no-digit c (λ d. omega (arith, d .1)) (λ d. omega (arith, d .0))) (value-between c b l)
+    go (no a) (yes b) (yes l) r = other (no-digit c (λ d. omega (arith, d .1)) (λ d. omega (arith, d .0)))
+        (value-between c b l)
     go (no a) (yes b) (no l) (no m) = letter (omega arith) (omega arith) (value-letter c (omega arith) (omega arith))
-    go (no a) (yes b) (no l) (yes m) = other (no-digit c (λ d. omega (arith, d .1)) (λ d. omega (arith, d .1))) (value-high c m)
+    go (no a) (yes b) (no l) (yes m) = other (no-digit c (λ d. omega (arith, d .1)) (λ d. omega (arith, d .1)))
+        (value-high c m)
 
 pub digit-forth : (c : ℕ) → digitValue c < 16 → digitOf (digitValue c) ≡ c
 digit-forth c h = go (digit-kind c)
@@ -133,14 +136,20 @@ length-hexes (b ∷ f) = omega (arith, length-hexes f)
 pub bytes-hexes : (f : List ℕ) → Bytes f → bytesOf (hexesOf f) ≡ f
 unfolding hexesOf bytesOf
 bytes-hexes [] h = refl
-bytes-hexes (b ∷ f) h = ap₂ (λ (x : ℕ) (l : List ℕ). x ∷ l) (byte-back b (h zero)) (bytes-hexes f (λ (i : ℕ). h (suc i)))
+bytes-hexes (b ∷ f) h = ap₂ (λ (x : ℕ) (l : List ℕ). x ∷ l) (byte-back b (h zero))
+    (bytes-hexes f (λ (i : ℕ). h (suc i)))
 
 pub hexes-digits : (f : List ℕ) → Bytes f → allDigits (hexesOf f) ≡ true
 unfolding hexesOf allDigits
 hexes-digits [] h = refl
 hexes-digits (b ∷ f) h =
     let hb : b < 256 = h zero in
-    rw (digit-back (b / 16) (omega arith), digit-back (b % 16) (omega arith), lt-ltb (b / 16) 16 (omega arith), lt-ltb (b % 16) 16 (omega arith))
+    rw (
+      digit-back (b / 16) (omega arith),
+      digit-back (b % 16) (omega arith),
+      lt-ltb (b / 16) 16 (omega arith),
+      lt-ltb (b % 16) 16 (omega arith),
+    )
     (hexes-digits f (λ (i : ℕ). h (suc i)))
 
 -- two digits a byte: an even number of them
@@ -149,7 +158,8 @@ unfolding hexesOf bytesOf allDigits
 hexes-bytes [] k e h = refl
 hexes-bytes (c ∷ []) k e h = absurd (omega arith)
 hexes-bytes (c ∷ d ∷ p) k e h =
-    let hc : digitValue c < 16 = ltb-true (digitValue c) 16 (and-left (ltb (digitValue c) 16) (ltb (digitValue d) 16 && allDigits p) h) in
+    let hc : digitValue c < 16 = ltb-true (digitValue c) 16
+    (and-left (ltb (digitValue c) 16) (ltb (digitValue d) 16 && allDigits p) h) in
     let h′ = and-right (ltb (digitValue c) 16) (ltb (digitValue d) 16 && allDigits p) h in
     let hd : digitValue d < 16 = ltb-true (digitValue d) 16 (and-left (ltb (digitValue d) 16) (allDigits p) h′) in
     ap₂ (λ (x y : List ℕ). x ++ y) (byte-forth c d hc hd)
@@ -169,7 +179,8 @@ bytes-below (c ∷ d ∷ p) zero = omega arith
 bytes-below (c ∷ d ∷ p) (suc i) = bytes-below p i
 
 -- byte i stands in the characters 2 i and 2 i + 1
-pub bytes-at : (p : List ℕ) (i : ℕ) → 2 * i + 1 < length p → getD (bytesOf p) i 0 ≡ byteOf (getD p (2 * i) 0) (getD p (2 * i + 1) 0)
+pub bytes-at : (p : List ℕ) (i : ℕ) → 2 * i + 1 < length p →
+    getD (bytesOf p) i 0 ≡ byteOf (getD p (2 * i) 0) (getD p (2 * i + 1) 0)
 unfolding bytesOf
 bytes-at [] i h = absurd (omega arith)
 bytes-at (c ∷ []) i h = absurd (omega arith)

@@ -5,7 +5,8 @@ use Prim.Native.Nat.{ℕ}
 use lib.Dec.{eqb}
 use Rattle.file_frames.specs.Frame.{byteAt, lineFront}
 
--- file: the unit count, the two ends of a link, the two ends and the level of one (document 02, T-01), the number of links
+-- file: the unit count, the two ends of a link, the two ends and the level of one (document 02, T-01), the number of
+-- links
 abbrev pub UNITS : ℕ
 UNITS = 0x01
 
@@ -37,7 +38,8 @@ REFUSAL = 0x1E
 
 -- the bytes of a frame of a file kind, its kind and check byte included; 0: no kind of a file
 abbrev pub frameBytes : ℕ → ℕ
-frameBytes kind = cond (eqb kind UNITS) 4 (cond (eqb kind BARE-LINK) 6 (cond (eqb kind LINK) 7 (cond (eqb kind END) 4 0)))
+frameBytes kind = cond (eqb kind UNITS) 4
+    (cond (eqb kind BARE-LINK) 6 (cond (eqb kind LINK) 7 (cond (eqb kind END) 4 0)))
 
 -- the kind of the frame whose line these characters begin with
 abbrev pub kindFront : List ℕ → ℕ

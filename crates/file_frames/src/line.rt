@@ -13,7 +13,8 @@ pub const LF: u8 = 10;
 // The two characters of a byte, at `at`.
 fn put_byte(out: &mut [u8], at: usize, b: u8)
     requires { ⌜ at + 2 ≤ length (now out) ⌝ }
-    ensures { λ _. ⌜ now (out .exit) ≡ set (set (now (out .entry)) at (digitOf (b / 16))) (at + 1) (digitOf (b % 16)) ⌝ }
+    ensures { λ _. ⌜ now (out .exit) ≡ set (set (now (out .entry)) at (digitOf (b / 16))) (at + 1)
+        (digitOf (b % 16)) ⌝ }
 {
     out[at] = digits::high_digit(b);
     out[at + 1] = digits::low_digit(b);
@@ -22,7 +23,8 @@ fn put_byte(out: &mut [u8], at: usize, b: u8)
 // The characters of all bytes, two a byte, at the front.
 fn put_bytes(f: &[u8], out: &mut [u8])
     requires { ⌜ 2 * length (now f) ≤ length (now out) ⌝ }
-    ensures { λ _. ⌜ now (out .exit) ≡ hexesOf (now (f .entry)) ++ drop (2 * length (now (f .entry))) (now (out .entry)) ⌝ }
+    ensures { λ _. ⌜ now (out .exit) ≡ hexesOf (now (f .entry))
+        ++ drop (2 * length (now (f .entry))) (now (out .entry)) ⌝ }
 {
     let mut i = 0;
     while i < f.len() {

@@ -36,7 +36,8 @@ nextOrder order kind =
 -- the lines that are left keep it
 unfoldable pub orderFrom : ℕ → List Line → Bool
 orderFrom order ls =
-    cond (eqb order START) (inOrder ls) (cond (eqb order LINKS) (inOrderAfter ls) (cond (eqb order ENDED) (eqb (length ls) 0) false))
+    cond (eqb order START) (inOrder ls) (cond (eqb order LINKS) (inOrderAfter ls)
+    (cond (eqb order ENDED) (eqb (length ls) 0) false))
 
 after-start : (l : Line) (ls : List Line) → inOrder (l ∷ ls) ≡ orderFrom (cond (eqb (kindOf l) UNITS) LINKS BROKEN) ls
 unfolding inOrder orderFrom
@@ -51,7 +52,8 @@ after-other : (l : Line) (ls : List Line) → linkKind (kindOf l) ≡ false
 unfolding inOrderAfter orderFrom
 after-other l ls n = go ls (ℕ-discrete (kindOf l) END)
   where
-    go : (ls : List Line) → Dec (kindOf l ≡ END) → inOrderAfter (l ∷ ls) ≡ orderFrom (cond (eqb (kindOf l) END) ENDED BROKEN) ls
+    go : (ls : List Line) → Dec (kindOf l ≡ END) →
+        inOrderAfter (l ∷ ls) ≡ orderFrom (cond (eqb (kindOf l) END) ENDED BROKEN) ls
     go [] (yes e) = rw e
     go [] (no m) = rw (ne-eqb (kindOf l) END m)
     go (k ∷ ls) (yes e) = rw (e, ne-eqb (suc (length ls)) 0 (omega arith))
@@ -63,7 +65,8 @@ unfolding orderFrom
 after-links l ls = go (either (linkKind (kindOf l)))
   where
     go : (linkKind (kindOf l) ≡ true) ⊎ (linkKind (kindOf l) ≡ false)
-        → inOrderAfter (l ∷ ls) ≡ orderFrom (cond (linkKind (kindOf l)) LINKS (cond (eqb (kindOf l) END) ENDED BROKEN)) ls
+        → inOrderAfter (l ∷ ls) ≡ orderFrom
+        (cond (linkKind (kindOf l)) LINKS (cond (eqb (kindOf l) END) ENDED BROKEN)) ls
     go (inl e) = after-link l ls e ∙ rw e
     go (inr n) = after-other l ls n ∙ rw n
 
@@ -71,12 +74,18 @@ pub neither : (b : Bool) → cond b false false ≡ false
 neither true = refl
 neither false = refl
 
-pub order-next : (order : ℕ) (l : Line) (ls : List Line) → orderFrom order (l ∷ ls) ≡ orderFrom (nextOrder order (kindOf l)) ls
+pub order-next : (order : ℕ) (l : Line) (ls : List Line) →
+    orderFrom order (l ∷ ls) ≡ orderFrom (nextOrder order (kindOf l)) ls
 unfolding orderFrom
 order-next order l ls = go (ℕ-discrete order START) (ℕ-discrete order LINKS)
   where
-    go : Dec (order ≡ START) → Dec (order ≡ LINKS) → orderFrom order (l ∷ ls) ≡ orderFrom (nextOrder order (kindOf l)) ls
+    go : Dec (order ≡ START) → Dec (order ≡ LINKS) →
+        orderFrom order (l ∷ ls) ≡ orderFrom (nextOrder order (kindOf l)) ls
     go (yes e) d = rw e (after-start l ls)
     go (no n) (yes e) = rw e (after-links l ls)
     go (no n) (no m) =
-        rw (ne-eqb order START n, ne-eqb order LINKS m, ne-eqb (suc (length ls)) 0 (omega arith)) (neither (eqb order ENDED))
+        rw (
+          ne-eqb order START n,
+          ne-eqb order LINKS m,
+          ne-eqb (suc (length ls)) 0 (omega arith),
+        ) (neither (eqb order ENDED))

@@ -1,4 +1,5 @@
-// What reading judges by numbers alone: the order of the frames, a level's byte, and 6, 16 and 14; and where a line ends.
+// What reading judges by numbers alone: the order of the frames, a level's byte, and 6, 16 and 14; and where a line
+// ends.
 ghost use mathlib.Core.Path.{_≡_};
 ghost use mathlib.Core.Bool.{not};
 ghost use Prim.Native.Nat.{_+_, _*_};

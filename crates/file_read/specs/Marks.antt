@@ -1,5 +1,5 @@
--- Characters as digits, by a table: a character's mark is its value as a digit, or 16, a bit that no digit has. So the marks of a line, joined
--- bit by bit, tell whether all its characters are digits.
+-- Characters as digits, by a table: a character's mark is its value as a digit, or 16, a bit that no digit has. So the
+-- marks of a line, joined bit by bit, tell whether all its characters are digits.
 use mathlib.Core.Path.{_≡_, refl, sym, ap, subst⁻¹, _∙_}
 use mathlib.Core.Bool.{Bool, true, false, cond, _&&_}
 use mathlib.Core.List.{List}
@@ -56,7 +56,8 @@ marks-told : (t : List ℕ) (d : ℕ) → d < 16 → MarksBelow d t → MarksBel
 marks-told t d h m = (length-set t (digitOf d) d ∙ m .0, λ c l. go c l (ℕ-discrete c (digitOf d)))
   where
     same : getD (set t (digitOf d) d) (digitOf d) 0 ≡ markBelow (d + 1) (digitOf d)
-    same = getD-set-same t (digitOf d) d 0 (omega (arith, digit-below d h, m .0)) ∙ below-same d (digitOf d) (digit-back d h)
+    same = getD-set-same t (digitOf d) d 0 (omega (arith, digit-below d h, m .0))
+        ∙ below-same d (digitOf d) (digit-back d h)
 
     go : (c : ℕ) → c < 256 → Dec (c ≡ digitOf d) → getD (set t (digitOf d) d) c 0 ≡ markBelow (d + 1) c
     go c l (yes e) = subst⁻¹ (λ (x : ℕ). getD (set t (digitOf d) d) x 0 ≡ markBelow (d + 1) x) e same
@@ -64,7 +65,8 @@ marks-told t d h m = (length-set t (digitOf d) d ∙ m .0, λ c l. go c l (ℕ-d
         let other : digitValue c ≡ d → ⊥ = λ q. n (sym (digit-forth c (omega (arith, q, h))) ∙ ap digitOf q) in
         getD-set-other t (digitOf d) c d 0 n ∙ m .1 c l ∙ below-other d c other
 
-pub marks-next : (t : List ℕ) (d at : ℕ) → d < 16 → at ≡ digitOf (d % 16) → MarksBelow d t → MarksBelow (d + 1) (set t at d)
+pub marks-next : (t : List ℕ) (d at : ℕ) → d < 16 → at ≡ digitOf (d % 16) → MarksBelow d t →
+    MarksBelow (d + 1) (set t at d)
 marks-next t d at h e m =
     let small : d % 16 ≡ d = omega arith in
     subst⁻¹ (λ (x : ℕ). MarksBelow (d + 1) (set t x d)) (e ∙ ap digitOf small) (marks-told t d h m)
@@ -87,7 +89,11 @@ or-small x y = go (decLt x 16) (decLt y 16)
   where
     go : Dec (x < 16) → Dec (y < 16) → ltb (bitOr x y) 16 ≡ (ltb x 16 && ltb y 16)
     go (yes h) (yes k) = rw (lt-ltb x 16 h, lt-ltb y 16 k, lt-ltb (bitOr x y) 16 (or-lt 4 x y h k))
-    go (yes h) (no k) = rw (lt-ltb x 16 h, le-ltb y 16 (omega arith), le-ltb (bitOr x y) 16 (omega (arith, or-add-and x y, and-le-l x y)))
+    go (yes h) (no k) = rw (
+      lt-ltb x 16 h,
+      le-ltb y 16 (omega arith),
+      le-ltb (bitOr x y) 16 (omega (arith, or-add-and x y, and-le-l x y)),
+    )
     go (no h) k = rw (le-ltb x 16 (omega arith), le-ltb (bitOr x y) 16 (omega (arith, or-add-and x y, and-le-r x y)))
 
 and-and : (a b c d : Bool) → (a && b && c && d) ≡ (a && (b && (c && d)))
@@ -97,17 +103,20 @@ and-and false b c d = refl
 
 -- the marks seen with two more, and what is left
 pub marks-more : (s : List ℕ) (seen i : ℕ) → i + 1 < length s → allDigits s ≡ (ltb seen 16 && allDigits (drop i s))
-    → allDigits s ≡ (ltb (bitOr (bitOr seen (digitValue (getD s i 0))) (digitValue (getD s (i + 1) 0))) 16 && allDigits (drop (i + 2) s))
+    → allDigits s ≡ (ltb (bitOr (bitOr seen (digitValue (getD s i 0))) (digitValue (getD s (i + 1) 0))) 16
+    && allDigits (drop (i + 2) s))
 marks-more s seen i h e =
     let a = digitValue (getD s i 0) in
     let b = digitValue (getD s (i + 1) 0) in
     e
     ∙ ap (λ (d : Bool). ltb seen 16 && d) (digits-later s i h)
     ∙ sym (and-and (ltb seen 16) (ltb a 16) (ltb b 16) (allDigits (drop (i + 2) s)))
-    ∙ ap (λ (d : Bool). d && allDigits (drop (i + 2) s)) (sym (or-small (bitOr seen a) b ∙ ap (λ (d : Bool). d && ltb b 16) (or-small seen a)))
+    ∙ ap (λ (d : Bool). d && allDigits (drop (i + 2) s))
+    (sym (or-small (bitOr seen a) b ∙ ap (λ (d : Bool). d && ltb b 16) (or-small seen a)))
 
 -- all characters seen
-pub marks-seen : (s : List ℕ) (seen i : ℕ) → length s ≤ i → allDigits s ≡ (ltb seen 16 && allDigits (drop i s)) → allDigits s ≡ ltb seen 16
+pub marks-seen : (s : List ℕ) (seen i : ℕ) → length s ≤ i → allDigits s ≡ (ltb seen 16 && allDigits (drop i s)) →
+    allDigits s ≡ ltb seen 16
 marks-seen s seen i h e = e ∙ ap (λ (d : Bool). ltb seen 16 && d) (digits-end s i h) ∙ and-end (ltb seen 16)
   where
     and-end : (a : Bool) → (a && true) ≡ a

@@ -1,4 +1,5 @@
--- A walk along the lines of a file with a cursor: what is known of the whole from the lines passed and those that are left.
+-- A walk along the lines of a file with a cursor: what is known of the whole from the lines passed and those that are
+-- left.
 use mathlib.Core.Path.{_≡_, refl, sym, ap, subst, _∙_}
 use mathlib.Core.Bool.{Bool, true, false, cond, not, _&&_, _||_, or-assoc, or-false}
 use mathlib.Core.Logic.{_⊎_, inl, inr}
@@ -20,9 +21,12 @@ use Rattle.table.specs.Table.{levelOutside}
 use Rattle.file_frames.specs.Frame.{byteAt, wordAt, bytesOf}
 use Rattle.file_frames.specs.Kinds.{UNITS, BARE-LINK, LINK, END, frameBytes, linkKind, kindFront, fileFront, lineKind}
 use Rattle.file_frames.specs.FrontLaws.{none-front, some-front}
-use Rattle.file_spec.specs.File.{Line, linesOf, kindOf, numberAt, faultyLine, inOrderAfter, inOrder, linkFrames, statedCount, endsIn, levelOf, levelsIn}
-use Rattle.file_spec.specs.LineLaws.{none-lines, no-lines, front-says, front-lines, front-kind, front-byte-at, front-word, faulty-here, faulty-later, sound-front, frontLine, pastLine}
-use Rattle.file_spec.specs.LineSteps.{frames-more, frames-link, ends-link, ends-other, levels-link, levels-other, no-order, length-ends, length-levels}
+use Rattle.file_spec.specs.File.{Line, linesOf, kindOf, numberAt, faultyLine, inOrderAfter, inOrder, linkFrames}
+use Rattle.file_spec.specs.File.{statedCount, endsIn, levelOf, levelsIn}
+use Rattle.file_spec.specs.LineLaws.{none-lines, no-lines, front-says, front-lines, front-kind, front-byte-at}
+use Rattle.file_spec.specs.LineLaws.{front-word, faulty-here, faulty-later, sound-front, frontLine, pastLine}
+use Rattle.file_spec.specs.LineSteps.{frames-more, frames-link, ends-link, ends-other, levels-link, levels-other}
+use Rattle.file_spec.specs.LineSteps.{no-order, length-ends, length-levels}
 use Rattle.file_judge.specs.FrameOrder.{START, LINKS, ENDED, nextOrder, orderFrom, neither, order-next}
 
 -- ---- the count that is stated last
@@ -77,7 +81,12 @@ known-long kind n = go (ℕ-discrete kind UNITS) (either (linkKind kind)) (ℕ-d
     go (no a) (inr b) (yes e) = rw e (omega arith)
     go (no a) (inr b) (no c) =
         absurd
-        (n (rw (ne-eqb kind UNITS a, or-false-left (eqb kind BARE-LINK) (eqb kind LINK) b, or-false-right (eqb kind BARE-LINK) (eqb kind LINK) b, ne-eqb kind END c)))
+        (n (rw (
+          ne-eqb kind UNITS a,
+          or-false-left (eqb kind BARE-LINK) (eqb kind LINK) b,
+          or-false-right (eqb kind BARE-LINK) (eqb kind LINK) b,
+          ne-eqb kind END c,
+        )))
 
 -- where the line at a place ends, by its kind
 abbrev pub pastAt : ℕ → ℕ → ℕ
@@ -118,7 +127,8 @@ module _ (s : List ℕ) (at kind : ℕ) (l : LineAt s at kind) where
   line-level = rw line-kind (go (ℕ-discrete kind LINK))
     where
       go : Dec (kind ≡ LINK)
-          → cond (eqb kind LINK) (byteLevel (getD (bytesOf (frontLine (drop at s) .0)) 5 0)) LOWEST ≡ cond (eqb kind LINK) (byteLevel (byteAt s (at + 10))) LOWEST
+          → cond (eqb kind LINK) (byteLevel (getD (bytesOf (frontLine (drop at s) .0)) 5 0)) LOWEST
+          ≡ cond (eqb kind LINK) (byteLevel (byteAt s (at + 10))) LOWEST
       go (yes e) = rw (line-byte 5 (rw e (omega arith)))
       go (no n) = rw (ne-eqb kind LINK n)
 
@@ -134,8 +144,8 @@ told-line s at kind e n =
 
 -- ---- the walk that judges
 
--- what is known of the whole at a place: how far the order has come, the links passed, where the last line passed begins, and whether a level passed is out
--- of range
+-- what is known of the whole at a place: how far the order has come, the links passed, where the last line passed
+-- begins, and whether a level passed is out of range
 pub record Walked (s : List ℕ) (at order links last : ℕ) (outside : Bool) : Type 0 where
   pub inside : at ≤ length s
   pub faults : faultyLine (linesOf s) ≡ faultyLine (linesOf (drop at s))
@@ -169,11 +179,13 @@ outside-cons z ls = go (either (inRange z))
     go (inr e) = rw e
 
 outside-more : (l : Line) (ls : List Line)
-    → levelOutside (levelsIn (l ∷ ls)) ≡ ((linkKind (kindOf l) && not (inRange (levelOf l))) || levelOutside (levelsIn ls))
+    → levelOutside (levelsIn (l ∷ ls)) ≡ ((linkKind (kindOf l) && not (inRange (levelOf l)))
+    || levelOutside (levelsIn ls))
 outside-more l ls = go (either (linkKind (kindOf l)))
   where
     go : (linkKind (kindOf l) ≡ true) ⊎ (linkKind (kindOf l) ≡ false)
-        → levelOutside (levelsIn (l ∷ ls)) ≡ ((linkKind (kindOf l) && not (inRange (levelOf l))) || levelOutside (levelsIn ls))
+        → levelOutside (levelsIn (l ∷ ls))
+        ≡ ((linkKind (kindOf l) && not (inRange (levelOf l))) || levelOutside (levelsIn ls))
     go (inl e) = rw (levels-link l ls e, e) (outside-cons (levelOf l) (levelsIn ls))
     go (inr e) = rw (levels-other l ls e, e)
 
@@ -181,11 +193,13 @@ module _ (s : List ℕ) (at order links last : ℕ) (outside : Bool) (w : Walked
   -- a line that is none
   pub walk-fault : at < length s → lineKind (lent at s) ≡ 0 → faultyLine (linesOf s) ≡ true
   walk-fault h e =
-      w .faults ∙ faulty-here (drop at s) (omega (arith, length-drop at s)) (none-front (drop at s) (ap lineKind (sym (lent-rest at s)) ∙ e))
+      w .faults ∙ faulty-here (drop at s) (omega (arith, length-drop at s))
+      (none-front (drop at s) (ap lineKind (sym (lent-rest at s)) ∙ e))
 
   -- one line more
   walk-on : (kind one : ℕ) (bad : Bool) → one ≡ cond (linkKind kind) 1 0 → one ≤ 1
-      → bad ≡ (linkKind kind && not (inRange (cond (eqb kind LINK) (byteLevel (byteAt s (at + 10))) LOWEST))) → LineAt s at kind
+      → bad ≡ (linkKind kind && not (inRange (cond (eqb kind LINK) (byteLevel (byteAt s (at + 10))) LOWEST))) →
+      LineAt s at kind
       → Walked s (pastAt at kind) (nextOrder order kind) (links + one) at (outside || bad)
   walk-on kind one bad c o b l =
       let rest = linesOf (drop (pastAt at kind) s) in
@@ -195,7 +209,9 @@ module _ (s : List ℕ) (at order links last : ℕ) (outside : Bool) (w : Walked
       let more : linkFrames (linesOf (drop at s)) ≡ one + linkFrames rest =
       ap linkFrames lines ∙ frames-more first rest ∙ rw (k, c) in
       let here : (linkKind (kindOf first) && not (inRange (levelOf first))) ≡ bad =
-      ap (λ (z : ℤ). linkKind (kindOf first) && not (inRange z)) (line-level s at kind l) ∙ ap (λ (x : ℕ). linkKind x && not (inRange (cond (eqb kind LINK) (byteLevel (byteAt s (at + 10))) LOWEST))) k ∙ sym b in
+      ap (λ (z : ℤ). linkKind (kindOf first) && not (inRange z)) (line-level s at kind l)
+      ∙ ap (λ (x : ℕ). linkKind x && not (inRange (cond (eqb kind LINK) (byteLevel (byteAt s (at + 10))) LOWEST))) k
+      ∙ sym b in
       record {
         inside = line-fits s at kind l;
         faults = w .faults ∙ line-faults s at kind l;
@@ -209,23 +225,27 @@ module _ (s : List ℕ) (at order links last : ℕ) (outside : Bool) (w : Walked
         levels =
             w .levels
             ∙ ap (λ (ls : List Line). outside || levelOutside (levelsIn ls)) lines
-            ∙ ap (λ (x : Bool). outside || x) (outside-more first rest ∙ ap (λ (x : Bool). x || levelOutside (levelsIn rest)) here)
+            ∙ ap (λ (x : Bool). outside || x) (outside-more first rest
+            ∙ ap (λ (x : Bool). x || levelOutside (levelsIn rest)) here)
             ∙ sym (or-assoc outside bad (levelOutside (levelsIn rest)));
         few = omega (arith, w .few);
         long = λ _. omega (arith, line-long s at kind l);
       }
 
   pub walk-link : LineAt s at LINK
-      → Walked s (pastAt at LINK) (nextOrder order LINK) (links + 1) at (outside || not (inRange (byteLevel (byteAt s (at + 10)))))
+      → Walked s (pastAt at LINK) (nextOrder order LINK) (links + 1) at
+      (outside || not (inRange (byteLevel (byteAt s (at + 10)))))
   walk-link l = walk-on LINK 1 (not (inRange (byteLevel (byteAt s (at + 10))))) refl (omega arith) refl l
 
   lowest : inRange LOWEST ≡ true
   unfolding inRange
   lowest = refl
 
-  pub walk-bare : LineAt s at BARE-LINK → Walked s (pastAt at BARE-LINK) (nextOrder order BARE-LINK) (links + 1) at outside
+  pub walk-bare : LineAt s at BARE-LINK →
+      Walked s (pastAt at BARE-LINK) (nextOrder order BARE-LINK) (links + 1) at outside
   walk-bare l =
-      subst (λ (x : Bool). Walked s (pastAt at BARE-LINK) (nextOrder order BARE-LINK) (links + 1) at x) (or-false outside)
+      subst (λ (x : Bool). Walked s (pastAt at BARE-LINK) (nextOrder order BARE-LINK) (links + 1) at x)
+      (or-false outside)
       (walk-on BARE-LINK 1 false refl (omega arith) (rw lowest) l)
 
   pub walk-other : (kind : ℕ) → (kind ≡ LINK → ⊥) → (kind ≡ BARE-LINK → ⊥) → LineAt s at kind
@@ -247,7 +267,8 @@ module _ (s : List ℕ) (at order links last : ℕ) (outside : Bool) (w : Walked
 
     pub walk-broken : (order ≡ ENDED → ⊥) → inOrder (linesOf s) ≡ false
     unfolding orderFrom inOrder inOrderAfter
-    walk-broken n = w .kept ∙ rw (none, ne-eqb order ENDED n) (ap (cond (eqb order START) false) (neither (eqb order LINKS)) ∙ neither (eqb order START))
+    walk-broken n = w .kept ∙ rw (none, ne-eqb order ENDED n)
+        (ap (cond (eqb order START) false) (neither (eqb order LINKS)) ∙ neither (eqb order START))
 
     pub walk-kept : order ≡ ENDED → inOrder (linesOf s) ≡ true
     unfolding orderFrom
@@ -290,7 +311,8 @@ pub record Filled (s old words : List ℕ) (oldLevels levels : List ℤ) (at n :
   pub laid : words ≡ take (2 * n) (endsIn (linesOf s)) ++ drop (2 * n) old
   pub laidLevels : levels ≡ take n (levelsIn (linesOf s)) ++ drop n oldLevels
 
-pub fill-start : (s old : List ℕ) (oldLevels : List ℤ) → faultyLine (linesOf s) ≡ false → Filled s old old oldLevels oldLevels 0 0
+pub fill-start : (s old : List ℕ) (oldLevels : List ℤ) → faultyLine (linesOf s) ≡ false →
+    Filled s old old oldLevels oldLevels 0 0
 fill-start s old oldLevels h =
     record {
       inside = omega arith;
@@ -304,7 +326,8 @@ fill-start s old oldLevels h =
       laidLevels = refl;
     }
 
-module _ (s old words : List ℕ) (oldLevels levels : List ℤ) (at n : ℕ) (f : Filled s old words oldLevels levels at n) where
+module _ (s old words : List ℕ) (oldLevels levels : List ℤ) (at n : ℕ)
+    (f : Filled s old words oldLevels levels at n) where
   fill-front : at < length s → fileFront (drop at s) ≡ true
   fill-front h = sound-front (drop at s) (f .sound) (omega (arith, length-drop at s))
 
@@ -341,7 +364,8 @@ module _ (s old words : List ℕ) (oldLevels levels : List ℤ) (at n : ℕ) (f 
     unfolding rest
     fill-other o =
         let k : linkKind (kindOf first) ≡ false = ap linkKind first-kind ∙ o in
-        let none : linkFrames (linesOf (drop at s)) ≡ linkFrames rest = ap linkFrames lines ∙ frames-more first rest ∙ rw k (omega arith) in
+        let none : linkFrames (linesOf (drop at s)) ≡ linkFrames rest =
+        ap linkFrames lines ∙ frames-more first rest ∙ rw k (omega arith) in
         record {
           inside = line-fits s at kind l;
           sound = later-sound;
@@ -365,11 +389,16 @@ module _ (s old words : List ℕ) (oldLevels levels : List ℤ) (at n : ℕ) (f 
           f .left
           ∙ ap endsIn lines
           ∙ ends-link first rest k
-          ∙ rw (line-word s at kind l 1 (omega (arith, link-long kind link)), line-word s at kind l 3 (omega (arith, link-long kind link)))
+          ∙ rw (
+            line-word s at kind l 1 (omega (arith, link-long kind link)),
+            line-word s at kind l 3 (omega (arith, link-long kind link)),
+          )
 
-      one-left : drop n (levelsIn (linesOf s)) ≡ cond (eqb kind LINK) (byteLevel (byteAt s (at + 10))) LOWEST ∷ levelsIn rest
+      one-left : drop n (levelsIn (linesOf s))
+          ≡ cond (eqb kind LINK) (byteLevel (byteAt s (at + 10))) LOWEST ∷ levelsIn rest
       unfolding first
-      one-left = f .leftLevels ∙ ap levelsIn lines ∙ levels-link first rest k ∙ ap (λ (z : ℤ). z ∷ levelsIn rest) (line-level s at kind l)
+      one-left = f .leftLevels ∙ ap levelsIn lines ∙ levels-link first rest k
+          ∙ ap (λ (z : ℤ). z ∷ levelsIn rest) (line-level s at kind l)
 
       one-more : linkFrames (linesOf s) ≡ suc n + linkFrames rest
       one-more = omega (arith, f .count, ap linkFrames lines ∙ frames-link first rest k)
@@ -389,7 +418,8 @@ module _ (s old words : List ℕ) (oldLevels levels : List ℤ) (at n : ℕ) (f 
           let ends = endsIn (linesOf s) in
           let all = levelsIn (linesOf s) in
           let e : 2 * (n + 1) ≡ 2 * n + 2 = omega arith in
-          let more : take (2 * n + 2) ends ≡ take (2 * n) ends ++ a ∷ b ∷ [] = take-add (2 * n) 2 ends ∙ rw (two-left, p, q) in
+          let more : take (2 * n + 2) ends ≡ take (2 * n) ends ++ a ∷ b ∷ [] =
+          take-add (2 * n) 2 ends ∙ rw (two-left, p, q) in
           let moreLevels : take (n + 1) all ≡ take n all ++ z ∷ [] = take-add n 1 all ∙ rw (one-left, r) in
           let long = length-ends (linesOf s) in
           let longLevels = length-levels (linesOf s) in
@@ -403,10 +433,12 @@ module _ (s old words : List ℕ) (oldLevels levels : List ℤ) (at n : ℕ) (f 
             sameLevels = length-set levels n z ∙ f .sameLevels;
             laid =
                 rw (e, f .laid, more)
-                (put-two (take (2 * n) ends) old (2 * n) a b (length-take-le (2 * n) ends (omega (arith, fill-more, long))) (omega (arith, fill-more)));
+                (put-two (take (2 * n) ends) old (2 * n) a b
+                (length-take-le (2 * n) ends (omega (arith, fill-more, long))) (omega (arith, fill-more)));
             laidLevels =
                 rw (f .laidLevels, moreLevels)
-                (put-one (take n all) oldLevels n z (length-take-le n all (omega (arith, fill-more, longLevels))) (omega (arith, fill-more)));
+                (put-one (take n all) oldLevels n z (length-take-le n all (omega (arith, fill-more, longLevels)))
+                (omega (arith, fill-more)));
           }
 
   -- past the last line

@@ -29,7 +29,8 @@ fn either(x: bool, y: bool) -> bool
     if x { true } else { y }
 }
 
-// The number of the first cause among 1, 2, 3, 6, 16, 14; 0 where there is none. The walk goes on past a broken order: a faulty line comes first.
+// The number of the first cause among 1, 2, 3, 6, 16, 14; 0 where there is none. The walk goes on past a broken order:
+// a faulty line comes first.
 pub(crate) fn refusal(t: &[u8], file: &[u8], places: usize, spaces: usize) -> u8
     requires { ⌜ Marks (now t) ⌝ }
     ensures { λ r. ⌜ r ≡ readRefusal (linesOf (now (file .entry))) places spaces ⌝ }
@@ -82,12 +83,19 @@ fn level_at(t: &[u8], file: &[u8], at: usize, kind: u8) -> i16
     }
 }
 
-// The ends and the levels in the lines of links, laid down in order; their number of links. For a file without a faulty line, whose links fit.
+// The ends and the levels in the lines of links, laid down in order; their number of links. For a file without a faulty
+// line, whose links fit.
 pub(crate) fn fill(t: &[u8], file: &[u8], words: &mut [u16], levels: &mut [i16]) -> usize
-    requires { ⌜ Marks (now t) × (faultyLine (linesOf (now file)) ≡ false) × (2 * linkFrames (linesOf (now file)) ≤ length (now words)) × (linkFrames (linesOf (now file)) ≤ length (now levels)) ⌝ }
+    requires { ⌜ Marks (now t) × (faultyLine (linesOf (now file)) ≡ false)
+        × (2 * linkFrames (linesOf (now file)) ≤ length (now words))
+        × (linkFrames (linesOf (now file)) ≤ length (now levels)) ⌝ }
     ensures links { λ r. ⌜ r ≡ linkFrames (linesOf (now (file .entry))) ⌝ }
-    ensures ends { λ _. ⌜ now (words .exit) ≡ endsIn (linesOf (now (file .entry))) ++ drop (length (endsIn (linesOf (now (file .entry))))) (now (words .entry)) ⌝ }
-    ensures levels { λ _. ⌜ now (levels .exit) ≡ levelsIn (linesOf (now (file .entry))) ++ drop (length (levelsIn (linesOf (now (file .entry))))) (now (levels .entry)) ⌝ }
+    ensures ends { λ _. ⌜ now (words .exit)
+        ≡ endsIn (linesOf (now (file .entry)))
+        ++ drop (length (endsIn (linesOf (now (file .entry))))) (now (words .entry)) ⌝ }
+    ensures levels { λ _. ⌜ now (levels .exit)
+        ≡ levelsIn (linesOf (now (file .entry)))
+        ++ drop (length (levelsIn (linesOf (now (file .entry))))) (now (levels .entry)) ⌝ }
 {
     let mut at = 0;
     let mut n = 0;

@@ -1,4 +1,5 @@
--- Document 01's file of case B, as it stands there: what is read from it, and the file that is written of that, with a level in each link line.
+-- Document 01's file of case B, as it stands there: what is read from it, and the file that is written of that, with a
+-- level in each link line.
 use mathlib.Core.Path.{_≡_, refl}
 use mathlib.Core.List.{List, [], _∷_, _++_}
 use Prim.Native.Nat.{ℕ}
@@ -7,7 +8,8 @@ use Rattle.base_lists.specs.Folds.{every}
 use Rattle.base_lists.specs.Text.{characters}
 use Rattle.table_levels.specs.Level.{LOWEST, inRange, twos}
 use Rattle.file_frames.specs.Frame.{hexesOf, sumOf, checkByte, lineOf, allDigits, bytesOf}
-use Rattle.file_spec.specs.File.{linkLines, fileOf, linesOf, prepend, whole, faultyLine, inOrderAfter, inOrder, linkFrames, statedCount, unitsIn, endsIn, levelsIn, readRefusal}
+use Rattle.file_spec.specs.File.{linkLines, fileOf, linesOf, prepend, whole, faultyLine, inOrderAfter, inOrder}
+use Rattle.file_spec.specs.File.{linkFrames, statedCount, unitsIn, endsIn, levelsIn, readRefusal}
 
 unfoldable pub caseB : List ℕ
 caseB = 0 ∷ 1 ∷ 1 ∷ 2 ∷ 0 ∷ 2 ∷ 2 ∷ 3 ∷ []
@@ -34,8 +36,10 @@ levelledB =
     ++ characters "03000200038177\n"
     ++ characters "0F0004ED\n"
 
-pub read-B : (readRefusal (linesOf fileB) 2048 1024 ≡ 0) × (unitsIn (linesOf fileB) ≡ 4) × (endsIn (linesOf fileB) ≡ caseB) × (levelsIn (linesOf fileB) ≡ levelsB)
-unfolding caseB levelsB fileB linesOf prepend whole faultyLine inOrderAfter inOrder linkFrames statedCount unitsIn endsIn levelsIn readRefusal allDigits bytesOf sumOf inRange
+pub read-B : (readRefusal (linesOf fileB) 2048 1024 ≡ 0) × (unitsIn (linesOf fileB) ≡ 4)
+    × (endsIn (linesOf fileB) ≡ caseB) × (levelsIn (linesOf fileB) ≡ levelsB)
+unfolding caseB levelsB fileB linesOf prepend whole faultyLine inOrderAfter inOrder linkFrames statedCount unitsIn
+    endsIn levelsIn readRefusal allDigits bytesOf sumOf inRange
 read-B = (refl, refl, refl, refl)
 
 pub written-B : fileOf 4 caseB levelsB ≡ levelledB

@@ -1,5 +1,5 @@
--- A survey file (documents 01 and 02, T-01): kind 01 the unit count, for each link a kind 03 with its two ends and its level or a kind 02 without a level,
--- kind 0F the number of links.
+-- A survey file (documents 01 and 02, T-01): kind 01 the unit count, for each link a kind 03 with its two ends and its
+-- level or a kind 02 without a level, kind 0F the number of links.
 use mathlib.Core.Bool.{Bool, true, false, cond, not, _&&_, _||_}
 use mathlib.Core.List.{List, [], _∷_, _++_}
 use Prim.Native.Nat.{ℕ, _+_, _*_, _%_}
@@ -98,7 +98,8 @@ kindOf l = getD (bytesOf (l .0)) 0 0
 abbrev pub numberAt : Line → ℕ → ℕ
 numberAt l i = wordOf (getD (bytesOf (l .0)) i 0) (getD (bytesOf (l .0)) (i + 1) 0)
 
--- a line is whole: it has its line feed, only digits, a kind of a file with that kind's length, and a sum of 0 (an empty line has no kind)
+-- a line is whole: it has its line feed, only digits, a kind of a file with that kind's length, and a sum of 0 (an
+-- empty line has no kind)
 unfoldable pub whole : Line → Bool
 whole l =
     l .1
@@ -153,7 +154,8 @@ unfoldable pub levelsIn : List Line → List ℤ
 levelsIn [] = []
 levelsIn (l ∷ ls) = let later = levelsIn ls in cond (linkKind (kindOf l)) (levelOf l ∷ later) later
 
--- reading lines into slices with so many places for words and so many for levels: 1, 2, 3, 6, 16, 14, each judged over the whole input
+-- reading lines into slices with so many places for words and so many for levels: 1, 2, 3, 6, 16, 14, each judged over
+-- the whole input
 unfoldable pub readRefusal : List Line → ℕ → ℕ → ℕ
 readRefusal ls places spaces =
     firstOf
@@ -167,7 +169,8 @@ readRefusal ls places spaces =
 
 -- the reply, and the slices after the call
 unfoldable pub readReply : List ℕ → ℕ → ℕ → Reading
-readReply s places spaces = readingOf (readRefusal (linesOf s) places spaces) (unitsIn (linesOf s)) (linkFrames (linesOf s))
+readReply s places spaces = readingOf (readRefusal (linesOf s) places spaces) (unitsIn (linesOf s))
+    (linkFrames (linesOf s))
 
 unfoldable pub readWords : List ℕ → List ℕ → ℕ → List ℕ
 readWords s words spaces = written (readRefusal (linesOf s) (length words) spaces) (endsIn (linesOf s)) words

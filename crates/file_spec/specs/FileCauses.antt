@@ -1,4 +1,5 @@
--- Why reading or writing a file is refused, in the words of document 01, and that each test decides its cause: the reasons of both calls, in order.
+-- Why reading or writing a file is refused, in the words of document 01, and that each test decides its cause: the
+-- reasons of both calls, in order.
 use mathlib.Core.Path.{_≡_, refl, sym, ap, _∙_}
 use mathlib.Core.Bool.{Bool, true, false, not, _&&_, _||_, false≢true, true≢false}
 use mathlib.Core.Logic.{_⊎_, inl, inr, _↔_}
@@ -11,7 +12,8 @@ use lib.Dec.{eqb, ltb}
 use lib.ListN.{length, getD}
 use lib.IntN.{ℤ}
 use borrow.Author.Tests.{eq-eqb, ne-eqb, eqb-true, eqb-false, ltb-true, lt-ltb, not-true, not-false}
-use Rattle.base_lists.specs.Tests.{either, or-cases, or-left, or-right, or-exact, and-left, and-right, and-true, not-both, refuted}
+use Rattle.base_lists.specs.Tests.{either, or-cases, or-left, or-right, or-exact, and-left, and-right, and-true}
+use Rattle.base_lists.specs.Tests.{not-both, refuted}
 use Rattle.table.specs.Refusals.{firstOf}
 use Rattle.table.specs.RefusalLaws.{Reason, tests}
 use Rattle.table.specs.Table.{linkCount, maxLinks, levelOutside}
@@ -20,7 +22,8 @@ use Rattle.table.specs.FreshLaws.{freshReasons}
 use Rattle.file_frames.specs.Frame.{digitValue, allDigits, bytesOf, sumOf}
 use Rattle.file_frames.specs.FrameLaws.{IsDigit, digit-exact}
 use Rattle.file_frames.specs.Kinds.{UNITS, BARE-LINK, LINK, END, frameBytes, linkKind}
-use Rattle.file_spec.specs.File.{Line, kindOf, whole, faultyLine, inOrderAfter, inOrder, linkFrames, statedCount, levelsIn, readRefusal, fileLength, writeRefusal}
+use Rattle.file_spec.specs.File.{Line, kindOf, whole, faultyLine, inOrderAfter, inOrder, linkFrames, statedCount}
+use Rattle.file_spec.specs.File.{levelsIn, readRefusal, fileLength, writeRefusal}
 
 -- line i
 abbrev lineAt : List Line → ℕ → Line
@@ -108,7 +111,8 @@ module _ (l : Line) where
       go (inr f) d k g z = noLineFeed f
       go (inl f) (inr d) k g z = let s = strange (l .0) d in otherCharacter (s .0) (s .1) (s .2)
       go (inl f) (inl d) (inr k) g z =
-          unknownKind (no-bytes (kindOf l) (eqb-true (frameBytes (kindOf l)) 0 (not-false (eqb (frameBytes (kindOf l)) 0) k)))
+          unknownKind (no-bytes (kindOf l)
+          (eqb-true (frameBytes (kindOf l)) 0 (not-false (eqb (frameBytes (kindOf l)) 0) k)))
       go (inl f) (inl d) (inl k) (inr g) z = wrongLength (eqb-false (length (l .0)) (2 * frameBytes (kindOf l)) g)
       go (inl f) (inl d) (inl k) (inl g) (inr z) = wrongSum (eqb-false (sumOf (bytesOf (l .0)) % 256) 0 z)
       go (inl f) (inl d) (inl k) (inl g) (inl z) = absurd (not-both (whole l) (whole-as ∙ rw (f, d, k, g, z)) e)
@@ -130,15 +134,18 @@ module _ (l : Line) where
       two = and-left (fed && digits) known three
 
       some-kind : frameBytes (kindOf l) ≡ 0 → ⊥
-      some-kind = eqb-false (frameBytes (kindOf l)) 0 (not-true (eqb (frameBytes (kindOf l)) 0) (and-right (fed && digits) known three))
+      some-kind = eqb-false (frameBytes (kindOf l)) 0
+          (not-true (eqb (frameBytes (kindOf l)) 0) (and-right (fed && digits) known three))
 
       go : Fault l → ⊥
       go (empty e) = some-kind (ap (λ (p : List ℕ). frameBytes (getD (bytesOf p) 0 0)) e ∙ no-bytes-kind)
       go (noLineFeed e) = not-both fed (and-left fed digits two) e
       go (otherCharacter j h n) = n (digits-at (l .0) (and-right fed digits two) j h)
       go (unknownKind u) = some-kind (unknown-bytes (kindOf l) u)
-      go (wrongLength n) = n (eqb-true (length (l .0)) (2 * frameBytes (kindOf l)) (and-right (fed && digits && known) long four))
-      go (wrongSum n) = n (eqb-true (sumOf (bytesOf (l .0)) % 256) 0 (and-right (fed && digits && known && long) sums all))
+      go (wrongLength n) = n (eqb-true (length (l .0)) (2 * frameBytes (kindOf l))
+          (and-right (fed && digits && known) long four))
+      go (wrongSum n) = n (eqb-true (sumOf (bytesOf (l .0)) % 256) 0
+          (and-right (fed && digits && known && long) sums all))
 
 faults-forth : (ls : List Line) → faultyLine ls ≡ true → FaultyLine ls
 unfolding faultyLine
@@ -168,7 +175,10 @@ abbrev IsLink : ℕ → Type 0
 IsLink k = (k ≡ BARE-LINK) ⊎ (k ≡ LINK)
 
 link-exact : (k : ℕ) → (linkKind k ≡ true) ↔ IsLink k
-link-exact k = or-exact (eqb k BARE-LINK) (eqb k LINK) (eqb-true k BARE-LINK, eq-eqb k BARE-LINK) (eqb-true k LINK, eq-eqb k LINK)
+link-exact k = or-exact (eqb k BARE-LINK) (eqb k LINK) (eqb-true k BARE-LINK, eq-eqb k BARE-LINK) (
+  eqb-true k LINK,
+  eq-eqb k LINK,
+)
 
 -- m times 02 or 03, then one 0F, and nothing more
 abbrev LinksThenEnd : List Line → ℕ → Type 0
@@ -177,9 +187,11 @@ LinksThenEnd ls m = (length ls ≡ m + 1) × ((i : ℕ) → i < m → IsLink (ki
 -- one 01, any number m of 02 and 03, one 0F
 abbrev InOrder : List Line → Type 0
 InOrder ls =
-    (m : ℕ) × (length ls ≡ m + 2) × (kindAt ls 0 ≡ UNITS) × ((i : ℕ) → i < m → IsLink (kindAt ls (i + 1))) × (kindAt ls (m + 1) ≡ END)
+    (m : ℕ) × (length ls ≡ m + 2) × (kindAt ls 0 ≡ UNITS) × ((i : ℕ) → i < m → IsLink (kindAt ls (i + 1)))
+    × (kindAt ls (m + 1) ≡ END)
 
-links-more : (l : Line) (ls : List Line) → IsLink (kindOf l) → (m : ℕ) × LinksThenEnd ls m → (m : ℕ) × LinksThenEnd (l ∷ ls) m
+links-more : (l : Line) (ls : List Line) → IsLink (kindOf l) → (m : ℕ) × LinksThenEnd ls m →
+    (m : ℕ) × LinksThenEnd (l ∷ ls) m
 links-more l ls k c = (suc (c .0), (omega (arith, c .1 .0), links, c .1 .2))
   where
     links : (i : ℕ) → i < suc (c .0) → IsLink (kindAt (l ∷ ls) i)
@@ -276,7 +288,8 @@ readReasons ls places spaces =
     }
     ∷ []
 
-pub readRefusal-tests : (ls : List Line) (places spaces : ℕ) → readRefusal ls places spaces ≡ firstOf (tests (readReasons ls places spaces))
+pub readRefusal-tests : (ls : List Line) (places spaces : ℕ) →
+    readRefusal ls places spaces ≡ firstOf (tests (readReasons ls places spaces))
 unfolding readRefusal readReasons
 readRefusal-tests ls places spaces = refl
 
@@ -293,6 +306,7 @@ writeReasons n t ls places =
     }
     ∷ []
 
-pub writeRefusal-tests : (n : ℕ) (t : List ℕ) (ls : List ℤ) (places : ℕ) → writeRefusal n t ls places ≡ firstOf (tests (writeReasons n t ls places))
+pub writeRefusal-tests : (n : ℕ) (t : List ℕ) (ls : List ℤ) (places : ℕ) →
+    writeRefusal n t ls places ≡ firstOf (tests (writeReasons n t ls places))
 unfolding writeRefusal writeReasons freshReasons storedReasons
 writeRefusal-tests n t ls places = refl

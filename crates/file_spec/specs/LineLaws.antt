@@ -115,7 +115,13 @@ line-fed l h = go (either (l .1))
 pub says-whole : (p : List ℕ) (bytes : ℕ) → Whole p bytes → whole (p, true) ≡ true
 unfolding whole
 says-whole p bytes w =
-    rw (w .kind, w .digits, ne-eqb bytes 0 (w .known), eq-eqb (length p) (2 * bytes) (w .long), eq-eqb (sumOf (bytesOf p) % 256) 0 (w .sums))
+    rw (
+      w .kind,
+      w .digits,
+      ne-eqb bytes 0 (w .known),
+      eq-eqb (length p) (2 * bytes) (w .long),
+      eq-eqb (sumOf (bytesOf p) % 256) 0 (w .sums),
+    )
 
 -- characters that begin with a whole line begin with a file's frame
 whole-front : (p rest : List ℕ) (bytes : ℕ) → Whole p bytes → fileFront (p ++ LF ∷ rest) ≡ true
@@ -125,7 +131,11 @@ whole-front p rest bytes w =
     let some : bytes ≡ 0 → ⊥ = w .known in
     let long : length p ≡ 2 * bytes = w .long in
     let same : kindFront s ≡ getD (bytesOf p) 0 0 =
-    rw (List·getD-append p (LF ∷ rest) 0 0 (omega arith), List·getD-append p (LF ∷ rest) 0 1 (omega arith), bytes-at p 0 (omega arith)) in
+    rw (
+      List·getD-append p (LF ∷ rest) 0 0 (omega arith),
+      List·getD-append p (LF ∷ rest) 0 1 (omega arith),
+      bytes-at p 0 (omega arith),
+    ) in
     let size : frameBytes (kindFront s) ≡ bytes = ap frameBytes same ∙ w .kind in
     rw (
       size,
@@ -168,7 +178,8 @@ front-says s h =
     bytes-at (take n s) 0 (omega arith) ∙ rw (getD-take n s 0 0 (omega arith), getD-take n s 1 0 (omega arith)) in
     record {
       short = short;
-      split = sym (take-append-drop n s) ∙ ap (λ (l : List ℕ). take n s ++ l) (rest-one s n 0 short ∙ ap (λ (x : ℕ). x ∷ drop (n + 1) s) feed);
+      split = sym (take-append-drop n s)
+          ∙ ap (λ (l : List ℕ). take n s ++ l) (rest-one s n 0 short ∙ ap (λ (x : ℕ). x ∷ drop (n + 1) s) feed);
       body =
           record {
             digits = and-right f d (and-left (f && d) z line);
@@ -205,10 +216,13 @@ front-byte s n j l h =
     bytes-at (take n s) j (omega arith) ∙ rw (getD-take n s (2 * j) 0 (omega arith), getD-take n s (2 * j + 1) 0 h)
 
 -- a byte of the first line stands in its characters, and so does a number
-pub front-byte-at : (s : List ℕ) → fileFront s ≡ true → (j : ℕ) → j < frameBytes (kindFront s) → getD (bytesOf (frontLine s .0)) j 0 ≡ byteAt s (2 * j)
-front-byte-at s h j k = front-byte s (2 * frameBytes (kindFront s)) j (omega (arith, front-says s h .short)) (omega arith)
+pub front-byte-at : (s : List ℕ) → fileFront s ≡ true → (j : ℕ) → j < frameBytes (kindFront s) →
+    getD (bytesOf (frontLine s .0)) j 0 ≡ byteAt s (2 * j)
+front-byte-at s h j k = front-byte s (2 * frameBytes (kindFront s)) j (omega (arith, front-says s h .short))
+    (omega arith)
 
-pub front-word : (s : List ℕ) → fileFront s ≡ true → (i : ℕ) → i + 1 < frameBytes (kindFront s) → numberAt (frontLine s) i ≡ wordAt s (2 * i)
+pub front-word : (s : List ℕ) → fileFront s ≡ true → (i : ℕ) → i + 1 < frameBytes (kindFront s) →
+    numberAt (frontLine s) i ≡ wordAt s (2 * i)
 front-word s h i k =
     let e : 2 * (i + 1) ≡ 2 * i + 2 = omega arith in
     rw (front-byte-at s h i (omega arith), front-byte-at s h (i + 1) (omega arith), e)
@@ -216,16 +230,22 @@ front-word s h i k =
 pub faulty-later : (s : List ℕ) → fileFront s ≡ true → faultyLine (linesOf s) ≡ faultyLine (linesOf (pastLine s))
 unfolding faultyLine
 faulty-later s h =
-    rw (front-lines s h, says-whole (take (2 * frameBytes (kindFront s)) s) (frameBytes (kindFront s)) (front-says s h .body))
+    rw (
+      front-lines s h,
+      says-whole (take (2 * frameBytes (kindFront s)) s) (frameBytes (kindFront s))
+          (front-says s h .body),
+    )
 
 faulty-ended : (s p rest : List ℕ) → fileFront s ≡ false → s ≡ p ++ LF ∷ rest → linesOf s ≡ (p, true) ∷ linesOf rest
     → faultyLine (linesOf s) ≡ true
 unfolding faultyLine
 faulty-ended s p rest h e l = rw l (go (either (whole (p, true))))
   where
-    go : (whole (p, true) ≡ true) ⊎ (whole (p, true) ≡ false) → (not (whole (p, true)) || faultyLine (linesOf rest)) ≡ true
+    go : (whole (p, true) ≡ true) ⊎ (whole (p, true) ≡ false) →
+        (not (whole (p, true)) || faultyLine (linesOf rest)) ≡ true
     go (inl w) =
-        absurd (not-both (fileFront s) (rw e (whole-front p rest (frameBytes (getD (bytesOf p) 0 0)) (whole-line (p, true) w))) h)
+        absurd (not-both (fileFront s) (rw e
+        (whole-front p rest (frameBytes (getD (bytesOf p) 0 0)) (whole-line (p, true) w))) h)
     go (inr w) = rw w
 
 pub faulty-here : (s : List ℕ) → 0 < length s → fileFront s ≡ false → faultyLine (linesOf s) ≡ true

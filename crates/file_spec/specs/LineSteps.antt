@@ -12,7 +12,8 @@ use lib.ListN.{length}
 use borrow.Author.Tests.{eqb-true}
 use Rattle.base_lists.specs.Tests.{either, or-cases, and-left, and-right}
 use Rattle.file_frames.specs.Kinds.{UNITS, BARE-LINK, LINK, END, linkKind}
-use Rattle.file_spec.specs.File.{Line, kindOf, numberAt, inOrderAfter, inOrder, linkFrames, statedCount, unitsIn, endsIn, levelOf, levelsIn}
+use Rattle.file_spec.specs.File.{Line, kindOf, numberAt, inOrderAfter, inOrder, linkFrames, statedCount, unitsIn}
+use Rattle.file_spec.specs.File.{endsIn, levelOf, levelsIn}
 
 module _ (l : Line) (ls : List Line) where
   pub frames-more : linkFrames (l ∷ ls) ≡ cond (linkKind (kindOf l)) 1 0 + linkFrames ls
@@ -57,8 +58,10 @@ module _ (l : Line) (ls : List Line) where
 
   pub first-units : inOrder (l ∷ ls) ≡ true → (kindOf l ≡ UNITS) × (inOrderAfter ls ≡ true)
   unfolding inOrder
-  first-units h =
-      (eqb-true (kindOf l) UNITS (and-left (eqb (kindOf l) UNITS) (inOrderAfter ls) h), and-right (eqb (kindOf l) UNITS) (inOrderAfter ls) h)
+  first-units h = (
+    eqb-true (kindOf l) UNITS (and-left (eqb (kindOf l) UNITS) (inOrderAfter ls) h),
+    and-right (eqb (kindOf l) UNITS) (inOrderAfter ls) h,
+  )
 
 -- a link's line is not the last
 link-no-end : (k : ℕ) → linkKind k ≡ true → eqb k END ≡ false

@@ -1,5 +1,5 @@
--- That `linesOf` cuts characters into lines: joined again they are the characters; a line holds no line feed; only the last may lack the
--- line feed that ends it, and is not empty then.
+-- That `linesOf` cuts characters into lines: joined again they are the characters; a line holds no line feed; only the
+-- last may lack the line feed that ends it, and is not empty then.
 use mathlib.Core.Path.{_≡_, refl}
 use mathlib.Core.Bool.{true, false, cond, true≢false}
 use mathlib.Core.List.{List, [], _∷_, _++_}
@@ -28,7 +28,8 @@ unfolding linesOf
 lines-joined [] = refl
 lines-joined (c ∷ s) = go (lines-joined s) (ℕ-discrete c LF)
   where
-    go : joined (linesOf s) ≡ s → Dec (c ≡ LF) → joined (cond (eqb c LF) (([], true) ∷ linesOf s) (prepend c (linesOf s))) ≡ c ∷ s
+    go : joined (linesOf s) ≡ s → Dec (c ≡ LF) →
+        joined (cond (eqb c LF) (([], true) ∷ linesOf s) (prepend c (linesOf s))) ≡ c ∷ s
     go later (yes e) = rw (eq-eqb c LF e, later, e)
     go later (no n) = rw (ne-eqb c LF n, joined-prepend c (linesOf s), later)
 

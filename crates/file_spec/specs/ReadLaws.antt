@@ -19,8 +19,10 @@ use Rattle.table.specs.RefusalLaws.{passed-test}
 use Rattle.table.specs.Table.{maxLinks, levelOutside}
 use Rattle.file_frames.specs.Frame.{wordAt}
 use Rattle.file_frames.specs.Kinds.{UNITS, frameBytes, kindFront, fileFront}
-use Rattle.file_spec.specs.File.{Line, linesOf, faultyLine, inOrder, linkFrames, statedCount, unitsIn, endsIn, levelsIn, readRefusal, readReply, readWords, readLevels}
-use Rattle.file_spec.specs.LineLaws.{none-lines, front-says, front-lines, front-kind, front-word, sound-front, frontLine, pastLine}
+use Rattle.file_spec.specs.File.{Line, linesOf, faultyLine, inOrder, linkFrames, statedCount, unitsIn, endsIn}
+use Rattle.file_spec.specs.File.{levelsIn, readRefusal, readReply, readWords, readLevels}
+use Rattle.file_spec.specs.LineLaws.{none-lines, front-says, front-lines, front-kind, front-word, sound-front}
+use Rattle.file_spec.specs.LineLaws.{frontLine, pastLine}
 use Rattle.file_spec.specs.LineSteps.{first-units, units-first, no-order, length-ends, length-levels}
 use Rattle.file_spec.specs.declared.Reading.{Reading}
 use Rattle.file_spec.specs.declared.Reading.the-variants.{Read}
@@ -66,7 +68,8 @@ module _ (ls : List Line) (places spaces : ℕ) where
     unfolding readRefusal
     refused-3 n = rw (p1, p2, ne-eqb (statedCount ls) (linkFrames ls) n)
 
-    pub counted : statedCount ls ≡ linkFrames ls → laterRefusal (linkFrames ls) (levelOutside (levelsIn ls)) places spaces ≡ readRefusal ls places spaces
+    pub counted : statedCount ls ≡ linkFrames ls →
+        laterRefusal (linkFrames ls) (levelOutside (levelsIn ls)) places spaces ≡ readRefusal ls places spaces
     unfolding readRefusal laterRefusal
     counted p3 = rw (p1, p2, eq-eqb (statedCount ls) (linkFrames ls) p3)
 
@@ -115,7 +118,8 @@ module _ (s : List ℕ) (sound : faultyLine (linesOf s) ≡ false) (order : inOr
 
   first : kindFront s ≡ UNITS
   first =
-      sym (front-kind s front) ∙ first-units (frontLine s) (linesOf (pastLine s)) (ap inOrder (sym (front-lines s front)) ∙ order) .0
+      sym (front-kind s front) ∙ first-units (frontLine s) (linesOf (pastLine s))
+      (ap inOrder (sym (front-lines s front)) ∙ order) .0
 
   size : frameBytes (kindFront s) ≡ 4
   size = ap frameBytes first
@@ -131,15 +135,18 @@ module _ (s : List ℕ) (sound : faultyLine (linesOf s) ≡ false) (order : inOr
 
 -- ---- the reply and the slices of a call
 
-pub read-refused : (s : List ℕ) (places spaces k : ℕ) → k ≡ readRefusal (linesOf s) places spaces → (k ≡ 0 → ⊥) → Reading.Refused k ≡ readReply s places spaces
+pub read-refused : (s : List ℕ) (places spaces k : ℕ) → k ≡ readRefusal (linesOf s) places spaces → (k ≡ 0 → ⊥) →
+    Reading.Refused k ≡ readReply s places spaces
 unfolding readReply
 read-refused s places spaces k e n = rw (← e, ne-eqb k 0 n)
 
-pub words-refused : (s words : List ℕ) (spaces k : ℕ) → k ≡ readRefusal (linesOf s) (length words) spaces → (k ≡ 0 → ⊥) → words ≡ readWords s words spaces
+pub words-refused : (s words : List ℕ) (spaces k : ℕ) → k ≡ readRefusal (linesOf s) (length words) spaces →
+    (k ≡ 0 → ⊥) → words ≡ readWords s words spaces
 unfolding readWords
 words-refused s words spaces k e n = rw (← e, ne-eqb k 0 n)
 
-pub levels-refused : (s : List ℕ) (places : ℕ) (levels : List ℤ) (k : ℕ) → k ≡ readRefusal (linesOf s) places (length levels) → (k ≡ 0 → ⊥)
+pub levels-refused : (s : List ℕ) (places : ℕ) (levels : List ℤ) (k : ℕ) →
+    k ≡ readRefusal (linesOf s) places (length levels) → (k ≡ 0 → ⊥)
     → levels ≡ readLevels s places levels
 unfolding readLevels
 levels-refused s places levels k e n = rw (← e, ne-eqb k 0 n)
@@ -167,11 +174,13 @@ levels-accepted s places levels e = rw e
 
 -- ---- what a reply says
 
-read-says : (b : Bool) (n m k u x : ℕ) → cond b (Read n m) (Reading.Refused k) ≡ Read u x → (b ≡ true) × (u ≡ n) × (x ≡ m)
+read-says : (b : Bool) (n m k u x : ℕ) → cond b (Read n m) (Reading.Refused k) ≡ Read u x →
+    (b ≡ true) × (u ≡ n) × (x ≡ m)
 read-says true n m k u x e = (refl, cc, cc)
 read-says false n m k u x e = absurd (let z : _≡_ {A = ℕ} 0 1 = cc in omega arith)
 
-unread-says : (b : Bool) (n m k x : ℕ) → cond b (Read n m) (Reading.Refused k) ≡ Reading.Refused x → (b ≡ false) × (x ≡ k)
+unread-says : (b : Bool) (n m k x : ℕ) → cond b (Read n m) (Reading.Refused k) ≡ Reading.Refused x →
+    (b ≡ false) × (x ≡ k)
 unread-says true n m k x e = absurd (let z : _≡_ {A = ℕ} 0 1 = cc in omega arith)
 unread-says false n m k x e = (refl, cc)
 
@@ -189,7 +198,8 @@ module _ (s : List ℕ) (places spaces : ℕ) where
   -- it was not
   module _ (u m : ℕ) (e : readReply s places spaces ≡ Read u m) where
     -- what the reply says
-    pub read-told : (readRefusal (linesOf s) places spaces ≡ 0) × (u ≡ unitsIn (linesOf s)) × (m ≡ linkFrames (linesOf s))
+    pub read-told : (readRefusal (linesOf s) places spaces ≡ 0) × (u ≡ unitsIn (linesOf s))
+        × (m ≡ linkFrames (linesOf s))
     unfolding readReply
     read-told =
         let r = readRefusal (linesOf s) places spaces in
@@ -200,19 +210,28 @@ module _ (s : List ℕ) (places spaces : ℕ) where
     ends-long = length-ends (linesOf s) ∙ ap (λ (x : ℕ). 2 * x) (sym (read-told .2))
 
     -- the first 2 m words are the ends, and the first m levels the levels
-    pub read-front : (words : List ℕ) → places ≡ length words → take (2 * m) (readWords s words spaces) ≡ endsIn (linesOf s)
+    pub read-front : (words : List ℕ) → places ≡ length words →
+        take (2 * m) (readWords s words spaces) ≡ endsIn (linesOf s)
     unfolding readWords
     read-front words c =
-        rw (← c, read-told .0) (take-at (endsIn (linesOf s)) (drop (length (endsIn (linesOf s))) words) (2 * m) ends-long)
+        rw (← c, read-told .0) (take-at (endsIn (linesOf s)) (drop (length (endsIn (linesOf s))) words)
+        (2 * m) ends-long)
 
-    pub read-front-levels : (levels : List ℤ) → spaces ≡ length levels → take m (readLevels s places levels) ≡ levelsIn (linesOf s)
+    pub read-front-levels : (levels : List ℤ) → spaces ≡ length levels →
+        take m (readLevels s places levels) ≡ levelsIn (linesOf s)
     unfolding readLevels
     read-front-levels levels c =
         rw (← c, read-told .0)
-        (take-at (levelsIn (linesOf s)) (drop (length (levelsIn (linesOf s))) levels) m (length-levels (linesOf s) ∙ sym (read-told .2)))
+        (take-at (levelsIn (linesOf s)) (drop (length (levelsIn (linesOf s))) levels) m (length-levels (linesOf s)
+        ∙ sym (read-told .2)))
 
     pub read-long : (words : List ℕ) → places ≡ length words → 2 * m ≤ length words
     read-long words c = omega (arith, accepted-sound (linesOf s) places spaces (read-told .0) .fits, read-told .2, c)
 
     pub read-long-levels : (levels : List ℤ) → spaces ≡ length levels → m ≤ length levels
-    read-long-levels levels c = omega (arith, accepted-sound (linesOf s) places spaces (read-told .0) .room, read-told .2, c)
+    read-long-levels levels c = omega (
+      arith,
+      accepted-sound (linesOf s) places spaces (read-told .0) .room,
+      read-told .2,
+      c,
+    )

@@ -4,7 +4,9 @@ use mathlib.Core.List.{List, [], _∷_}
 use Prim.Native.Nat.{ℕ}
 use native.Mathlib.Decide.{ℕ-discrete}
 use borrow.Author.Tests.{ne-eqb}
-use Rattle.file_spec.specs.File.{readingOf, readingNumber, readingValues, writingOf, writingNumber, writingValues, unless, linesOf, readRefusal, unitsIn, linkFrames, readReply, fileLength, writeRefusal, writeReply}
+use Rattle.file_spec.specs.File.{readingOf, readingNumber, readingValues, writingOf, writingNumber, writingValues}
+use Rattle.file_spec.specs.File.{unless, linesOf, readRefusal, unitsIn, linkFrames, readReply, fileLength}
+use Rattle.file_spec.specs.File.{writeRefusal, writeReply}
 use Rattle.file_spec.specs.RoundTrip.{copyRefusal, copyReply, rewriteRefusal, rewriteReply}
 use Rattle.table.specs.Table.{linkCount}
 use lib.IntN.{ℤ}
@@ -37,19 +39,23 @@ writing-tells k m = go (ℕ-discrete k 0)
 pub read-tells : (s : List ℕ) (places spaces : ℕ) (r : Reading) → r ≡ readReply s places spaces
     → ReadTells r (readRefusal (linesOf s) places spaces) (unitsIn (linesOf s) ∷ linkFrames (linesOf s) ∷ [])
 unfolding readReply
-read-tells s places spaces r e = rw e (reading-tells (readRefusal (linesOf s) places spaces) (unitsIn (linesOf s)) (linkFrames (linesOf s)))
+read-tells s places spaces r e = rw e (reading-tells (readRefusal (linesOf s) places spaces) (unitsIn (linesOf s))
+    (linkFrames (linesOf s)))
 
 pub write-tells : (n : ℕ) (t : List ℕ) (ls : List ℤ) (places : ℕ) (r : Writing) → r ≡ writeReply n t ls places
     → WriteTells r (writeRefusal n t ls places) (fileLength (linkCount t) ∷ [])
 unfolding writeReply
 write-tells n t ls places r e = rw e (writing-tells (writeRefusal n t ls places) (fileLength (linkCount t)))
 
-pub copy-tells : (n : ℕ) (t : List ℕ) (ls : List ℤ) (chars places spaces : ℕ) (r : Reading) → r ≡ copyReply n t ls chars places spaces
+pub copy-tells : (n : ℕ) (t : List ℕ) (ls : List ℤ) (chars places spaces : ℕ) (r : Reading) →
+    r ≡ copyReply n t ls chars places spaces
     → ReadTells r (copyRefusal n t ls chars places spaces) (n ∷ linkCount t ∷ [])
 unfolding copyReply
-copy-tells n t ls chars places spaces r e = rw e (reading-tells (copyRefusal n t ls chars places spaces) n (linkCount t))
+copy-tells n t ls chars places spaces r e =
+    rw e (reading-tells (copyRefusal n t ls chars places spaces) n (linkCount t))
 
 pub rewrite-tells : (s : List ℕ) (places spaces chars : ℕ) (r : Writing) → r ≡ rewriteReply s places spaces chars
     → WriteTells r (rewriteRefusal s places spaces chars) (fileLength (linkFrames (linesOf s)) ∷ [])
 unfolding rewriteReply
-rewrite-tells s places spaces chars r e = rw e (writing-tells (rewriteRefusal s places spaces chars) (fileLength (linkFrames (linesOf s))))
+rewrite-tells s places spaces chars r e =
+    rw e (writing-tells (rewriteRefusal s places spaces chars) (fileLength (linkFrames (linesOf s))))

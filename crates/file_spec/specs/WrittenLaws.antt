@@ -16,12 +16,16 @@ use Rattle.table_levels.specs.LevelLaws.{byte-below, byte-back}
 use Rattle.table.specs.Table.{linkCount, maxLinks, storedRefusal}
 use Rattle.table.specs.Passes.{Passes, passes, table-alone, table-levelled, table-range}
 use Rattle.file_frames.specs.Frame.{LF, wordBytes, hexesOf, checkByte, lineOf, bytesOf}
-use Rattle.file_frames.specs.FrameLaws.{Bytes, line-hexes, hexes-digits, bytes-hexes, length-hexes, check-below, check-sum}
+use Rattle.file_frames.specs.FrameLaws.{Bytes, line-hexes, hexes-digits, bytes-hexes, length-hexes, check-below}
+use Rattle.file_frames.specs.FrameLaws.{check-sum}
 use Rattle.file_frames.specs.Kinds.{UNITS, LINK, END, frameBytes, linkKind}
 use Rattle.file_frames.specs.Bodies.{unitsBody, linkBody, endBody}
-use Rattle.file_spec.specs.File.{Line, linesOf, kindOf, numberAt, whole, faultyLine, inOrderAfter, inOrder, linkFrames, statedCount, unitsIn, endsIn, levelOf, levelsIn, linkLines, fileOf, readRefusal}
+use Rattle.file_spec.specs.File.{Line, linesOf, kindOf, numberAt, whole, faultyLine, inOrderAfter, inOrder}
+use Rattle.file_spec.specs.File.{linkFrames, statedCount, unitsIn, endsIn, levelOf, levelsIn, linkLines, fileOf}
+use Rattle.file_spec.specs.File.{readRefusal}
 use Rattle.file_spec.specs.LineLaws.{lines-more, says-whole}
-use Rattle.file_spec.specs.LineSteps.{after-link, frames-link, ends-link, levels-link, frames-units, ends-units, levels-units, units-first}
+use Rattle.file_spec.specs.LineSteps.{after-link, frames-link, ends-link, levels-link, frames-units, ends-units}
+use Rattle.file_spec.specs.LineSteps.{levels-units, units-first}
 use Rattle.file_spec.specs.ReadLaws.{laterRefusal, counted}
 
 -- ---- the line of one frame
@@ -200,7 +204,8 @@ module _ (e : Line) (isEnd : kindOf e ≡ END) (isWhole : whole e ≡ true) wher
   tail-order [] ls = end-order
   tail-order (a ∷ []) ls = end-order
   tail-order (a ∷ b ∷ t) [] = end-order
-  tail-order (a ∷ b ∷ t) (z ∷ ls) = after-link (linkFrame a b z) (linkFramesOf t ls ++ e ∷ []) (link-kinds a b z) ∙ tail-order t ls
+  tail-order (a ∷ b ∷ t) (z ∷ ls) = after-link (linkFrame a b z) (linkFramesOf t ls ++ e ∷ []) (link-kinds a b z)
+      ∙ tail-order t ls
 
   tail-stated : (t : List ℕ) (ls : List ℤ) → statedCount (linkFramesOf t ls ++ e ∷ []) ≡ numberAt e 1
   unfolding linkFramesOf
@@ -209,15 +214,18 @@ module _ (e : Line) (isEnd : kindOf e ≡ END) (isWhole : whole e ≡ true) wher
   tail-stated (a ∷ b ∷ t) [] = end-stated
   tail-stated (a ∷ b ∷ t) (z ∷ ls) = stated-past (linkFrame a b z) e (linkFramesOf t ls) ∙ tail-stated t ls
 
-  tail-count : (t : List ℕ) (ls : List ℤ) → length ls ≡ linkCount t → linkFrames (linkFramesOf t ls ++ e ∷ []) ≡ linkCount t
+  tail-count : (t : List ℕ) (ls : List ℤ) → length ls ≡ linkCount t →
+      linkFrames (linkFramesOf t ls ++ e ∷ []) ≡ linkCount t
   unfolding linkFramesOf
   tail-count [] ls q = end-count
   tail-count (a ∷ []) ls q = end-count
   tail-count (a ∷ b ∷ t) [] q = absurd (omega (arith, q))
   tail-count (a ∷ b ∷ t) (z ∷ ls) q =
-      frames-link (linkFrame a b z) (linkFramesOf t ls ++ e ∷ []) (link-kinds a b z) ∙ omega (arith, tail-count t ls (omega (arith, q)))
+      frames-link (linkFrame a b z) (linkFramesOf t ls ++ e ∷ []) (link-kinds a b z)
+      ∙ omega (arith, tail-count t ls (omega (arith, q)))
 
-  tail-ends : (t : List ℕ) (ls : List ℤ) → length ls ≡ linkCount t → ((i : ℕ) → getD t i 0 < 65536) → length t ≡ 2 * linkCount t
+  tail-ends : (t : List ℕ) (ls : List ℤ) → length ls ≡ linkCount t → ((i : ℕ) → getD t i 0 < 65536) →
+      length t ≡ 2 * linkCount t
       → endsIn (linkFramesOf t ls ++ e ∷ []) ≡ t
   unfolding linkFramesOf
   tail-ends [] ls q h l = end-ends
@@ -225,9 +233,14 @@ module _ (e : Line) (isEnd : kindOf e ≡ END) (isWhole : whole e ≡ true) wher
   tail-ends (a ∷ b ∷ t) [] q h l = absurd (omega (arith, q))
   tail-ends (a ∷ b ∷ t) (z ∷ ls) q h l =
       ends-link (linkFrame a b z) (linkFramesOf t ls ++ e ∷ []) (link-kinds a b z)
-      ∙ rw (link-first a b z (h 0), link-second a b z (h 1), tail-ends t ls (omega (arith, q)) (λ (i : ℕ). h (suc (suc i))) (omega arith))
+      ∙ rw (
+        link-first a b z (h 0),
+        link-second a b z (h 1),
+        tail-ends t ls (omega (arith, q)) (λ (i : ℕ). h (suc (suc i))) (omega arith),
+      )
 
-  tail-levels : (t : List ℕ) (ls : List ℤ) → length ls ≡ linkCount t → every inRange ls ≡ true → levelsIn (linkFramesOf t ls ++ e ∷ []) ≡ ls
+  tail-levels : (t : List ℕ) (ls : List ℤ) → length ls ≡ linkCount t → every inRange ls ≡ true →
+      levelsIn (linkFramesOf t ls ++ e ∷ []) ≡ ls
   unfolding linkFramesOf
   tail-levels [] [] q r = end-levels
   tail-levels [] (z ∷ ls) q r = absurd (omega (arith, q))
@@ -236,7 +249,10 @@ module _ (e : Line) (isEnd : kindOf e ≡ END) (isWhole : whole e ≡ true) wher
   tail-levels (a ∷ b ∷ t) [] q r = absurd (omega (arith, q))
   tail-levels (a ∷ b ∷ t) (z ∷ ls) q r =
       levels-link (linkFrame a b z) (linkFramesOf t ls ++ e ∷ []) (link-kinds a b z)
-      ∙ rw (link-level a b z (and-left (inRange z) (every inRange ls) r), tail-levels t ls (omega (arith, q)) (and-right (inRange z) (every inRange ls) r))
+      ∙ rw (
+        link-level a b z (and-left (inRange z) (every inRange ls) r),
+        tail-levels t ls (omega (arith, q)) (and-right (inRange z) (every inRange ls) r),
+      )
 
 -- ---- the whole file
 
@@ -258,7 +274,8 @@ file-order u ls k h = rw k h
 
 -- what reading a written file finds
 pub record ReadBack (n : ℕ) (t : List ℕ) (ls : List ℤ) : Type 0 where
-  pub refusal : (places spaces : ℕ) → readRefusal (linesOf (fileOf n t ls)) places spaces ≡ cond (ltb places (length t) || ltb spaces (length ls)) 14 0
+  pub refusal : (places spaces : ℕ) → readRefusal (linesOf (fileOf n t ls)) places spaces
+      ≡ cond (ltb places (length t) || ltb spaces (length ls)) 14 0
   pub units : unitsIn (linesOf (fileOf n t ls)) ≡ n
   pub links : linkFrames (linesOf (fileOf n t ls)) ≡ linkCount t
   pub ends : endsIn (linesOf (fileOf n t ls)) ≡ t
@@ -282,7 +299,8 @@ written-read n t ls h =
     let endWhole = number-whole END m (omega arith) refl in
     let count : linkFrames (u ∷ rest) ≡ m = frames-units u rest k ∙ tail-count e end endWhole t ls one in
     let stated : statedCount (u ∷ rest) ≡ m =
-    stated-past u e (linkFramesOf t ls) ∙ tail-stated e end endWhole t ls ∙ number-number END m (omega arith) (omega arith) in
+    stated-past u e (linkFramesOf t ls) ∙ tail-stated e end endWhole t ls
+    ∙ number-number END m (omega arith) (omega arith) in
     let levels : levelsIn (u ∷ rest) ≡ ls = levels-units u rest k ∙ tail-levels e end endWhole t ls one ranged in
     let faults = file-faults u rest (number-whole UNITS n (omega arith) refl) (tail-faults e end endWhole t ls) in
     let order = file-order u rest k (tail-order e end endWhole t ls) in

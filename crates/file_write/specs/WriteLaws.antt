@@ -32,7 +32,8 @@ module _ (n : ℕ) (t : List ℕ) (ls : List ℤ) (places : ℕ) where
   unfolding writeRefusal freshRefusal
   write-table h = sym (first-some (freshTests n t ls) ((14, ltb places (fileLength (linkCount t))) ∷ []) h)
 
-  write-last : freshRefusal n t ls ≡ 0 → writeRefusal n t ls places ≡ firstOf ((14, ltb places (fileLength (linkCount t))) ∷ [])
+  write-last : freshRefusal n t ls ≡ 0 →
+      writeRefusal n t ls places ≡ firstOf ((14, ltb places (fileLength (linkCount t))) ∷ [])
   unfolding writeRefusal freshRefusal
   write-last e = first-none (freshTests n t ls) ((14, ltb places (fileLength (linkCount t))) ∷ []) (omega arith) e
 
@@ -61,11 +62,13 @@ length-linkLines [] ls e = refl
 length-linkLines (a ∷ []) ls e = refl
 length-linkLines (a ∷ b ∷ t) [] e = absurd (omega (arith, e))
 length-linkLines (a ∷ b ∷ t) (z ∷ ls) e =
-    length-append (linkLine a b z) (linkLines t ls) ∙ omega (arith, length-linkLine a b z, length-linkLines t ls (omega arith))
+    length-append (linkLine a b z) (linkLines t ls)
+    ∙ omega (arith, length-linkLine a b z, length-linkLines t ls (omega arith))
 
 -- one link more
 linkLines-more : (t : List ℕ) (ls : List ℤ) (j : ℕ) → length ls ≡ linkCount t → j < linkCount t
-    → linkLines (take (2 * (j + 1)) t) (take (j + 1) ls) ≡ linkLines (take (2 * j) t) (take j ls) ++ linkLine (endA t j) (endB t j) (getD ls j (pos 0))
+    → linkLines (take (2 * (j + 1)) t) (take (j + 1) ls)
+    ≡ linkLines (take (2 * j) t) (take j ls) ++ linkLine (endA t j) (endB t j) (getD ls j (pos 0))
 unfolding linkLines
 linkLines-more [] ls j e h = absurd (omega arith)
 linkLines-more (a ∷ []) ls j e h = absurd (omega arith)
@@ -77,10 +80,12 @@ linkLines-more (a ∷ b ∷ t) (z ∷ ls) (suc j) e h =
     let w : suc j + 1 ≡ suc (j + 1) = omega arith in
     rw (endA-later a b t j, endB-later a b t j, x, y, w)
     (ap (λ (l : List ℕ). linkLine a b z ++ l) (linkLines-more t ls j (omega (arith, e)) (omega arith))
-    ∙ sym (append-assoc (linkLine a b z) (linkLines (take (2 * j) t) (take j ls)) (linkLine (endA t j) (endB t j) (getD ls j (pos 0)))))
+    ∙ sym (append-assoc (linkLine a b z) (linkLines (take (2 * j) t) (take j ls))
+    (linkLine (endA t j) (endB t j) (getD ls j (pos 0)))))
 
 -- a last word without a second end has no line
-pub linkLines-all : (t : List ℕ) (ls : List ℤ) → length ls ≡ linkCount t → linkLines (take (2 * linkCount t) t) (take (linkCount t) ls) ≡ linkLines t ls
+pub linkLines-all : (t : List ℕ) (ls : List ℤ) → length ls ≡ linkCount t →
+    linkLines (take (2 * linkCount t) t) (take (linkCount t) ls) ≡ linkLines t ls
 unfolding linkLines
 linkLines-all [] ls e = refl
 linkLines-all (a ∷ []) ls e = refl
@@ -90,26 +95,31 @@ linkLines-all (a ∷ b ∷ t) (z ∷ ls) e =
     let y : linkCount (a ∷ b ∷ t) ≡ suc (linkCount t) = omega arith in
     rw (x, y) (ap (λ (l : List ℕ). linkLine a b z ++ l) (linkLines-all t ls (omega (arith, e))))
 
-length-lines : (t : List ℕ) (ls : List ℤ) (j : ℕ) → length ls ≡ linkCount t → j ≤ linkCount t → length (linkLines (take (2 * j) t) (take j ls)) ≡ 15 * j
+length-lines : (t : List ℕ) (ls : List ℤ) (j : ℕ) → length ls ≡ linkCount t → j ≤ linkCount t →
+    length (linkLines (take (2 * j) t) (take j ls)) ≡ 15 * j
 length-lines t ls j e h =
     let x : length (take (2 * j) t) ≡ 2 * j = length-take-le (2 * j) t (omega arith) in
     let y : length (take j ls) ≡ j = length-take-le j ls (omega arith) in
     omega (arith, length-linkLines (take (2 * j) t) (take j ls) (omega arith))
 
 -- the line of link j written to the rest of the slice
-pub lines-next : (t : List ℕ) (ls : List ℤ) (out : List ℕ) (j : ℕ) → length ls ≡ linkCount t → j < linkCount t → 15 * linkCount t ≤ length out
+pub lines-next : (t : List ℕ) (ls : List ℤ) (out : List ℕ) (j : ℕ) → length ls ≡ linkCount t → j < linkCount t →
+    15 * linkCount t ≤ length out
     → back (15 * j) (linkLines (take (2 * j) t) (take j ls) ++ drop (15 * j) out)
-    (lineOver (linkBody (endA t j) (endB t j) (levelByte (getD ls j (pos 0)))) (lent (15 * j) (linkLines (take (2 * j) t) (take j ls) ++ drop (15 * j) out)))
+    (lineOver (linkBody (endA t j) (endB t j) (levelByte (getD ls j (pos 0))))
+    (lent (15 * j) (linkLines (take (2 * j) t) (take j ls) ++ drop (15 * j) out)))
     ≡ linkLines (take (2 * (j + 1)) t) (take (j + 1) ls) ++ drop (15 * (j + 1)) out
 lines-next t ls out j e h fits =
     let x : 15 * (j + 1) ≡ 15 * j + 15 = omega arith in
     rw (linkLines-more t ls j e h, x)
-    (line-next (linkBody (endA t j) (endB t j) (levelByte (getD ls j (pos 0)))) (linkLines (take (2 * j) t) (take j ls)) out (15 * j)
+    (line-next (linkBody (endA t j) (endB t j) (levelByte (getD ls j (pos 0))))
+    (linkLines (take (2 * j) t) (take j ls)) out (15 * j)
     (length-lines t ls j e (omega arith)) (omega arith))
 
 -- ---- the whole file
 
-module _ (n : ℕ) (t : List ℕ) (ls : List ℤ) (out : List ℕ) (one : length ls ≡ linkCount t) (fits : fileLength (linkCount t) ≤ length out) where
+module _ (n : ℕ) (t : List ℕ) (ls : List ℤ) (out : List ℕ) (one : length ls ≡ linkCount t)
+    (fits : fileLength (linkCount t) ≤ length out) where
   -- the unit count
   laid-units : lineOver (unitsBody n) out ≡ lineOf (unitsBody n) ++ drop 9 out
   laid-units = lineOver-fits (unitsBody n) out (omega arith)
@@ -119,7 +129,8 @@ module _ (n : ℕ) (t : List ℕ) (ls : List ℤ) (out : List ℕ) (one : length
       (linkLines t ls ++ drop (15 * linkCount t) (lent 9 (lineOf (unitsBody n) ++ drop 9 out)))
       ≡ (lineOf (unitsBody n) ++ linkLines t ls) ++ drop (9 + 15 * linkCount t) out
   laid-links =
-      back-next (λ (r : List ℕ). linkLines t ls ++ drop (15 * linkCount t) r) (linkLines t ls) (lineOf (unitsBody n)) out 9 (15 * linkCount t)
+      back-next (λ (r : List ℕ). linkLines t ls ++ drop (15 * linkCount t) r) (linkLines t ls)
+      (lineOf (unitsBody n)) out 9 (15 * linkCount t)
       (length-line (unitsBody n)) refl
 
   -- then their number
@@ -136,24 +147,29 @@ module _ (n : ℕ) (t : List ℕ) (ls : List ℤ) (out : List ℕ) (one : length
       rw (← e) (line-next (endBody (linkCount t)) (u ++ linkLines t ls) out (9 + 15 * linkCount t) long (omega arith))
 
   pub file-laid : back (9 + 15 * linkCount t)
-      (back 9 (lineOver (unitsBody n) out) (linkLines t ls ++ drop (15 * linkCount t) (lent 9 (lineOver (unitsBody n) out))))
+      (back 9 (lineOver (unitsBody n) out)
+      (linkLines t ls ++ drop (15 * linkCount t) (lent 9 (lineOver (unitsBody n) out))))
       (lineOver (endBody (linkCount t))
       (lent (9 + 15 * linkCount t)
-      (back 9 (lineOver (unitsBody n) out) (linkLines t ls ++ drop (15 * linkCount t) (lent 9 (lineOver (unitsBody n) out))))))
+      (back 9 (lineOver (unitsBody n) out)
+      (linkLines t ls ++ drop (15 * linkCount t) (lent 9 (lineOver (unitsBody n) out))))))
       ≡ fileOf n t ls ++ drop (fileLength (linkCount t)) out
   file-laid = rw (laid-units, laid-links) laid-end
 
 -- ---- the reply and the bytes of a call
 
-pub write-refused : (n : ℕ) (t : List ℕ) (ls : List ℤ) (places k : ℕ) → k ≡ writeRefusal n t ls places → (k ≡ 0 → ⊥) → Writing.Refused k ≡ writeReply n t ls places
+pub write-refused : (n : ℕ) (t : List ℕ) (ls : List ℤ) (places k : ℕ) → k ≡ writeRefusal n t ls places → (k ≡ 0 → ⊥) →
+    Writing.Refused k ≡ writeReply n t ls places
 unfolding writeReply
 write-refused n t ls places k e z = rw (← e, ne-eqb k 0 z)
 
-pub bytes-refused : (n : ℕ) (t : List ℕ) (ls : List ℤ) (out : List ℕ) (k : ℕ) → k ≡ writeRefusal n t ls (length out) → (k ≡ 0 → ⊥) → out ≡ writtenFile n t ls out
+pub bytes-refused : (n : ℕ) (t : List ℕ) (ls : List ℤ) (out : List ℕ) (k : ℕ) → k ≡ writeRefusal n t ls (length out) →
+    (k ≡ 0 → ⊥) → out ≡ writtenFile n t ls out
 unfolding writtenFile
 bytes-refused n t ls out k e z = rw (← e, ne-eqb k 0 z)
 
-pub length-file : (n : ℕ) (t : List ℕ) (ls : List ℤ) → length ls ≡ linkCount t → length (fileOf n t ls) ≡ fileLength (linkCount t)
+pub length-file : (n : ℕ) (t : List ℕ) (ls : List ℤ) → length ls ≡ linkCount t →
+    length (fileOf n t ls) ≡ fileLength (linkCount t)
 unfolding fileOf
 length-file n t ls one =
     simp length-append

@@ -26,7 +26,8 @@ pub(crate) fn refusal(units: u16, words: &[u16], levels: &[i16], places: usize) 
 // The lines of all links, in order.
 fn link_lines(words: &[u16], levels: &[i16], out: &mut [u8])
     requires { ⌜ Levelled (now words) (now levels) × (15 * linkCount (now words) ≤ length (now out)) ⌝ }
-    ensures { λ _. ⌜ now (out .exit) ≡ linkLines (now (words .entry)) (now (levels .entry)) ++ drop (15 * linkCount (now (words .entry))) (now (out .entry)) ⌝ }
+    ensures { λ _. ⌜ now (out .exit) ≡ linkLines (now (words .entry)) (now (levels .entry))
+        ++ drop (15 * linkCount (now (words .entry))) (now (out .entry)) ⌝ }
 {
     let mut j = 0;
     while j < levels.len() {
@@ -43,7 +44,8 @@ fn link_lines(words: &[u16], levels: &[i16], out: &mut [u8])
 // The lines of the whole file.
 pub(crate) fn lines(units: u16, words: &[u16], levels: &[i16], out: &mut [u8])
     requires { ⌜ Levelled (now words) (now levels) × (fileLength (linkCount (now words)) ≤ length (now out)) ⌝ }
-    ensures { λ _. ⌜ now (out .exit) ≡ fileOf units (now (words .entry)) (now (levels .entry)) ++ drop (fileLength (linkCount (now (words .entry)))) (now (out .entry)) ⌝ }
+    ensures { λ _. ⌜ now (out .exit) ≡ fileOf units (now (words .entry)) (now (levels .entry))
+        ++ drop (fileLength (linkCount (now (words .entry)))) (now (out .entry)) ⌝ }
 {
     let links = words.len() / 2;
     let end = 9 + 15 * links;

@@ -1,4 +1,5 @@
--- The lines of document 01's case B just loaded: stage 1, countdown 30, no round, no request; and of the survey at its end.
+-- The lines of document 01's case B just loaded: stage 1, countdown 30, no round, no request; and of the survey at its
+-- end.
 use mathlib.Core.Path.{_≡_, refl}
 use Rattle.base_lists.specs.Text.{characters}
 use Rattle.file_frames.specs.Frame.{hexesOf, sumOf, checkByte, lineOf}

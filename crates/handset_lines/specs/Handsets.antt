@@ -1,5 +1,6 @@
--- What T-06 asks of the two handsets, for any state s and any slice `out`: 10 and 14 exactly for their causes, at every stage; the line at the front and bytes
--- past it untouched; equal foreman's lines where two surveys agree in unit count, stage and rounds made in it; and lines that say what status says.
+-- What T-06 asks of the two handsets, for any state s and any slice `out`: 10 and 14 exactly for their causes, at every
+-- stage; the line at the front and bytes past it untouched; equal foreman's lines where two surveys agree in unit
+-- count, stage and rounds made in it; and lines that say what status says.
 use mathlib.Core.Path.{_≡_}
 use mathlib.Core.Bool.{true}
 use mathlib.Core.Logic.{_↔_}
@@ -12,7 +13,8 @@ use Rattle.spec_machine.specs.State.{State, units}
 use Rattle.spec_machine.specs.Kept.{Kept}
 use Rattle.spec_machine.specs.Calls.{numberOf, valuesOf, statusAnswer}
 use Rattle.spec_machine.specs.CallCauses.{notKept, tooShort}
-use Rattle.handset_lines.specs.Lines.{FOREMAN-LINE, SERVICE-LINE, foremanLine, serviceLine, lineAnswer, lineShown, foremanAnswer, foremanShown}
+use Rattle.handset_lines.specs.Lines.{FOREMAN-LINE, SERVICE-LINE, foremanLine, serviceLine, lineAnswer, lineShown}
+use Rattle.handset_lines.specs.Lines.{foremanAnswer, foremanShown}
 
 abbrev pub lineReasons : ℕ → ℕ → State → List Reason
 lineReasons needed places s = notKept s ∷ tooShort places needed ∷ []

@@ -22,9 +22,12 @@ use Rattle.spec_state.specs.declared.reply.Reply.{Reply}
 use Rattle.spec_state.specs.declared.reply.Reply.the-variants.{Refused, Written}
 use Rattle.spec_machine.specs.Calls.{answered, valuesOf}
 use Rattle.spec_machine.specs.AnswerLaws.{status-made}
-use Rattle.handset_lines.specs.Lines.{statusOf, foremanBody, serviceBody, foremanLine, serviceLine, lineRefusal, lineAnswer, lineShown}
-use Rattle.handset_lines.specs.ReadBack.{bytes-none, bytes-more, bytes-word, line-front, line-byte, line-word, word-back}
-use Rattle.handset_lines.specs.Handsets.{Shows, Agree, SameForeman, Says, Handsets, lineReasons, number, foremanRead, serviceRead, told}
+use Rattle.handset_lines.specs.Lines.{statusOf, foremanBody, serviceBody, foremanLine, serviceLine, lineRefusal}
+use Rattle.handset_lines.specs.Lines.{lineAnswer, lineShown}
+use Rattle.handset_lines.specs.ReadBack.{bytes-none, bytes-more, bytes-word, line-front, line-byte, line-word}
+use Rattle.handset_lines.specs.ReadBack.{word-back}
+use Rattle.handset_lines.specs.Handsets.{Shows, Agree, SameForeman, Says, Handsets, lineReasons, number}
+use Rattle.handset_lines.specs.Handsets.{foremanRead, serviceRead, told}
 
 -- ---- a call that shows a line
 
@@ -79,7 +82,8 @@ module _ (s r : State) (a : Agree s r) where
   unfolding foremanLine
   same-line =
       ap (λ (n : ℕ). lineAt n (s .clock .stage) (s .clock .made)) (a .count)
-      ∙ (ap (λ (k : ℕ). lineAt (units r) k (s .clock .made)) (a .stage) ∙ ap (λ (m : ℕ). lineAt (units r) (r .clock .stage) m) (a .made))
+      ∙ (ap (λ (k : ℕ). lineAt (units r) k (s .clock .made)) (a .stage)
+      ∙ ap (λ (m : ℕ). lineAt (units r) (r .clock .stage) m) (a .made))
 
   same-refusal : Kept s → Kept r → (places : ℕ) → lineRefusal 11 places s ≡ lineRefusal 11 places r
   unfolding lineRefusal
@@ -154,14 +158,16 @@ module _ (s : State) (k : Kept s) where
   service-says =
       let f = serviceBody (statusOf s) in
       let two =
-      ap₂ (λ (x y : ℕ). x ∷ y ∷ []) (line-word f service-bytes 4 (omega arith) ∙ word-back (s .clock .rounds) (omega (arith, k .rounds)))
+      ap₂ (λ (x y : ℕ). x ∷ y ∷ []) (line-word f service-bytes 4 (omega arith)
+      ∙ word-back (s .clock .rounds) (omega (arith, k .rounds)))
       (line-word f service-bytes 6 (omega arith) ∙ word-back (s .clock .requests) (omega (arith, k .requests))) in
       record {
         whole = line-front f service-bytes;
         first = line-byte f service-bytes 0 (omega arith);
         holds =
             ap₂ (λ (x : ℕ) (l : List ℕ). x ∷ l) (line-byte f service-bytes 1 (omega arith) ∙ one-byte)
-            (ap₂ (λ (x : ℕ) (l : List ℕ). x ∷ l) (line-word f service-bytes 2 (omega arith) ∙ word-back (countdown s) counted) two)
+            (ap₂ (λ (x : ℕ) (l : List ℕ). x ∷ l) (line-word f service-bytes 2 (omega arith)
+            ∙ word-back (countdown s) counted) two)
             ∙ sym tells;
       }
 

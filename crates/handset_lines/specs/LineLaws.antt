@@ -14,19 +14,25 @@ use Rattle.spec_state.specs.declared.reply.Reply.the-variants.{Refused, Written
 use Rattle.spec_machine.specs.State.{State}
 use Rattle.spec_machine.specs.WellFormed.{wellFormed}
 use Rattle.spec_machine.specs.Calls.{Answer}
-use Rattle.handset_lines.specs.Lines.{statusOf, foremanLine, serviceLine, lineBody, lineIn, lineRefusal, roomRefusal, lineAnswer, lineShown}
+use Rattle.handset_lines.specs.Lines.{statusOf, foremanLine, serviceLine, lineBody, lineIn, lineRefusal}
+use Rattle.handset_lines.specs.Lines.{roomRefusal, lineAnswer, lineShown}
 
 -- ---- the line of a body over a slice
 
 module _ (needed : ℕ) (f out : List ℕ) where
-  pub line-short : length out < needed → (14 ≡ roomRefusal needed (length out)) × (out ≡ written (roomRefusal needed (length out)) (lineOf f) out)
+  pub line-short : length out < needed →
+      (14 ≡ roomRefusal needed (length out)) × (out ≡ written (roomRefusal needed (length out)) (lineOf f) out)
   unfolding roomRefusal
   line-short h = rw (lt-ltb (length out) needed h) (refl, refl)
 
   pub line-fits : lineLength f ≡ needed → needed ≤ length out
-      → (0 ≡ roomRefusal needed (length out)) × (lineOver f out ≡ written (roomRefusal needed (length out)) (lineOf f) out)
+      → (0 ≡ roomRefusal needed (length out))
+      × (lineOver f out ≡ written (roomRefusal needed (length out)) (lineOf f) out)
   unfolding roomRefusal
-  line-fits e h = rw (le-ltb (length out) needed h) (refl, lineOver-fits f out (omega (arith, e, h)) ∙ rw (length-line f) refl)
+  line-fits e h = rw (le-ltb (length out) needed h) (
+    refl,
+    lineOver-fits f out (omega (arith, e, h)) ∙ rw (length-line f) refl,
+  )
 
 -- the line in a state is that of its record
 pub line-in : (service : Bool) (s : State) → lineOf (lineBody service (statusOf s)) ≡ lineIn service s

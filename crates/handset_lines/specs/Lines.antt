@@ -1,5 +1,6 @@
--- The two handsets of T-06 read one status record: the foreman's line is a frame of kind 20, the service line one of kind 21. Here both lines, and what a call
--- that shows one replies and leaves in the lent slice, for every state and at every stage.
+-- The two handsets of T-06 read one status record: the foreman's line is a frame of kind 20, the service line one of
+-- kind 21. Here both lines, and what a call that shows one replies and leaves in the lent slice, for every state and at
+-- every stage.
 use mathlib.Core.Bool.{Bool, not, cond}
 use mathlib.Core.List.{List, [], _∷_, _++_}
 use Prim.Native.Nat.{ℕ, _%_}
@@ -16,7 +17,12 @@ use Rattle.handset_lines.specs.declared.Status.{Status}
 
 -- the status record of a state
 abbrev pub statusOf : State → Status
-statusOf s = record { stage = s .clock .stage; countdown = countdown s; rounds = s .clock .rounds; requests = s .clock .requests }
+statusOf s = record {
+  stage = s .clock .stage;
+  countdown = countdown s;
+  rounds = s .clock .rounds;
+  requests = s .clock .requests;
+}
 
 -- ---- the lines
 

@@ -6,8 +6,10 @@ use Prim.Native.Nat.{ℕ, zero, suc, _+_, _*_, _/_, _%_, _<_}
 use native.Mathlib.Omega.{arith}
 use lib.ListN.{length, getD, length-append, List·getD-append}
 use lib.Seq.{take-at, getD-at}
-use Rattle.file_frames.specs.Frame.{LF, wordBytes, wordOf, byteOf, byteAt, wordAt, hexesOf, checkByte, lineOf, bytesOf, lineFront}
-use Rattle.file_frames.specs.FrameLaws.{Bytes, length-hexes, bytes-hexes, hexes-digits, bytes-at, check-below, check-sum, line-hexes}
+use Rattle.file_frames.specs.Frame.{LF, wordBytes, wordOf, byteOf, byteAt, wordAt, hexesOf, checkByte, lineOf, bytesOf}
+use Rattle.file_frames.specs.Frame.{lineFront}
+use Rattle.file_frames.specs.FrameLaws.{Bytes, length-hexes, bytes-hexes, hexes-digits, bytes-at, check-below}
+use Rattle.file_frames.specs.FrameLaws.{check-sum, line-hexes}
 
 -- ---- lists of bytes
 
@@ -62,7 +64,8 @@ module _ (f : List ℕ) (all : Bytes f) where
       let first : 2 * i < length p = omega (arith, within) in
       let read : getD (bytesOf p) i 0 ≡ byteOf (getD p (2 * i) 0) (getD p (2 * i + 1) 0) = bytes-at p i within in
       rw (line-hexes f, List·getD-append p (LF ∷ []) 0 (2 * i) first, List·getD-append p (LF ∷ []) 0 (2 * i + 1) within)
-      (sym read ∙ (ap (λ (g : List ℕ). getD g i 0) (bytes-hexes frame frame-bytes) ∙ List·getD-append f (checkByte f ∷ []) 0 i h))
+      (sym read ∙ (ap (λ (g : List ℕ). getD g i 0) (bytes-hexes frame frame-bytes)
+      ∙ List·getD-append f (checkByte f ∷ []) 0 i h))
 
   -- and the number of two bytes in four
   pub line-word : (i : ℕ) → i + 1 < length f → wordAt (lineOf f) (2 * i) ≡ wordOf (getD f i 0) (getD f (i + 1) 0)

@@ -30,7 +30,9 @@ pub fn length(service: bool) -> u32
 // Either line at the front of `out`: 14. Bytes past it stay.
 pub fn write(service: bool, status: Status, out: &mut [u8]) -> u8
     ensures number { λ r. ⌜ r ≡ roomRefusal (lineNeeded service) (length (now (out .entry))) ⌝ }
-    ensures bytes { λ _. ⌜ now (out .exit) ≡ written (roomRefusal (lineNeeded service) (length (now (out .entry)))) (lineOf (lineBody service status)) (now (out .entry)) ⌝ }
+    ensures bytes { λ _. ⌜ now (out .exit)
+        ≡ written (roomRefusal (lineNeeded service) (length (now (out .entry)))) (lineOf (lineBody service status))
+        (now (out .entry)) ⌝ }
 {
     if service {
         return service::write(status, out);

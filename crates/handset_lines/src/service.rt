@@ -16,7 +16,9 @@ pub const LENGTH: usize = 19;
 // The line at the front of `out`: 14. Bytes past it stay.
 pub fn write(status: Status, out: &mut [u8]) -> u8
     ensures number { λ r. ⌜ r ≡ roomRefusal SERVICE-LINE (length (now (out .entry))) ⌝ }
-    ensures bytes { λ _. ⌜ now (out .exit) ≡ written (roomRefusal SERVICE-LINE (length (now (out .entry)))) (lineOf (serviceBody status)) (now (out .entry)) ⌝ }
+    ensures bytes { λ _. ⌜ now (out .exit)
+        ≡ written (roomRefusal SERVICE-LINE (length (now (out .entry)))) (lineOf (serviceBody status))
+        (now (out .entry)) ⌝ }
 {
     if out.len() < LENGTH {
         return 14;

@@ -24,7 +24,8 @@ pub fn leap(
     clock: Clock,
     made: u16,
 ) -> Landed
-    ensures { λ r. ⌜ (r .right ≡ true → Leapt units pairs (now (ends .entry)) most budget value clock made (r .value) (r .clock) (r .made)) ⌝ }
+    ensures { λ r. ⌜ (r .right ≡ true → Leapt units pairs (now (ends .entry)) most budget value clock made (r .value)
+        (r .clock) (r .made)) ⌝ }
 {
     let mut new = value;
     let found = leap_search::found(units, pairs, ends, &mut new);
@@ -60,7 +61,8 @@ fn covers(rounds: u32, budget: u16, most: u16, clock: Clock, made: u16) -> bool
     clock.made as u32 + rounds <= most as u32
 }
 
-// The rounds of the stage still to come: those that change something and the one that does not, which is not the first of a stage.
+// The rounds of the stage still to come: those that change something and the one that does not, which is not the first
+// of a stage.
 fn rounds_in(made: u16, rounds: u16) -> u32
     ensures are { λ r. ⌜ r ≡ roundsIn made rounds ⌝ }
     ensures few { λ r. ⌜ r ≤ 65536 ⌝ }

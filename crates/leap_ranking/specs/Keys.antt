@@ -1,5 +1,5 @@
--- What a walk finds of an object is one number, its key: the rank times 65,536 and the sum. The tests that code makes of these numbers, and that they say what
--- Found asks.
+-- What a walk finds of an object is one number, its key: the rank times 65,536 and the sum. The tests that code makes
+-- of these numbers, and that they say what Found asks.
 use mathlib.Core.Path.{_≡_, refl, sym, ap, _∙_}
 use mathlib.Core.Bool.{Bool, true, cond, _&&_}
 use mathlib.Core.Logic.{_⊎_, inl, inr}
@@ -51,21 +51,25 @@ module _ (k : ℕ) (jump sum key : List ℕ) (a : ℕ) (e : keyRight k jump sum 
   next-key : (at jump a ≡ ABSENT → ⊥) → (at jump a < k) × (at key a ≡ at key (at jump a) + (65536 + at sum a))
   unfolding keyRight
   next-key z =
-      let t : (ltb (at jump a) k && eqb (at key a) (at key (at jump a) + (65536 + at sum a))) ≡ true = rw (ne-eqb (at jump a) ABSENT z) at e in (
+      let t : (ltb (at jump a) k && eqb (at key a) (at key (at jump a) + (65536 + at sum a))) ≡ true =
+      rw (ne-eqb (at jump a) ABSENT z) at e in (
         ltb-true (at jump a) k (and-left (ltb (at jump a) k) _ t),
         eqb-true (at key a) (at key (at jump a) + (65536 + at sum a)) (and-right (ltb (at jump a) k) _ t),
       )
 
 -- what the tests say
-module _ (k : ℕ) (jump sum key ended : List ℕ) (few : k ≤ 512) (jumps : k ≤ length jump) (sums : k ≤ length sum) (all : ended ≡ over k (λ (a : ℕ). sumIn (at key a)) sum)
-    (own : every numberOk sum ≡ true) (whole : every numberOk ended ≡ true) (each : (a : ℕ) → a < k → keyRight k jump sum key a ≡ true) where
+module _ (k : ℕ) (jump sum key ended : List ℕ) (few : k ≤ 512) (jumps : k ≤ length jump) (sums : k ≤ length sum)
+    (all : ended ≡ over k (λ (a : ℕ). sumIn (at key a)) sum)
+    (own : every numberOk sum ≡ true) (whole : every numberOk ended ≡ true) (each : (a : ℕ) → a < k →
+    keyRight k jump sum key a ≡ true) where
   own-below : (a : ℕ) → a < k → at sum a ≤ MAX-NUMBER
   own-below a l = numbers-below sum a (omega (arith, l, sums)) own
 
   sum-below : (a : ℕ) → a < k → sumIn (at key a) ≤ MAX-NUMBER
   sum-below a l =
       let long : length ended ≡ length sum = rw all (length-over k (λ (a : ℕ). sumIn (at key a)) sum) in
-      let is : at ended a ≡ sumIn (at key a) = rw all (getD-over k (λ (a : ℕ). sumIn (at key a)) sum a 0 l (omega (arith, l, sums))) in
+      let is : at ended a ≡ sumIn (at key a) =
+      rw all (getD-over k (λ (a : ℕ). sumIn (at key a)) sum a 0 l (omega (arith, l, sums))) in
       omega (arith, is, numbers-below ended a (omega (arith, l, sums, long)) whole)
 
   ranked-keys : Ranked k jump sum (λ (a : ℕ). rankIn (at key a)) (λ (a : ℕ). sumIn (at key a))
@@ -87,13 +91,18 @@ module _ (k : ℕ) (jump sum key ended : List ℕ) (few : k ≤ 512) (jumps : k 
       go a l (no e) =
           let (below, is) = next-key k jump sum key a (each a l) e in
           let b = sum-below (at jump a) below in
-          inr (record { below = below; ranks = omega (arith, is, own-below a l, b); sums = omega (arith, is, own-below a l, b) })
+          inr (record {
+            below = below;
+            ranks = omega (arith, is, own-below a l, b);
+            sums = omega (arith, is, own-below a l, b);
+          })
 
   module _ (ranks : List ℕ) (ranked : ranks ≡ over k (λ (a : ℕ). rankIn (at key a)) sum) where
     rank-at : (a : ℕ) → a < k → digitsAt ranks a ≡ digits (rankIn (at key a))
     rank-at a l = ap digits (rw ranked (getD-over k (λ (a : ℕ). rankIn (at key a)) sum a 0 l (omega (arith, l, sums))))
 
-    found-keys : (requests rounds : ℕ) → requests ≡ Folds.sum k (digitsAt ranks) → rounds ≡ fold max k (digitsAt ranks) 0 → Found k jump sum ended requests rounds
+    found-keys : (requests rounds : ℕ) → requests ≡ Folds.sum k (digitsAt ranks) →
+        rounds ≡ fold max k (digitsAt ranks) 0 → Found k jump sum ended requests rounds
     unfolding digitsOf
     found-keys requests rounds asks is =
         let each-asks : ℕ → ℕ = λ (a : ℕ). digits (rankIn (at key a)) in
@@ -109,18 +118,23 @@ module _ (k : ℕ) (jump sum key ended : List ℕ) (few : k ≤ 512) (jumps : k 
         }
 
 -- all tests together
-pub found-by : (k : ℕ) (jump sum key ended ranks : List ℕ) (requests rounds : ℕ) (one two three both right : Bool) → k ≤ 512 → k ≤ length jump → k ≤ length sum
-    → ended ≡ over k (λ (a : ℕ). sumIn (at key a)) sum → ranks ≡ over k (λ (a : ℕ). rankIn (at key a)) sum → one ≡ every numberOk sum → two ≡ every numberOk ended
+pub found-by : (k : ℕ) (jump sum key ended ranks : List ℕ) (requests rounds : ℕ) (one two three both right : Bool) →
+    k ≤ 512 → k ≤ length jump → k ≤ length sum
+    → ended ≡ over k (λ (a : ℕ). sumIn (at key a)) sum → ranks ≡ over k (λ (a : ℕ). rankIn (at key a)) sum →
+    one ≡ every numberOk sum → two ≡ every numberOk ended
     → (three ≡ true → (a : ℕ) → a < k → keyRight k jump sum key a ≡ true)
     → requests ≡ Folds.sum k (digitsAt ranks) → rounds ≡ fold max k (digitsAt ranks) 0
     → both ≡ (one && two) → right ≡ (both && three) → right ≡ true → Found k jump sum ended requests rounds
-found-by k jump sum key ended ranks requests rounds one two three both right few jumps sums all ranked own whole each asks is b r e =
+found-by k jump sum key ended ranks requests rounds one two three both right few jumps sums all ranked own whole each
+    asks is b r e =
     let t : (both && three) ≡ true = sym r ∙ e in
     let u : (one && two) ≡ true = sym b ∙ and-left both three t in
-    found-keys k jump sum key ended few jumps sums all (sym own ∙ and-left one two u) (sym whole ∙ and-right one two u) (each (and-right both three t)) ranks ranked requests rounds asks is
+    found-keys k jump sum key ended few jumps sums all (sym own ∙ and-left one two u) (sym whole
+    ∙ and-right one two u) (each (and-right both three t)) ranks ranked requests rounds asks is
 
 -- ---- loops over objects
 
 -- a fold over one object more
-pub fold-more : (op : ℕ → ℕ → ℕ) (f : ℕ → ℕ) (k was new : ℕ) → was ≡ fold op k f 0 → new ≡ op was (f k) → new ≡ fold op (k + 1) f 0
+pub fold-more : (op : ℕ → ℕ → ℕ) (f : ℕ → ℕ) (k was new : ℕ) → was ≡ fold op k f 0 → new ≡ op was (f k) →
+    new ≡ fold op (k + 1) f 0
 fold-more op f k was new before put = rw (put, before, add-one k) refl

@@ -1,5 +1,5 @@
--- Objects ranked ahead: for each the objects that stand before it in its list, and the sum over these and itself, right over every object. A round leaves the
--- sums right and halves the ranks; where they come from does not matter.
+-- Objects ranked ahead: for each the objects that stand before it in its list, and the sum over these and itself, right
+-- over every object. A round leaves the sums right and halves the ranks; where they come from does not matter.
 use mathlib.Core.Path.{_≡_, refl, sym, ap, _∙_}
 use mathlib.Core.Bool.{true, false, cond}
 use mathlib.Core.Logic.{_⊎_, inl, inr}
@@ -20,7 +20,8 @@ use Rattle.base_log2.specs.Lg.{lg}
 use Rattle.base_log2.specs.LgLaws.{lg-reaches, lg-least, lg-small}
 use Rattle.spec_rules.specs.Basics.{ABSENT, MAX-NUMBER, at}
 use Rattle.spec_rules.specs.Ranking.{asks, jumpRound, sumRound, requestsOf, rankingEnds}
-use Rattle.spec_rules.specs.RankingLaws.{length-jumps, length-sums, silent, asking, jump-kept, jump-taken, sum-kept, sum-taken, sums-still}
+use Rattle.spec_rules.specs.RankingLaws.{length-jumps, length-sums, silent, asking, jump-kept, jump-taken, sum-kept}
+use Rattle.spec_rules.specs.RankingLaws.{sum-taken, sums-still}
 
 -- ---- digits
 
@@ -70,7 +71,8 @@ pub record Ranked (k : ℕ) (jump sum : List ℕ) (rank total : ℕ → ℕ) : T
 
 module _ (k : ℕ) (jump sum : List ℕ) (rank total : ℕ → ℕ) (s : Ranked k jump sum rank total) where
   -- the first of a list stays
-  first-stays : (a : ℕ) → a < k → First jump sum rank total a → First (jumpRound k jump) (sumRound k jump sum) (λ (a : ℕ). rank a / 2) total a
+  first-stays : (a : ℕ) → a < k → First jump sum rank total a →
+      First (jumpRound k jump) (sumRound k jump sum) (λ (a : ℕ). rank a / 2) total a
   first-stays a l f =
       record {
         none = jump-kept k jump a l (s .jumps) (f .none) ∙ f .none;
@@ -127,7 +129,8 @@ module _ (k : ℕ) (jump sum : List ℕ) (rank total : ℕ → ℕ) (s : Ranked 
   asks-once : (a : ℕ) → a < k → digits (rank a) ≡ cond (asks jump a) 1 0 + digits (rank a / 2)
   asks-once a l = go (s .each a l)
     where
-      go : First jump sum rank total a ⊎ Follows k jump sum rank total a → digits (rank a) ≡ cond (asks jump a) 1 0 + digits (rank a / 2)
+      go : First jump sum rank total a ⊎ Follows k jump sum rank total a →
+          digits (rank a) ≡ cond (asks jump a) 1 0 + digits (rank a / 2)
       go (inl f) =
           let half : rank a / 2 ≡ rank a = omega (arith, f .ranks) in
           rw (silent jump a (f .none), half) (omega arith)
@@ -147,7 +150,8 @@ module _ (k : ℕ) (jump sum : List ℕ) (rank total : ℕ → ℕ) (s : Ranked 
   goes-on a l h = go (s .each a l)
     where
       go : First jump sum rank total a ⊎ Follows k jump sum rank total a → eqb (count k (asks jump)) 0 ≡ false
-      go (inl f) = let none : digits (rank a) ≡ 0 = ap digits (f .ranks) ∙ digits-none in absurd (omega (arith, none, h))
+      go (inl f) = let none : digits (rank a) ≡ 0 =
+          ap digits (f .ranks) ∙ digits-none in absurd (omega (arith, none, h))
       go (inr f) =
           let some : at jump a < ABSENT = omega (arith, f .below, s .few) in
           let one : 1 ≤ count k (asks jump) = count-positive k (asks jump) a l (asking jump a some) in

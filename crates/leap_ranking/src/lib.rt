@@ -1,5 +1,5 @@
-// Rankings at once: all rounds of stage 4, or of stage 6. A walk along the lists of objects gives each its rank and its sum; tests over every object say whether
-// these are right. The walk is proved safe and no more.
+// Rankings at once: all rounds of stage 4, or of stage 6. A walk along the lists of objects gives each its rank and its
+// sum; tests over every object say whether these are right. The walk is proved safe and no more.
 use spec_state::Clock;
 use table::ABSENT;
 use table_values::bounds;
@@ -76,7 +76,8 @@ pub fn leap(units: u16, budget: u16, clock: Clock, jump: [u16; 512], sum: [u16; 
 // A round more than these is within the budget and the ceiling, from one of the ten stages.
 fn covers(units: u16, rounds: u16, budget: u16, clock: Clock) -> bool
     requires { ⌜ (units ≤ 256) × (rounds ≤ 16) ⌝ }
-    ensures { λ r. ⌜ (r ≡ true → (clock .stage ≤ 10) × (rounds + 1 ≤ budget) × (clock .made + (rounds + 1) ≤ rankingCeiling units)) ⌝ }
+    ensures { λ r. ⌜ (r ≡ true → (clock .stage ≤ 10) × (rounds + 1 ≤ budget)
+        × (clock .made + (rounds + 1) ≤ rankingCeiling units)) ⌝ }
 {
     if 10 < clock.stage {
         return false;

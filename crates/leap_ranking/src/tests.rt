@@ -93,7 +93,8 @@ pub(crate) fn keys_right<'a>(
     key: &'a [u32; 512],
 ) -> bool
     requires { ⌜ arcs ≤ 512 ⌝ }
-    ensures { λ r. ⌜ (r ≡ true → (a : ℕ) → a < arcs → keyRight arcs (now (jump .entry)) (now (sum .entry)) (now (key .entry)) a ≡ true) ⌝ }
+    ensures { λ r. ⌜ (r ≡ true → (a : ℕ) → a < arcs →
+        keyRight arcs (now (jump .entry)) (now (sum .entry)) (now (key .entry)) a ≡ true) ⌝ }
 {
     let mut a = 0;
     while a < arcs {

@@ -1,5 +1,6 @@
-// The walk: from the first object of each list along those that follow. What it finds of an object is one number, its key: the rank times 65,536 and the sum.
-// Nothing is proved of it but that it ends, and reads and stores within its tables.
+// The walk: from the first object of each list along those that follow. What it finds of an object is one number, its
+// key: the rank times 65,536 and the sum. Nothing is proved of it but that it ends, and reads and stores within its
+// tables.
 use table::ABSENT;
 ghost use Prim.Native.Nat.{_≤_, _<_};
 

@@ -15,9 +15,11 @@ pub chains-none : (first next : List ℕ) → ((u : ℕ) → getD first u 0 ≡ 
 chains-none first next none = (λ u. rw (none u) (omega arith), λ i h. absurd (omega arith))
 
 -- one place more
-pub chains-more : (k u : ℕ) (first next first′ next′ : List ℕ) → Chained k first next → k < length next → first′ ≡ set first u (k + 1)
+pub chains-more : (k u : ℕ) (first next first′ next′ : List ℕ) → Chained k first next → k < length next →
+    first′ ≡ set first u (k + 1)
     → next′ ≡ set next k (getD first u 0) → Chained (k + 1) first′ next′
-chains-more k u first next first′ next′ c room is is′ = (λ w. rw is (begins w (ℕ-discrete w u) (decLt u (length first))), λ i h. rw is′ (falls i h (ℕ-discrete i k)))
+chains-more k u first next first′ next′ c room is is′ =
+    (λ w. rw is (begins w (ℕ-discrete w u) (decLt u (length first))), λ i h. rw is′ (falls i h (ℕ-discrete i k)))
   where
     begins : (w : ℕ) → Dec (w ≡ u) → Dec (u < length first) → getD (set first u (k + 1)) w 0 ≤ k + 1
     begins w (yes e) (yes l) = rw (e, getD-set-same first u (k + 1) 0 l) (omega arith)
@@ -29,14 +31,17 @@ chains-more k u first next first′ next′ c room is is′ = (λ w. rw is (begi
     falls i h (no e) = rw (getD-set-other next k i (getD first u 0) 0 e) (c .1 i (omega arith))
 
 -- the two places of a pair
-pub chains-pair : (j a b : ℕ) (first next first′ next′ first″ next″ : List ℕ) → Chained (2 * j) first next → 2 * j + 2 ≤ length next
+pub chains-pair : (j a b : ℕ) (first next first′ next′ first″ next″ : List ℕ) → Chained (2 * j) first next →
+    2 * j + 2 ≤ length next
     → first′ ≡ set first b (2 * j + 1) → next′ ≡ set next (2 * j) (getD first b 0)
-    → first″ ≡ set first′ a (2 * j + 1 + 1) → next″ ≡ set next′ (2 * j + 1) (getD first′ a 0) → Chained (2 * (j + 1)) first″ next″
+    → first″ ≡ set first′ a (2 * j + 1 + 1) → next″ ≡ set next′ (2 * j + 1) (getD first′ a 0) →
+    Chained (2 * (j + 1)) first″ next″
 chains-pair j a b first next first′ next′ first″ next″ c room f n f′ n′ =
     let more : 2 * (j + 1) ≡ 2 * j + 1 + 1 = omega arith in
     let long : length next′ ≡ length next = rw n (length-set next (2 * j) (getD first b 0)) in
     rw more
-    (chains-more (2 * j + 1) a first′ next′ first″ next″ (chains-more (2 * j) b first next first′ next′ c (omega (arith, room)) f n) (omega (arith, room, long)) f′ n′)
+    (chains-more (2 * j + 1) a first′ next′ first″ next″
+    (chains-more (2 * j) b first next first′ next′ c (omega (arith, room)) f n) (omega (arith, room, long)) f′ n′)
 
 -- cleared memory
 pub zeros-at : (k u : ℕ) → _≡_ {A = ℕ} (getD (replicate k 0) u 0) 0

@@ -1,5 +1,5 @@
-// Rounds of the least value, found by a search: the values that units end with, over any table of pairs of units. The search is proved safe and no more;
-// tests say whether what it finds is right.
+// Rounds of the least value, found by a search: the values that units end with, over any table of pairs of units. The
+// search is proved safe and no more; tests say whether what it finds is right.
 use leap_tests::Arrived;
 ghost use mathlib.Core.Path.{_≡_};
 ghost use mathlib.Core.Bool.{true, false};
@@ -10,7 +10,8 @@ mod search;
 
 // Values that are not found right stay.
 pub fn found(units: u16, pairs: u16, ends: &[u16], value: &mut [u16; 256]) -> Arrived
-    ensures found { λ r. ⌜ (r .right ≡ true → Found units pairs (now (ends .entry)) (now (value .entry)) (now (value .exit)) (r .rounds)) ⌝ }
+    ensures found { λ r. ⌜ (r .right ≡ true →
+        Found units pairs (now (ends .entry)) (now (value .entry)) (now (value .exit)) (r .rounds)) ⌝ }
     ensures stays { λ r. ⌜ (r .right ≡ false → now (value .exit) ≡ now (value .entry)) ⌝ }
 {
     let most = table_values::least_of(units, 256);

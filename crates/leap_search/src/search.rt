@@ -1,5 +1,6 @@
-// The search: from each unit that none has reached, the least first, over chains of neighbours. What it finds of a unit is one number, the value that it ends
-// with times 65,536 and the rounds in which it gets there. Nothing is proved of it but that it ends, and reads and stores within its tables.
+// The search: from each unit that none has reached, the least first, over chains of neighbours. What it finds of a unit
+// is one number, the value that it ends with times 65,536 and the rounds in which it gets there. Nothing is proved of
+// it but that it ends, and reads and stores within its tables.
 ghost use Prim.Native.Nat.{_*_, _≤_, _<_};
 ghost use lib.ListN.{length};
 ghost use Rattle.leap_search.specs.Chains.{Chained};
@@ -64,7 +65,8 @@ fn reach<'a>(
     queue: &mut [u16; 256],
     had: u16,
 ) -> u16
-    requires { ⌜ (u < 256) × (had ≤ 256) × (2 * pairs ≤ length (now ends)) × (2 * pairs ≤ length (now next)) × Chained (2 * pairs) (now first) (now next) ⌝ }
+    requires { ⌜ (u < 256) × (had ≤ 256) × (2 * pairs ≤ length (now ends)) × (2 * pairs ≤ length (now next))
+        × Chained (2 * pairs) (now first) (now next) ⌝ }
     ensures { λ r. ⌜ r ≤ 256 ⌝ }
 {
     let from = key[u as usize];
@@ -97,7 +99,8 @@ fn follow<'a>(
     queue: &mut [u16; 256],
     had: u16,
 ) -> u16
-    requires { ⌜ (had ≤ 256) × (2 * pairs ≤ length (now ends)) × (2 * pairs ≤ length (now next)) × Chained (2 * pairs) (now first) (now next) ⌝ }
+    requires { ⌜ (had ≤ 256) × (2 * pairs ≤ length (now ends)) × (2 * pairs ≤ length (now next))
+        × Chained (2 * pairs) (now first) (now next) ⌝ }
     ensures { λ r. ⌜ r ≤ 256 ⌝ }
 {
     let mut end = had;
@@ -127,7 +130,8 @@ fn begin<'a>(
     queue: &mut [u16; 256],
     had: u16,
 ) -> u16
-    requires { ⌜ (v < 256) × (had ≤ 256) × (2 * pairs ≤ length (now ends)) × (2 * pairs ≤ length (now next)) × Chained (2 * pairs) (now first) (now next) ⌝ }
+    requires { ⌜ (v < 256) × (had ≤ 256) × (2 * pairs ≤ length (now ends)) × (2 * pairs ≤ length (now next))
+        × Chained (2 * pairs) (now first) (now next) ⌝ }
     ensures { λ r. ⌜ r ≤ 256 ⌝ }
 {
     let at = v as usize;
@@ -167,7 +171,8 @@ pub(crate) fn search<'a>(
     key: &mut [u32; 256],
     via: &mut [u16; 256],
 )
-    requires { ⌜ (units ≤ 256) × (2 * pairs ≤ length (now ends)) × (2 * pairs ≤ length (now next)) × Chained (2 * pairs) (now first) (now next) ⌝ }
+    requires { ⌜ (units ≤ 256) × (2 * pairs ≤ length (now ends)) × (2 * pairs ≤ length (now next))
+        × Chained (2 * pairs) (now first) (now next) ⌝ }
 {
     let mut queue = [0; 256];
     let mut end = 0;

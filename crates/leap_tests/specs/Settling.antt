@@ -1,5 +1,6 @@
--- Rounds of the least value, over any table of pairs of units: of each unit the value that it ends with and the rounds in which it gets there, right over
--- every pair and unit. A round leaves them right, each wait one less; where they come from does not matter.
+-- Rounds of the least value, over any table of pairs of units: of each unit the value that it ends with and the rounds
+-- in which it gets there, right over every pair and unit. A round leaves them right, each wait one less; where they
+-- come from does not matter.
 use mathlib.Core.Path.{_≡_, refl, sym, _∙_}
 use mathlib.Core.Bool.{false}
 use mathlib.Core.Logic.{inl, inr}
@@ -38,7 +39,8 @@ pub record Settling (n m : ℕ) (ends value : List ℕ) (last wait : ℕ → ℕ
   pub room : n ≤ length value
   pub within : (j : ℕ) → j < m → (endA ends j < n) × (endB ends j < n)
   pub same : (j : ℕ) → j < m → last (endA ends j) ≡ last (endB ends j)
-  pub near : (j : ℕ) → j < m → (wait (endA ends j) ≤ suc (wait (endB ends j))) × (wait (endB ends j) ≤ suc (wait (endA ends j)))
+  pub near : (j : ℕ) → j < m → (wait (endA ends j) ≤ suc (wait (endB ends j)))
+      × (wait (endB ends j) ≤ suc (wait (endA ends j)))
   pub there : (v : ℕ) → v < n → wait v ≡ 0 → at value v ≡ last v
   pub above : (v : ℕ) → v < n → 1 ≤ wait v → last v < at value v
   pub way : (v : ℕ) → v < n → 1 ≤ wait v → Sooner m ends wait v
@@ -46,7 +48,8 @@ pub record Settling (n m : ℕ) (ends value : List ℕ) (last wait : ℕ → ℕ
 -- ---- what v hears
 
 -- no less than a bound of its own value and its neighbours'
-heard-above : (m : ℕ) (ends value : List ℕ) (v z : ℕ) → z ≤ at value v → ((j w : ℕ) → j < m → Joins ends j v w → z ≤ at value w)
+heard-above : (m : ℕ) (ends value : List ℕ) (v z : ℕ) → z ≤ at value v →
+    ((j w : ℕ) → j < m → Joins ends j v w → z ≤ at value w)
     → z ≤ leastHeard m ends value v
 unfolding leastHeard
 heard-above m ends value v z own pairs =
@@ -55,7 +58,10 @@ heard-above m ends value v z own pairs =
   where
     go : (j : ℕ) → j < m → Dec (endA ends j ≡ v) → Dec (endB ends j ≡ v) → z ≤ heard value (endA ends j) (endB ends j) v
     go j l (yes d) e = rw (eq-eqb (endA ends j) v d) (pairs j (endB ends j) l (inl (d, refl)))
-    go j l (no d) (yes e) = rw (ne-eqb (endA ends j) v d, eq-eqb (endB ends j) v e) (pairs j (endA ends j) l (inr (refl, e)))
+    go j l (no d) (yes e) = rw (
+      ne-eqb (endA ends j) v d,
+      eq-eqb (endB ends j) v e,
+    ) (pairs j (endA ends j) l (inr (refl, e)))
     go j l (no d) (no e) = rw (ne-eqb (endA ends j) v d, ne-eqb (endB ends j) v e) own
 
 pub heard-own : (m : ℕ) (ends value : List ℕ) (v : ℕ) → leastHeard m ends value v ≤ at value v
@@ -63,11 +69,14 @@ unfolding leastHeard
 heard-own m ends value v = least-start m (λ (j : ℕ). heard value (endA ends j) (endB ends j) v) (at value v)
 
 -- no more than a neighbour's value
-heard-joined : (m : ℕ) (ends value : List ℕ) (j v w : ℕ) → j < m → Joins ends j v w → leastHeard m ends value v ≤ at value w
+heard-joined : (m : ℕ) (ends value : List ℕ) (j v w : ℕ) → j < m → Joins ends j v w →
+    leastHeard m ends value v ≤ at value w
 unfolding leastHeard
-heard-joined m ends value j v w l q = go q (ℕ-discrete (endA ends j) v) (least-le m (λ (k : ℕ). heard value (endA ends k) (endB ends k) v) (at value v) j l)
+heard-joined m ends value j v w l q = go q (ℕ-discrete (endA ends j) v)
+    (least-le m (λ (k : ℕ). heard value (endA ends k) (endB ends k) v) (at value v) j l)
   where
-    go : Joins ends j v w → Dec (endA ends j ≡ v) → leastHeard m ends value v ≤ heard value (endA ends j) (endB ends j) v
+    go : Joins ends j v w → Dec (endA ends j ≡ v) →
+        leastHeard m ends value v ≤ heard value (endA ends j) (endB ends j) v
         → leastHeard m ends value v ≤ at value w
     go (inl (a, b)) (yes d) h = rw (eq-eqb (endA ends j) v d, b) at h
     go (inl (a, b)) (no d) h = absurd (d a)
@@ -107,7 +116,11 @@ module _ (n m : ℕ) (ends value : List ℕ) (last wait : ℕ → ℕ) (s : Sett
       new-at v h
       ∙ le-antisymm (go (ℕ-discrete (wait v) 0))
       (heard-above m ends value v (last v) (at-least v h)
-      (λ j w k q. let e : last v ≡ last w = same-joined j v w k q in omega (arith, e, at-least w (below-joined j v w k q))))
+      (λ j w k q. let e : last v ≡ last w = same-joined j v w k q in omega (
+        arith,
+        e,
+        at-least w (below-joined j v w k q),
+      )))
     where
       go : Dec (wait v ≡ 0) → leastHeard m ends value v ≤ last v
       go (yes e) = omega (arith, heard-own m ends value v, s .there v h e)
@@ -115,7 +128,12 @@ module _ (n m : ℕ) (ends value : List ℕ) (last wait : ℕ → ℕ) (s : Sett
           let w : Sooner m ends wait v = s .way v h (omega arith) in
           let b : w .from < n = below-joined (w .pair) v (w .from) (w .below) (w .joins) in
           let z : wait (w .from) ≡ 0 = omega (arith, w .sooner) in
-          omega (arith, heard-joined m ends value (w .pair) v (w .from) (w .below) (w .joins), s .there (w .from) b z, same-joined (w .pair) v (w .from) (w .below) (w .joins))
+          omega (
+            arith,
+            heard-joined m ends value (w .pair) v (w .from) (w .below) (w .joins),
+            s .there (w .from) b z,
+            same-joined (w .pair) v (w .from) (w .below) (w .joins),
+          )
 
   -- who has more is not
   waits : (v : ℕ) → v < n → 2 ≤ wait v → last v < at (spread n m ends value) v
@@ -128,7 +146,13 @@ module _ (n m : ℕ) (ends value : List ℕ) (last wait : ℕ → ℕ) (s : Sett
       omega (arith, low, new-at v h)
 
   sooner-less : (v : ℕ) → 1 ≤ wait v - 1 → Sooner m ends wait v → Sooner m ends (λ (u : ℕ). wait u - 1) v
-  sooner-less v h w = record { pair = w .pair; below = w .below; from = w .from; joins = w .joins; sooner = omega (arith, w .sooner) }
+  sooner-less v h w = record {
+    pair = w .pair;
+    below = w .below;
+    from = w .from;
+    joins = w .joins;
+    sooner = omega (arith, w .sooner);
+  }
 
   -- after a round each wait is one less
   pub settling-round : Settling n m ends (spread n m ends value) last (λ (v : ℕ). wait v - 1)
@@ -156,7 +180,8 @@ module _ (n m : ℕ) (ends value : List ℕ) (last wait : ℕ → ℕ) (s : Sett
       refuted (agree n value (spread n m ends value))
       (λ t.
       let unchanged : at value w ≡ at (spread n m ends value) w =
-      agree-at n value (spread n m ends value) 0 (s .room) (omega (arith, s .room, length-over n (leastHeard m ends value) value)) t w b in
+      agree-at n value (spread n m ends value) 0 (s .room)
+      (omega (arith, s .room, length-over n (leastHeard m ends value) value)) t w b in
       omega (arith, unchanged, arrives w b (omega (arith, e)), s .above w b (omega (arith, e))))
 
   -- where none does, a round changes nothing

@@ -1,5 +1,5 @@
-// Whether what a search found of the least value's rounds is right: of each unit one number, the value that it ends with times 65,536 and the rounds in which
-// it gets there. Tests over every pair and every unit.
+// Whether what a search found of the least value's rounds is right: of each unit one number, the value that it ends
+// with times 65,536 and the rounds in which it gets there. Tests over every pair and every unit.
 use table_values::bounds;
 ghost use mathlib.Core.Path.{_≡_};
 ghost use mathlib.Core.Bool.{true, false};
@@ -26,7 +26,8 @@ pub fn tested<'a>(
     via: &'a [u16; 256],
     value: &mut [u16; 256],
 ) -> Arrived
-    ensures found { λ r. ⌜ (r .right ≡ true → Found units pairs (now (ends .entry)) (now (value .entry)) (now (value .exit)) (r .rounds)) ⌝ }
+    ensures found { λ r. ⌜ (r .right ≡ true →
+        Found units pairs (now (ends .entry)) (now (value .entry)) (now (value .exit)) (r .rounds)) ⌝ }
     ensures stays { λ r. ⌜ (r .right ≡ false → now (value .exit) ≡ now (value .entry)) ⌝ }
 {
     if !fits(units, pairs, ends, value) {
@@ -54,7 +55,8 @@ pub fn tested<'a>(
 
 // The units are at most 256, each with a value, the pairs at most 1,280, all there and of units that exist.
 fn fits(units: u16, pairs: u16, ends: &[u16], value: &[u16]) -> bool
-    ensures { λ r. ⌜ (r ≡ true → (units ≤ 256) × (pairs ≤ 1280) × EndsWithin units pairs (now (ends .entry)) × (units ≤ length (now (value .entry)))) ⌝ }
+    ensures { λ r. ⌜ (r ≡ true → (units ≤ 256) × (pairs ≤ 1280) × EndsWithin units pairs (now (ends .entry))
+        × (units ≤ length (now (value .entry)))) ⌝ }
 {
     if 256 < units {
         return false;
@@ -97,7 +99,9 @@ fn greater(x: u32, y: u32) -> u32
 // The numbers of the units of every pair are at most one apart. Without a branch.
 fn pairs_right(pairs: u16, ends: &[u16], key: &[u32; 256]) -> bool
     requires { ⌜ EndsWithin 256 pairs (now ends) ⌝ }
-    ensures { λ r. ⌜ (r ≡ true → (j : ℕ) → j < pairs → Close (getD (now (key .entry)) (endA (now (ends .entry)) j) 0) (getD (now (key .entry)) (endB (now (ends .entry)) j) 0)) ⌝ }
+    ensures { λ r. ⌜ (r ≡ true → (j : ℕ) → j < pairs →
+        Close (getD (now (key .entry)) (endA (now (ends .entry)) j) 0)
+        (getD (now (key .entry)) (endB (now (ends .entry)) j) 0)) ⌝ }
 {
     let mut most = 0;
     let mut j = 0;
@@ -167,7 +171,8 @@ fn unit_right<'a>(
     v: u16,
 ) -> bool
     requires { ⌜ (v < 256) × (pairs ≤ 1280) × EndsWithin 256 pairs (now ends) ⌝ }
-    ensures { λ r. ⌜ r ≡ unitRight pairs (now (ends .entry)) (now (value .entry)) (now (key .entry)) (now (via .entry)) v ⌝ }
+    ensures { λ r. ⌜ r ≡ unitRight pairs (now (ends .entry)) (now (value .entry)) (now (key .entry))
+        (now (via .entry)) v ⌝ }
 {
     let at = v as usize;
     let here = value[at];
@@ -188,7 +193,8 @@ fn units_right<'a>(
     via: &'a [u16; 256],
 ) -> bool
     requires { ⌜ (units ≤ 256) × (pairs ≤ 1280) × EndsWithin 256 pairs (now ends) ⌝ }
-    ensures { λ r. ⌜ (r ≡ true → (v : ℕ) → v < units → unitRight pairs (now (ends .entry)) (now (value .entry)) (now (key .entry)) (now (via .entry)) v ≡ true) ⌝ }
+    ensures { λ r. ⌜ (r ≡ true → (v : ℕ) → v < units →
+        unitRight pairs (now (ends .entry)) (now (value .entry)) (now (key .entry)) (now (via .entry)) v ≡ true) ⌝ }
 {
     let mut right = true;
     let mut v = 0;
@@ -216,7 +222,8 @@ fn furthest(units: u16, key: &[u32; 256]) -> u16
 // Each unit with the value that it ends with.
 fn end(units: u16, key: &[u32; 256], value: &mut [u16; 256])
     requires { ⌜ units ≤ 256 ⌝ }
-    ensures { λ _. ⌜ now (value .exit) ≡ over units (λ (v : ℕ). lastIn (getD (now (key .entry)) v 0)) (now (value .entry)) ⌝ }
+    ensures { λ _. ⌜ now (value .exit) ≡ over units (λ (v : ℕ). lastIn (getD (now (key .entry)) v 0))
+        (now (value .entry)) ⌝ }
 {
     let mut v = 0;
     while v < units {

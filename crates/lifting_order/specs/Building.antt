@@ -1,4 +1,5 @@
--- Lifting orders, read from the last unit on, are what may be built up unit by unit; and building is never stuck before an order is whole.
+-- Lifting orders, read from the last unit on, are what may be built up unit by unit; and building is never stuck before
+-- an order is whole.
 use mathlib.Core.Path.{_≡_, refl, sym, ap, subst, _∙_}
 use mathlib.Core.Logic.{_⊎_, inl, inr}
 use mathlib.Core.List.{List, [], _∷_, _++_}
@@ -38,9 +39,11 @@ heads x y s t q = ap head q
 -- what stands after v in a list without repeats does not depend on how it is parted
 after-once : (a c b d : List ℕ) (v y : ℕ) → Distinct (a ++ v ∷ b) → a ++ v ∷ b ≡ c ++ v ∷ d → Mem y d → Mem y b
 after-once [] [] b d v y u e m = subst (λ (l : List ℕ). Mem y l) (sym (tails v v b d e)) m
-after-once [] (z ∷ c) b d v y u e m = absurd (u .0 (subst (λ (l : List ℕ). Mem v l) (sym (tails v z b (c ++ v ∷ d) e)) (mem-right v c (v ∷ d) (inl refl))))
+after-once [] (z ∷ c) b d v y u e m = absurd
+    (u .0 (subst (λ (l : List ℕ). Mem v l) (sym (tails v z b (c ++ v ∷ d) e)) (mem-right v c (v ∷ d) (inl refl))))
 after-once (x ∷ a) [] b d v y u e m =
-    absurd (u .0 (subst (λ (z : ℕ). Mem z (a ++ v ∷ b)) (sym (heads x v (a ++ v ∷ b) d e)) (mem-right v a (v ∷ b) (inl refl))))
+    absurd (u .0 (subst (λ (z : ℕ). Mem z (a ++ v ∷ b)) (sym (heads x v (a ++ v ∷ b) d e))
+    (mem-right v a (v ∷ b) (inl refl))))
 after-once (x ∷ a) (z ∷ c) b d v y u e m = after-once a c b d v y (u .1) (tails x z (a ++ v ∷ b) (c ++ v ∷ d) e) m
 
 -- the last unit of o that is not in s, with all after it in s; or all are
@@ -51,7 +54,8 @@ last-out : (s o : List ℕ) → ((v : ℕ) → Mem v o → Mem v s) ⊎ LastOut 
 last-out s [] = inl (λ v m. absurd m)
 last-out s (x ∷ o) = go (last-out s o) (mem? x s)
   where
-    go : ((v : ℕ) → Mem v o → Mem v s) ⊎ LastOut s o → Dec (Mem x s) → ((v : ℕ) → Mem v (x ∷ o) → Mem v s) ⊎ LastOut s (x ∷ o)
+    go : ((v : ℕ) → Mem v o → Mem v s) ⊎ LastOut s o → Dec (Mem x s) →
+        ((v : ℕ) → Mem v (x ∷ o) → Mem v s) ⊎ LastOut s (x ∷ o)
     go (inr (a, v, b, e, d, h)) k = inr (x ∷ a, v, b, ap (λ (l : List ℕ). x ∷ l) e, d, h)
     go (inl h) (no k) = inr ([], x, o, refl, k, h)
     go (inl h) (yes k) = inl all
@@ -60,8 +64,16 @@ last-out s (x ∷ o) = go (last-out s o) (mem? x s)
         all v (inl e) = rw e k
         all v (inr m) = h v m
 
-more-among : (E : ℕ → ℕ → Type 0) (x : ℕ) (s : List ℕ) (v w : ℕ) → Connected (Among s E) v w → Connected (Among (x ∷ s) E) v w
-more-among E x s v w (l, r) = (l, (walk-map (Among s E) (Among (x ∷ s) E) v l (λ a b q h. (h .0, inr (h .1), inr (h .2))) (r .0), r .1))
+more-among : (E : ℕ → ℕ → Type 0) (x : ℕ) (s : List ℕ) (v w : ℕ) → Connected (Among s E) v w →
+    Connected (Among (x ∷ s) E) v w
+more-among E x s v w (l, r) = (
+  l,
+  (
+    walk-map (Among s E) (Among (x ∷ s) E) v l
+        (λ a b q h. (h .0, inr (h .1), inr (h .2))) (r .0),
+    r .1,
+  ),
+)
 
 module _ (n : ℕ) (E P : ℕ → ℕ → Type 0) where
   -- ---- from the building to the order
@@ -93,12 +105,15 @@ module _ (n : ℕ) (E P : ℕ → ℕ → Type 0) where
   built-standing (x ∷ s) b v (inr m) = more-among E x s v 0 (built-standing s (b .1) v m)
   built-standing (x ∷ s) b v (inl e) = go (b .0 .held) (built-standing s (b .1))
     where
-      go : (x ≡ 0) ⊎ ((u : ℕ) × Mem u s × E x u) → ((w : ℕ) → Mem w s → Connected (Among s E) w 0) → Connected (Among (x ∷ s) E) v 0
+      go : (x ≡ 0) ⊎ ((u : ℕ) × Mem u s × E x u) → ((w : ℕ) → Mem w s → Connected (Among s E) w 0) →
+          Connected (Among (x ∷ s) E) v 0
       go (inl z) ih = ([], (tt, e ∙ z))
       go (inr (u, m, k)) ih =
-          rw e (connected-trans (Among (x ∷ s) E) x u 0 (connected-link (Among (x ∷ s) E) x u (k, inl refl, inr m)) (more-among E x s u 0 (ih u m)))
+          rw e (connected-trans (Among (x ∷ s) E) x u 0 (connected-link (Among (x ∷ s) E) x u (k, inl refl, inr m))
+          (more-among E x s u 0 (ih u m)))
 
-  pub built-lifts : (s : List ℕ) → 0 < n → ((x y : ℕ) → P x y → x < n) → Built n E P s → ((v : ℕ) → v < n → Mem v s) → Lifts n E P s
+  pub built-lifts : (s : List ℕ) → 0 < n → ((x y : ℕ) → P x y → x < n) → Built n E P s → ((v : ℕ) → v < n → Mem v s) →
+      Lifts n E P s
   built-lifts [] one names b full = absurd (full 0 one)
   built-lifts (v ∷ s) one names b full =
       record {
@@ -133,7 +148,8 @@ module _ (n : ℕ) (E P : ℕ → ℕ → Type 0) where
         first : (l : List ℕ) → Walk (Among (v ∷ b) E) v l → last v l ≡ 0 → (v ≡ 0) ⊎ ((u : ℕ) × Mem u b × E v u)
         first [] w q = inl q
         first (y ∷ l) w q =
-            go (w .0 .2) (λ e. first l (subst (λ (z : ℕ). Walk (Among (v ∷ b) E) z l) e (w .1)) (subst (λ (z : ℕ). last z l ≡ 0) e q))
+            go (w .0 .2) (λ e. first l (subst (λ (z : ℕ). Walk (Among (v ∷ b) E) z l) e (w .1))
+            (subst (λ (z : ℕ). last z l ≡ 0) e q))
           where
             go : Mem y (v ∷ b) → (y ≡ v → (v ≡ 0) ⊎ ((u : ℕ) × Mem u b × E v u)) → (v ≡ 0) ⊎ ((u : ℕ) × Mem u b × E v u)
             go (inl e) later = later e
@@ -151,7 +167,8 @@ module _ (n : ℕ) (E P : ℕ → ℕ → Type 0) where
     pub not-stuck : (s : List ℕ) → ((v : ℕ) → v < n → Mem v s) ⊎ ((v : ℕ) × MayStand n E P s v)
     not-stuck s = go (last-out s o)
       where
-        still : (b : List ℕ) (v : ℕ) → ((w : ℕ) → Mem w b → Mem w s) → (v ≡ 0) ⊎ ((u : ℕ) × Mem u b × E v u) → (v ≡ 0) ⊎ ((u : ℕ) × Mem u s × E v u)
+        still : (b : List ℕ) (v : ℕ) → ((w : ℕ) → Mem w b → Mem w s) → (v ≡ 0) ⊎ ((u : ℕ) × Mem u b × E v u) →
+            (v ≡ 0) ⊎ ((u : ℕ) × Mem u s × E v u)
         still b v h (inl e) = inl e
         still b v h (inr (u, m, k)) = inr (u, h u m, k)
 

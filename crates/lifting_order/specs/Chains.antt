@@ -1,4 +1,5 @@
--- The places of a table that hold v, from the last to the first, by a chain: each place names the one before it that holds the same.
+-- The places of a table that hold v, from the last to the first, by a chain: each place names the one before it that
+-- holds the same.
 use mathlib.Core.Path.{_≡_, refl, sym, ap, _∙_}
 use mathlib.Core.Bool.{Bool, true, false, cond}
 use mathlib.Core.Logic.{_⊎_, inl, inr, _≢_}
@@ -43,8 +44,10 @@ unfolding lastBefore
 last-holds t v zero i e = absurd (omega arith)
 last-holds t v (suc c) i e = go (either (eqb (getD t c 0) v)) (last-holds t v c i)
   where
-    go : (eqb (getD t c 0) v ≡ true) ⊎ (eqb (getD t c 0) v ≡ false) → (lastBefore t v c ≡ suc i → getD t i 0 ≡ v) → getD t i 0 ≡ v
-    go (inl q) later = let r : suc c ≡ suc i = rw q at e in let s : i ≡ c = omega arith in rw s (eqb-true (getD t c 0) v q)
+    go : (eqb (getD t c 0) v ≡ true) ⊎ (eqb (getD t c 0) v ≡ false) → (lastBefore t v c ≡ suc i → getD t i 0 ≡ v) →
+        getD t i 0 ≡ v
+    go (inl q) later = let r : suc c ≡ suc i = rw q at e in let s : i ≡ c =
+        omega arith in rw s (eqb-true (getD t c 0) v q)
     go (inr q) later = later (rw q at e)
 
 -- ---- the chains made
@@ -54,20 +57,26 @@ unfolding lastBefore
 chained-none t last next h = record { begins = h; goes = λ k l. absurd (omega arith) }
 
 -- one word more: its place goes on where the chain of what it holds began, which begins at it now
-pub chained-more : (t last next last′ next′ : List ℕ) (i : ℕ) → Words t → i < length t → length last ≡ 256 → length next ≡ 2048
-    → Chained t last next i → next′ ≡ set next i (getD last (getD t i 0) 0) → last′ ≡ set last (getD t i 0) (i + 1) → Chained t last′ next′ (i + 1)
+pub chained-more : (t last next last′ next′ : List ℕ) (i : ℕ) → Words t → i < length t → length last ≡ 256 →
+    length next ≡ 2048
+    → Chained t last next i → next′ ≡ set next i (getD last (getD t i 0) 0) → last′ ≡ set last (getD t i 0) (i + 1) →
+    Chained t last′ next′ (i + 1)
 unfolding lastBefore
-chained-more t last next last′ next′ i w l a b c en el = record { begins = λ v h. begin v h (ℕ-discrete v (getD t i 0)); goes = λ k h. go k h (ℕ-discrete k i) }
+chained-more t last next last′ next′ i w l a b c en el =
+    record { begins = λ v h. begin v h (ℕ-discrete v (getD t i 0)); goes = λ k h. go k h (ℕ-discrete k i) }
   where
     begin : (v : ℕ) → v < 256 → Dec (v ≡ getD t i 0) → getD last′ v 0 ≡ lastBefore t v (i + 1)
     begin v h (yes e) =
         rw (el, add-one, eq-eqb (getD t i 0) v (sym e))
-        (ap (λ (z : ℕ). getD (set last (getD t i 0) (suc i)) z 0) e ∙ getD-set-same last (getD t i 0) (suc i) 0 (omega (arith, w .below i l)))
+        (ap (λ (z : ℕ). getD (set last (getD t i 0) (suc i)) z 0) e
+        ∙ getD-set-same last (getD t i 0) (suc i) 0 (omega (arith, w .below i l)))
     begin v h (no e) =
-        rw (el, add-one, ne-eqb (getD t i 0) v (λ q. e (sym q))) (getD-set-other last (getD t i 0) v (suc i) 0 e ∙ c .begins v h)
+        rw (el, add-one, ne-eqb (getD t i 0) v (λ q. e (sym q))) (getD-set-other last (getD t i 0) v (suc i) 0 e
+        ∙ c .begins v h)
 
     go : (k : ℕ) → k < i + 1 → Dec (k ≡ i) → getD next′ k 0 ≡ lastBefore t (getD t k 0) k
-    go k h (yes e) = rw (en, e) (getD-set-same next i _ 0 (omega (arith, w .few)) ∙ c .begins (getD t i 0) (w .below i l))
+    go k h (yes e) = rw (en, e) (getD-set-same next i _ 0 (omega (arith, w .few))
+        ∙ c .begins (getD t i 0) (w .below i l))
     go k h (no e) = rw en (getD-set-other next i k _ 0 e ∙ c .goes k (omega arith))
 
 -- ---- the chain of v walked
@@ -85,7 +94,8 @@ module _ (t : List ℕ) (v : ℕ) (act : ℕ → List ℕ → List ℕ) where
   through-skip (suc i) x = go (either (eqb (getD t i 0) v)) (through-skip i x)
     where
       go : (eqb (getD t i 0) v ≡ true) ⊎ (eqb (getD t i 0) v ≡ false) → through i x ≡ through (lastBefore t v i) x
-          → through i (cond (eqb (getD t i 0) v) (act i x) x) ≡ through (cond (eqb (getD t i 0) v) (suc i) (lastBefore t v i)) x
+          → through i (cond (eqb (getD t i 0) v) (act i x) x)
+          ≡ through (cond (eqb (getD t i 0) v) (suc i) (lastBefore t v i)) x
       go (inl e) later = sym (ap (λ (b : Bool). through (cond b (suc i) (lastBefore t v i)) x) e)
       go (inr e) later = rw e later
 
@@ -111,11 +121,13 @@ module _ (t : List ℕ) (v : ℕ) (act : ℕ → List ℕ → List ℕ) where
         }
 
     -- the place before c, and where the chain goes on
-    pub along-turn : (c d : ℕ) (x₀ x new : List ℕ) → c ≢ 0 → Along x₀ c x → new ≡ act (c - 1) x → d ≡ getD next (c - 1) 0 → Along x₀ d new
+    pub along-turn : (c d : ℕ) (x₀ x new : List ℕ) → c ≢ 0 → Along x₀ c x → new ≡ act (c - 1) x →
+        d ≡ getD next (c - 1) 0 → Along x₀ d new
     along-turn c d x₀ x new z a en ed =
         let e : c ≡ suc (c - 1) = omega arith in
         let here : getD t (c - 1) 0 ≡ v = a .holds (c - 1) e in
-        let q : d ≡ lastBefore t v (c - 1) = ed ∙ (h .goes (c - 1) (omega (arith, a .within)) ∙ ap (λ (y : ℕ). lastBefore t y (c - 1)) here) in
+        let q : d ≡ lastBefore t v (c - 1) =
+        ed ∙ (h .goes (c - 1) (omega (arith, a .within)) ∙ ap (λ (y : ℕ). lastBefore t y (c - 1)) here) in
         record {
           within = rw q (omega (arith, last-le t v (c - 1), a .within));
           holds = λ j r. last-holds t v (c - 1) j (sym q ∙ r);
@@ -123,7 +135,12 @@ module _ (t : List ℕ) (v : ℕ) (act : ℕ → List ℕ → List ℕ) where
         }
 
     pub along-less : (c d : ℕ) (x₀ x : List ℕ) → c ≢ 0 → Along x₀ c x → d ≡ getD next (c - 1) 0 → d < c
-    along-less c d x₀ x z a ed = omega (arith, a .within, h .goes (c - 1) (omega (arith, a .within)), last-le t (getD t (c - 1) 0) (c - 1))
+    along-less c d x₀ x z a ed = omega (
+      arith,
+      a .within,
+      h .goes (c - 1) (omega (arith, a .within)),
+      last-le t (getD t (c - 1) 0) (c - 1),
+    )
 
   pub along-end : (c : ℕ) (x₀ x : List ℕ) → c ≡ 0 → Along x₀ c x → x ≡ through (length t) x₀
   unfolding through

@@ -1,4 +1,5 @@
--- What a lifting order is, in the words of T-07, over any links E and any pairs P: P x y says "x before y". The first of the list is lifted first.
+-- What a lifting order is, in the words of T-07, over any links E and any pairs P: P x y says "x before y". The first
+-- of the list is lifted first.
 use mathlib.Core.Path.{_≡_}
 use mathlib.Core.Logic.{_⊎_, _↔_}
 use mathlib.Core.List.{List, [], _∷_, _++_}
@@ -14,7 +15,8 @@ Among s E u v = E u v × Mem u s × Mem v s
 abbrev pub Before : List ℕ → ℕ → ℕ → Type 0
 Before o x y = (a : List ℕ) × (b : List ℕ) × (o ≡ a ++ x ∷ b) × Mem y b
 
--- every one of n units once, unit 0 last; whatever part a is lifted, every unit of the rest is linked up with unit 0 through the rest; each pair is kept
+-- every one of n units once, unit 0 last; whatever part a is lifted, every unit of the rest is linked up with unit 0
+-- through the rest; each pair is kept
 pub record Lifts (n : ℕ) (E P : ℕ → ℕ → Type 0) (o : List ℕ) : Type 0 where
   pub once : Distinct o
   pub all : (v : ℕ) → (v < n) ↔ Mem v o
@@ -22,7 +24,8 @@ pub record Lifts (n : ℕ) (E P : ℕ → ℕ → Type 0) (o : List ℕ) : Type 
   pub standing : (a s : List ℕ) → o ≡ a ++ s → (v : ℕ) → Mem v s → Connected (Among s E) v 0
   pub kept : (x y : ℕ) → P x y → Before o x y
 
--- v may stand next, where the units of s stand: it is unit 0 or linked to one of them, and whatever is lifted after it stands already
+-- v may stand next, where the units of s stand: it is unit 0 or linked to one of them, and whatever is lifted after it
+-- stands already
 pub record MayStand (n : ℕ) (E P : ℕ → ℕ → Type 0) (s : List ℕ) (v : ℕ) : Type 0 where
   pub unit : v < n
   pub down : Mem v s → ⊥

@@ -1,4 +1,5 @@
--- What is done where a unit comes to stand: the units linked to it are marked, and those that a pair has wait for it wait for one less.
+-- What is done where a unit comes to stand: the units linked to it are marked, and those that a pair has wait for it
+-- wait for one less.
 use mathlib.Core.Path.{_≡_, refl, sym, ap, _∙_}
 use mathlib.Core.Bool.{Bool, true, false, cond, _&&_, _||_}
 use mathlib.Core.List.{List}
@@ -59,12 +60,14 @@ module _ (t : List ℕ) (v : ℕ) (f : ℕ → ℕ → ℕ) where
   abbrev at-both : ℕ → List ℕ → List ℕ
   at-both j x = at-place (2 * j) (at-place (2 * j + 1) x)
 
-  through-two : (j : ℕ) (x : List ℕ) → through t v (acts t f) (2 * suc j) x ≡ through t v (acts t f) (2 * j) (at-both j x)
+  through-two : (j : ℕ) (x : List ℕ) → through t v (acts t f) (2 * suc j) x
+      ≡ through t v (acts t f) (2 * j) (at-both j x)
   unfolding through
   through-two j x =
       let e : 2 * suc j ≡ suc (suc (2 * j)) = omega arith in
       let g : 2 * j + 1 ≡ suc (2 * j) = omega arith in
-      ap (λ (k : ℕ). through t v (acts t f) k x) e ∙ ap (λ (k : ℕ). through t v (acts t f) (2 * j) (at-place (2 * j) (at-place k x))) (sym g)
+      ap (λ (k : ℕ). through t v (acts t f) k x) e
+      ∙ ap (λ (k : ℕ). through t v (acts t f) (2 * j) (at-place (2 * j) (at-place k x))) (sym g)
 
   place-length : (i : ℕ) (x : List ℕ) → length (at-place i x) ≡ length x
   place-length i x = go (eqb (getD t i 0) v)
@@ -89,7 +92,8 @@ module _ (t : List ℕ) (v : ℕ) (f : ℕ → ℕ → ℕ) where
       u : ℕ
       u = getD t (otherOf i) 0
 
-      same : Dec (u ≡ w) → cond (eqb u w) (f i (getD x u 0)) (getD x w 0) ≡ cond (eqb u w) (f i (getD x w 0)) (getD x w 0)
+      same : Dec (u ≡ w) → cond (eqb u w) (f i (getD x u 0)) (getD x w 0)
+          ≡ cond (eqb u w) (f i (getD x w 0)) (getD x w 0)
       same (yes q) = rw q refl
       same (no q) = rw (ne-eqb u w q) refl
 
@@ -100,22 +104,26 @@ module _ (t : List ℕ) (v : ℕ) (f : ℕ → ℕ → ℕ) where
   -- and after link or pair j
   both-at : (j w : ℕ) (x : List ℕ) → w < length x
       → getD (at-both j x) w 0
-      ≡ cond (eqb (endA t j) v && eqb (endB t j) w) (f (2 * j) (cond (eqb (endB t j) v && eqb (endA t j) w) (f (2 * j + 1) (getD x w 0)) (getD x w 0)))
+      ≡ cond (eqb (endA t j) v && eqb (endB t j) w)
+      (f (2 * j) (cond (eqb (endB t j) v && eqb (endA t j) w) (f (2 * j + 1) (getD x w 0)) (getD x w 0)))
       (cond (eqb (endB t j) v && eqb (endA t j) w) (f (2 * j + 1) (getD x w 0)) (getD x w 0))
   both-at j w x l =
       let one = place-at (2 * j + 1) (2 * j) w x l (odd-other j) in
-      let two = place-at (2 * j) (2 * j + 1) w (at-place (2 * j + 1) x) (omega (arith, place-length (2 * j + 1) x)) (even-other j) in
+      let two = place-at (2 * j) (2 * j + 1) w (at-place (2 * j + 1) x) (omega (arith, place-length (2 * j + 1) x))
+      (even-other j) in
       rw one at two
 
 -- ---- the store of a walk
 
-pub walk-store : (mark : Bool) (t x new : List ℕ) (i o w y z u : ℕ) → o ≡ otherOf i → w ≡ getD t o 0 → y ≡ getD x w 0 → z ≡ y - i % 2
+pub walk-store : (mark : Bool) (t x new : List ℕ) (i o w y z u : ℕ) → o ≡ otherOf i → w ≡ getD t o 0 → y ≡ getD x w 0 →
+    z ≡ y - i % 2
     → u ≡ cond mark 1 z → new ≡ set x w u → new ≡ acts t (does mark) i x
 walk-store mark t x new i o w y z u eo ew ey ez eu en = rw (en, eu, ez, ey, ew, eo) refl
 
 -- ---- what the walks come to
 
-touch-two : (t : List ℕ) (v w j : ℕ) (x : List ℕ) → w < length x → getD (through t v (acts t (does true)) (2 * j) x) w 0 ≡ cond (some j (joins t v w)) 1 (getD x w 0)
+touch-two : (t : List ℕ) (v w j : ℕ) (x : List ℕ) → w < length x →
+    getD (through t v (acts t (does true)) (2 * j) x) w 0 ≡ cond (some j (joins t v w)) 1 (getD x w 0)
 unfolding through
 touch-two t v w zero x l = refl
 touch-two t v w (suc j) x l =
@@ -134,9 +142,11 @@ touch-two t v w (suc j) x l =
 pub touched-at : (t : List ℕ) (v w : ℕ) (x : List ℕ) → length t ≡ 2 * linkCount t → w < length x
     → getD (walked true t v x) w 0 ≡ cond (some (linkCount t) (joins t v w)) 1 (getD x w 0)
 unfolding walked
-touched-at t v w x e l = ap (λ (k : ℕ). getD (through t v (acts t (does true)) k x) w 0) e ∙ touch-two t v w (linkCount t) x l
+touched-at t v w x e l = ap (λ (k : ℕ). getD (through t v (acts t (does true)) k x) w 0) e
+    ∙ touch-two t v w (linkCount t) x l
 
-release-two : (p : List ℕ) (v w j : ℕ) (x : List ℕ) → w < length x → getD (through p v (acts p (does false)) (2 * j) x) w 0 ≡ getD x w 0 - count j (precedes p v w)
+release-two : (p : List ℕ) (v w j : ℕ) (x : List ℕ) → w < length x →
+    getD (through p v (acts p (does false)) (2 * j) x) w 0 ≡ getD x w 0 - count j (precedes p v w)
 unfolding through
 release-two p v w zero x l = omega arith
 release-two p v w (suc j) x l =
@@ -145,7 +155,8 @@ release-two p v w (suc j) x l =
     ∙ (ap (λ (y : ℕ). y - count j (precedes p v w)) (both-at p v (does false) j w x l)
     ∙ go (eqb (endB p j) v && eqb (endA p j) w) (eqb (endA p j) v && eqb (endB p j) w)))
   where
-    go : (b c : Bool) → cond c (cond b (getD x w 0 - (2 * j + 1) % 2) (getD x w 0) - 2 * j % 2) (cond b (getD x w 0 - (2 * j + 1) % 2) (getD x w 0)) - count j (precedes p v w)
+    go : (b c : Bool) → cond c (cond b (getD x w 0 - (2 * j + 1) % 2) (getD x w 0) - 2 * j % 2)
+        (cond b (getD x w 0 - (2 * j + 1) % 2) (getD x w 0)) - count j (precedes p v w)
         ≡ getD x w 0 - (count j (precedes p v w) + cond b 1 0)
     go true true = omega arith
     go true false = omega arith
@@ -156,7 +167,8 @@ release-two p v w (suc j) x l =
 pub released-at : (p : List ℕ) (v w : ℕ) (x : List ℕ) → length p ≡ 2 * linkCount p → w < length x
     → getD (walked false p v x) w 0 ≡ getD x w 0 - count (linkCount p) (precedes p v w)
 unfolding walked
-released-at p v w x e l = ap (λ (k : ℕ). getD (through p v (acts p (does false)) k x) w 0) e ∙ release-two p v w (linkCount p) x l
+released-at p v w x e l = ap (λ (k : ℕ). getD (through p v (acts p (does false)) k x) w 0) e
+    ∙ release-two p v w (linkCount p) x l
 
 pub walked-length : (mark : Bool) (t : List ℕ) (v : ℕ) (x : List ℕ) → length (walked mark t v x) ≡ length x
 unfolding walked

@@ -1,5 +1,6 @@
--- The lifting order of T-07 as it is made: from unit 0, each time the least-numbered unit that may stand next; the unit that stood last is lifted first.
--- t has the words of the links, p those of the crew's pairs "this before that", two a pair.
+-- The lifting order of T-07 as it is made: from unit 0, each time the least-numbered unit that may stand next; the unit
+-- that stood last is lifted first. t has the words of the links, p those of the crew's pairs "this before that", two a
+-- pair.
 use mathlib.Core.Path.{_≡_}
 use mathlib.Core.Bool.{Bool, cond, not, _&&_, _||_}
 use mathlib.Core.List.{List, [], _∷_}

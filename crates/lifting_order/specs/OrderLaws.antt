@@ -1,4 +1,5 @@
--- The tests of the lifting order decide what they say, and what is built from unit 0 comes to all units exactly where an order exists.
+-- The tests of the lifting order decide what they say, and what is built from unit 0 comes to all units exactly where
+-- an order exists.
 use mathlib.Core.Path.{_≡_, refl, sym, ap, _∙_}
 use mathlib.Core.Bool.{true, false, cond, not, _&&_}
 use mathlib.Core.Logic.{_⊎_, inl, inr, _≢_, _↔_}
@@ -83,7 +84,8 @@ may-exact n t p s v l = (
   λ q. all .1 (q .down, (q .held, q .free)),
 )
   where
-    all : (mayStand t p s v ≡ true) ↔ ((Mem v s → ⊥) × (((v ≡ 0) ⊎ ((u : ℕ) × Mem u s × Joins t v u)) × ((y : ℕ) → Pair p v y → Mem y s)))
+    all : (mayStand t p s v ≡ true) ↔ ((Mem v s → ⊥)
+        × (((v ≡ 0) ⊎ ((u : ℕ) × Mem u s × Joins t v u)) × ((y : ℕ) → Pair p v y → Mem y s)))
     all =
         and-exact (not (memb s v)) (held t s v && free p s v) (not-exact (memb s v) (stands-exact s v))
         (and-exact (held t s v) (free p s v) (held-exact t s v) (free-exact p s v))
@@ -97,7 +99,8 @@ whole (suc n) l h =
     let r = without n l (h n (omega arith)) in
     omega (arith, r .1, whole n (r .0) (λ v b. r .2 v (h v (omega arith)) (λ e. omega arith)))
   where
-    without : (x : ℕ) (l : List ℕ) → Mem x l → (k : List ℕ) × (length l ≡ suc (length k)) × ((v : ℕ) → Mem v l → v ≢ x → Mem v k)
+    without : (x : ℕ) (l : List ℕ) → Mem x l →
+        (k : List ℕ) × (length l ≡ suc (length k)) × ((v : ℕ) → Mem v l → v ≢ x → Mem v k)
     without x [] m = absurd m
     without x (y ∷ l) (inl e) = (l, refl, keep)
       where
@@ -124,7 +127,11 @@ full n s d units e v h = go (mem? v s)
 
 -- different units are at most n
 few : (n : ℕ) (s : List ℕ) → Distinct s → ((v : ℕ) → Mem v s → v < n) → length s ≤ n
-few n s d units = omega (arith, pigeonhole (λ i. true) n s d (λ z m. record { below = units z m; passes = refl }), count-le n (λ i. true))
+few n s d units = omega (
+  arith,
+  pigeonhole (λ i. true) n s d (λ z m. record { below = units z m; passes = refl }),
+  count-le n (λ i. true),
+)
 
 -- every unit once makes n
 pub as-many : (n : ℕ) (s : List ℕ) → Distinct s → ((v : ℕ) → (v < n) ↔ Mem v s) → length s ≡ n
@@ -139,7 +146,8 @@ module _ (n : ℕ) (t p : List ℕ) where
   next-may : (s : List ℕ) → next s < n → MayStand n (Joins t) (Pair p) s (next s)
   next-may s l = go (least-is n (λ v. cond (mayStand t p s v) v n) n)
     where
-      go : (next s ≡ n) ⊎ ((i : ℕ) × (i < n) × (next s ≡ cond (mayStand t p s i) i n)) → MayStand n (Joins t) (Pair p) s (next s)
+      go : (next s ≡ n) ⊎ ((i : ℕ) × (i < n) × (next s ≡ cond (mayStand t p s i) i n)) →
+          MayStand n (Joins t) (Pair p) s (next s)
       go (inl e) = absurd (omega arith)
       go (inr (i, h, e)) = by (either (mayStand t p s i))
         where
@@ -170,12 +178,18 @@ module _ (n : ℕ) (t p : List ℕ) where
           let g = later ((next-may s (ltb-true (next s) n b), next-least s), l) in
           rw b (record { each = g .each; stops = stop (g .stops) })
         where
-          stop : (length (next s ∷ s) + k ≤ length (grow n t p k (next s ∷ s))) ⊎ ((v : ℕ) → MayStand n (Joins t) (Pair p) (grow n t p k (next s ∷ s)) v → ⊥)
-              → (length s + suc k ≤ length (grow n t p k (next s ∷ s))) ⊎ ((v : ℕ) → MayStand n (Joins t) (Pair p) (grow n t p k (next s ∷ s)) v → ⊥)
+          stop : (length (next s ∷ s) + k ≤ length (grow n t p k (next s ∷ s)))
+              ⊎ ((v : ℕ) → MayStand n (Joins t) (Pair p) (grow n t p k (next s ∷ s)) v → ⊥)
+              → (length s + suc k ≤ length (grow n t p k (next s ∷ s)))
+              ⊎ ((v : ℕ) → MayStand n (Joins t) (Pair p) (grow n t p k (next s ∷ s)) v → ⊥)
           stop (inl e) = inl (omega arith)
           stop (inr h) = inr h
       go (inr b) later =
-          rw b (record { each = l; stops = inr (λ v m. omega (arith, ltb-false (next s) n b, next-least s v m, m .unit)) })
+          rw b (record {
+            each = l;
+            stops = inr
+                (λ v m. omega (arith, ltb-false (next s) n b, next-least s v m, m .unit));
+          })
 
   -- what is grown as far as it goes is whole exactly where an order exists
   module _ (r : List ℕ) (g : Grown n [] r) (one : 0 < n) (names : (x y : ℕ) → Pair p x y → x < n) where

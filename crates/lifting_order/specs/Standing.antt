@@ -1,4 +1,5 @@
--- What is kept of the units while they come to stand: whether each is within reach, how much it waits for, and the order so far. One unit more stands.
+-- What is kept of the units while they come to stand: whether each is within reach, how much it waits for, and the
+-- order so far. One unit more stands.
 use mathlib.Core.Path.{_≡_, refl, sym, ap, ap₂, _∙_}
 use mathlib.Core.Bool.{Bool, true, false, cond, not, _&&_, _||_, or-assoc}
 use mathlib.Core.Logic.{_⊎_, inl, inr, _≢_}
@@ -32,7 +33,8 @@ reaches-more t s v w j =
       one (eqb (endA t j) w) (eqb (endB t j) v) (memb s (endB t j)),
       one (eqb (endB t j) w) (eqb (endA t j) v) (memb s (endA t j)),
     )
-    (or-swap (eqb (endA t j) w && memb s (endB t j)) (eqb (endB t j) v && eqb (endA t j) w) (eqb (endB t j) w && memb s (endA t j)) (eqb (endA t j) v && eqb (endB t j) w))
+    (or-swap (eqb (endA t j) w && memb s (endB t j)) (eqb (endB t j) v && eqb (endA t j) w)
+    (eqb (endB t j) w && memb s (endA t j)) (eqb (endA t j) v && eqb (endB t j) w))
   where
     one : (a c x : Bool) → (a && (c || x)) ≡ ((a && x) || (c && a))
     one true true true = refl
@@ -55,18 +57,25 @@ waits p s w = count (linkCount p) (blocks p s w)
 free-waits : (p s : List ℕ) (w : ℕ) → free p s w ≡ eqb (waits p s w) 0
 free-waits p s w = go (either (some (linkCount p) (blocks p s w)))
   where
-    go : (some (linkCount p) (blocks p s w) ≡ true) ⊎ (some (linkCount p) (blocks p s w) ≡ false) → free p s w ≡ eqb (waits p s w) 0
+    go : (some (linkCount p) (blocks p s w) ≡ true) ⊎ (some (linkCount p) (blocks p s w) ≡ false) →
+        free p s w ≡ eqb (waits p s w) 0
     go (inl e) =
         let (k, h, q) = some-exact (linkCount p) (blocks p s w) .0 e in
         let c : 1 ≤ waits p s w = count-positive (linkCount p) (blocks p s w) k h q in
         rw (e, refuted (eqb (waits p s w) 0) (λ z. omega (arith, eqb-true (waits p s w) 0 z))) refl
-    go (inr e) = rw (e, eq-eqb (waits p s w) 0 (count-none (linkCount p) (blocks p s w) (some-none (linkCount p) (blocks p s w) e))) refl
+    go (inr e) = rw (
+      e,
+      eq-eqb (waits p s w) 0
+          (count-none (linkCount p) (blocks p s w) (some-none (linkCount p) (blocks p s w) e)),
+    ) refl
 
 -- the pairs "w before v" are in the way no longer
-waits-less : (p s : List ℕ) (v w : ℕ) → memb s v ≡ false → waits p (v ∷ s) w + count (linkCount p) (precedes p v w) ≡ waits p s w
+waits-less : (p s : List ℕ) (v w : ℕ) → memb s v ≡ false →
+    waits p (v ∷ s) w + count (linkCount p) (precedes p v w) ≡ waits p s w
 waits-less p s v w fresh = all (linkCount p)
   where
-    one : (a d x : Bool) → (d ≡ true → x ≡ false) → cond (a && not (d || x)) 1 0 + cond (d && a) 1 0 ≡ cond (a && not x) 1 0
+    one : (a d x : Bool) → (d ≡ true → x ≡ false) →
+        cond (a && not (d || x)) 1 0 + cond (d && a) 1 0 ≡ cond (a && not x) 1 0
     one true true x h = rw (h refl) refl
     one true false true h = refl
     one true false false h = refl
@@ -105,13 +114,15 @@ ready-may t p near wait s v h l =
     go false true d = refl
     go false false d = refl
 
-pub next-ready : (n : ℕ) (t p near wait s : List ℕ) → n ≤ 256 → Tables t p near wait s → nextUp n (ready near wait) ≡ nextUp n (mayStand t p s)
+pub next-ready : (n : ℕ) (t p near wait s : List ℕ) → n ≤ 256 → Tables t p near wait s →
+    nextUp n (ready near wait) ≡ nextUp n (mayStand t p s)
 next-ready n t p near wait s l h =
     fold-cong _ n (λ v. cond (ready near wait v) v n) (λ v. cond (mayStand t p s v) v n) n
     (λ v b. ap (λ (z : Bool). cond z v n) (ready-may t p near wait s v h (omega arith)))
 
 -- a turn of the loop that looks for it
-pub next-more : (n v : ℕ) (may : ℕ → Bool) (x new : ℕ) → x ≡ least v (λ u. cond (may u) u n) n → new ≡ min x (cond (may v) v n)
+pub next-more : (n v : ℕ) (may : ℕ → Bool) (x new : ℕ) → x ≡ least v (λ u. cond (may u) u n) n →
+    new ≡ min x (cond (may v) v n)
     → new ≡ least (v + 1) (λ u. cond (may u) u n) n
 next-more n v may x new was put = rw (put, was, add-one)
 
@@ -132,8 +143,10 @@ next-stands n may l = go (least-is n (λ v. cond (may v) v n) n)
         by (inr b) = let q : nextUp n may ≡ n = rw b at e in absurd (omega arith)
 
 -- v comes to stand
-tables-more : (t p near wait s near′ wait₁ wait₂ : List ℕ) (v : ℕ) → length t ≡ 2 * linkCount t → length p ≡ 2 * linkCount p → v < 256
-    → mayStand t p s v ≡ true → Tables t p near wait s → near′ ≡ walked true t v near → wait₁ ≡ walked false p v wait → wait₂ ≡ set wait₁ v 1
+tables-more : (t p near wait s near′ wait₁ wait₂ : List ℕ) (v : ℕ) → length t ≡ 2 * linkCount t →
+    length p ≡ 2 * linkCount p → v < 256
+    → mayStand t p s v ≡ true → Tables t p near wait s → near′ ≡ walked true t v near → wait₁ ≡ walked false p v wait →
+    wait₂ ≡ set wait₁ v 1
     → Tables t p near′ wait₂ (v ∷ s)
 tables-more t p near wait s near′ wait₁ wait₂ v et ep l may h en e1 e2 =
     record {
@@ -154,9 +167,11 @@ tables-more t p near wait s near′ wait₁ wait₂ v et ep l may h en e1 e2 =
         go false e = refl
 
     none : waits p s v ≡ 0
-    none = eqb-true (waits p s v) 0 (sym (free-waits p s v) ∙ and-right (held t s v) (free p s v) (and-right (not (memb s v)) (held t s v && free p s v) may))
+    none = eqb-true (waits p s v) 0 (sym (free-waits p s v)
+        ∙ and-right (held t s v) (free p s v) (and-right (not (memb s v)) (held t s v && free p s v) may))
 
-    near-at : (w : ℕ) → w < 256 → cond (some (linkCount t) (joins t v w)) 1 (getD near w 0) ≡ cond (held t (v ∷ s) w) 1 0
+    near-at : (w : ℕ) → w < 256 → cond (some (linkCount t) (joins t v w)) 1 (getD near w 0)
+        ≡ cond (held t (v ∷ s) w) 1 0
     near-at w b = rw (h .reach w b, held-more t s v w) (go (held t s w) (some (linkCount t) (joins t v w)))
       where
         go : (a c : Bool) → _≡_ {A = ℕ} (cond c 1 (cond a 1 0)) (cond (a || c) 1 0)
@@ -169,25 +184,32 @@ tables-more t p near wait s near′ wait₁ wait₂ v et ep l may h en e1 e2 =
         let z : waits p (v ∷ s) v ≡ 0 = omega (arith, waits-less p s v v fresh, none) in
         rw (e, eq-eqb v v refl, z) (getD-set-same wait₁ v 1 0 (omega (arith, long)))
     way-at w b (no e) =
-        let now : getD wait₁ w 0 ≡ getD wait w 0 - count (linkCount p) (precedes p v w) = rw e1 (released-at p v w wait ep (omega (arith, h .wait-long))) in
+        let now : getD wait₁ w 0 ≡ getD wait w 0 - count (linkCount p) (precedes p v w) =
+        rw e1 (released-at p v w wait ep (omega (arith, h .wait-long))) in
         let same : getD (set wait₁ v 1) w 0 ≡ getD wait₁ w 0 = getD-set-other wait₁ v w 1 0 e in
-        rw (ne-eqb w v e, same, now, h .way w b) (less (waits p s w) (waits p (v ∷ s) w) (count (linkCount p) (precedes p v w)) (cond (memb s w) 1 0) (waits-less p s v w fresh))
+        rw (ne-eqb w v e, same, now, h .way w b)
+        (less (waits p s w) (waits p (v ∷ s) w) (count (linkCount p) (precedes p v w)) (cond (memb s w) 1 0)
+        (waits-less p s v w fresh))
       where
         less : (x y c d : ℕ) → y + c ≡ x → x + d - c ≡ y + d
         less x y c d q = omega arith
 
 -- ---- the tables as they begin
 
-pub reached-at : (x : List ℕ) → length x ≡ 256 → ((w : ℕ) → w < 256 → getD x w 0 ≡ 0) → (w : ℕ) → w < 256 → getD (set x 0 1) w 0 ≡ cond (eqb w 0) 1 0
+pub reached-at : (x : List ℕ) → length x ≡ 256 → ((w : ℕ) → w < 256 → getD x w 0 ≡ 0) → (w : ℕ) → w < 256 →
+    getD (set x 0 1) w 0 ≡ cond (eqb w 0) 1 0
 reached-at x l h zero b = getD-set-same x 0 1 0 (omega arith)
-reached-at x l h (suc w) b = rw (ne-eqb (suc w) 0 (omega arith)) (getD-set-other x 0 (suc w) 1 0 (omega arith) ∙ h (suc w) b)
+reached-at x l h (suc w) b = rw (ne-eqb (suc w) 0 (omega arith)) (getD-set-other x 0 (suc w) 1 0 (omega arith)
+    ∙ h (suc w) b)
 
 -- one pair more
 pub waiting-more : (p wait new : List ℕ) (k : ℕ) → Words p → k < linkCount p → length wait ≡ 256
-    → ((w : ℕ) → w < 256 → getD wait w 0 ≡ count k (λ j. eqb (endA p j) w)) → new ≡ set wait (endA p k) (min (getD wait (endA p k) 0 + 1) 2048)
+    → ((w : ℕ) → w < 256 → getD wait w 0 ≡ count k (λ j. eqb (endA p j) w)) →
+    new ≡ set wait (endA p k) (min (getD wait (endA p k) 0 + 1) 2048)
     → (w : ℕ) → w < 256 → getD new w 0 ≡ count (k + 1) (λ j. eqb (endA p j) w)
 waiting-more p wait new k g l long h e w b =
-    rw (e, add-one k) (set-at wait (endA p k) w (min (getD wait (endA p k) 0 + 1) 2048) (omega arith) ∙ go (ℕ-discrete (endA p k) w))
+    rw (e, add-one k) (set-at wait (endA p k) w (min (getD wait (endA p k) 0 + 1) 2048) (omega arith)
+    ∙ go (ℕ-discrete (endA p k) w))
   where
     go : Dec (endA p k ≡ w) → cond (eqb (endA p k) w) (min (getD wait (endA p k) 0 + 1) 2048) (getD wait w 0)
         ≡ count k (λ j. eqb (endA p j) w) + cond (eqb (endA p k) w) 1 0
@@ -209,12 +231,14 @@ laid-more o s k v l h (suc i) b =
     rw e (getD-set-other o k (suc k + i) v 0 (omega arith) ∙ h i (omega arith))
 
 -- laid over a slice
-pub laid-over : (s : List ℕ) (f : ℕ → ℕ) (out : List ℕ) → length s ≤ length out → ((i : ℕ) → i < length s → f i ≡ getD s i 0)
+pub laid-over : (s : List ℕ) (f : ℕ → ℕ) (out : List ℕ) → length s ≤ length out →
+    ((i : ℕ) → i < length s → f i ≡ getD s i 0)
     → over (length s) f out ≡ s ++ drop (length s) out
 laid-over [] f out l h = refl
 laid-over (x ∷ s) f [] l h = absurd (omega arith)
 laid-over (x ∷ s) f (y ∷ out) l h =
-    ap₂ (λ (z : ℕ) (r : List ℕ). z ∷ r) (h 0 (omega arith)) (laid-over s (λ i. f (suc i)) out (omega arith) (λ i b. h (suc i) (omega arith)))
+    ap₂ (λ (z : ℕ) (r : List ℕ). z ∷ r) (h 0 (omega arith))
+    (laid-over s (λ i. f (suc i)) out (omega arith) (λ i b. h (suc i) (omega arith)))
 
 -- ---- the whole
 
@@ -239,13 +263,16 @@ pub record Found (n : ℕ) (t p order : List ℕ) (left : ℕ) : Type 0 where
   pub many : length (orderOf n t p) + left ≡ n
   pub laid : Laid order left (orderOf n t p)
 
-found : (n : ℕ) (t p order : List ℕ) (left : ℕ) (s : List ℕ) → orderOf n t p ≡ s → length s + left ≡ n → Laid order left s → Found n t p order left
+found : (n : ℕ) (t p order : List ℕ) (left : ℕ) (s : List ℕ) → orderOf n t p ≡ s → length s + left ≡ n →
+    Laid order left s → Found n t p order left
 found n t p order left s e many laid = record { many = rw e many; laid = rw e laid }
 
 module _ (n : ℕ) (t p : List ℕ) (g : Given n t p) where
   -- nothing stands: unit 0 is within reach, and each pair is in the way of its first
-  pub growing-begun : (order near wait : List ℕ) → length near ≡ 256 → length wait ≡ 256 → ((w : ℕ) → w < 256 → getD near w 0 ≡ cond (eqb w 0) 1 0)
-      → ((w : ℕ) → w < 256 → getD wait w 0 ≡ count (linkCount p) (λ k. eqb (endA p k) w)) → Growing n t p order near wait n
+  pub growing-begun : (order near wait : List ℕ) → length near ≡ 256 → length wait ≡ 256 →
+      ((w : ℕ) → w < 256 → getD near w 0 ≡ cond (eqb w 0) 1 0)
+      → ((w : ℕ) → w < 256 → getD wait w 0 ≡ count (linkCount p) (λ k. eqb (endA p k) w)) →
+      Growing n t p order near wait n
   unfolding orderOf
   growing-begun order near wait a b hn hw =
       record {
@@ -281,22 +308,28 @@ module _ (n : ℕ) (t p : List ℕ) (g : Given n t p) where
       unreached w (suc m) = rw (unreached w m) (never (eqb (endA t m) w) (eqb (endB t m) w))
 
       alone : (w : ℕ) → _≡_ {A = ℕ} (cond (eqb w 0) 1 0) (cond (held t [] w) 1 0)
-      alone w = ap (λ (b : Bool). cond b 1 0) (or-false (eqb w 0) ∙ ap (λ (b : Bool). eqb w 0 || b) (sym (unreached w (linkCount t))))
+      alone w = ap (λ (b : Bool). cond b 1 0) (or-false (eqb w 0)
+          ∙ ap (λ (b : Bool). eqb w 0 || b) (sym (unreached w (linkCount t))))
 
       in-way : (w : ℕ) → count (linkCount p) (λ k. eqb (endA p k) w) ≡ waits p [] w + 0
-      in-way w = count-cong (linkCount p) (λ k. eqb (endA p k) w) (blocks p [] w) (λ k l. and-true (eqb (endA p k) w)) ∙ omega arith
+      in-way w = count-cong (linkCount p) (λ k. eqb (endA p k) w) (blocks p [] w) (λ k l. and-true (eqb (endA p k) w))
+          ∙ omega arith
 
   -- a turn: v comes to stand
-  pub growing-turn : (order near wait order′ near′ wait₁ wait₂ : List ℕ) (left v : ℕ) → length order ≡ 256 → left ≢ 0 → Growing n t p order near wait left
-      → v ≡ nextUp n (ready near wait) → v ≢ n → order′ ≡ set order (left - 1) v → near′ ≡ walked true t v near → wait₁ ≡ walked false p v wait
+  pub growing-turn : (order near wait order′ near′ wait₁ wait₂ : List ℕ) (left v : ℕ) → length order ≡ 256 → left ≢ 0 →
+      Growing n t p order near wait left
+      → v ≡ nextUp n (ready near wait) → v ≢ n → order′ ≡ set order (left - 1) v → near′ ≡ walked true t v near →
+      wait₁ ≡ walked false p v wait
       → wait₂ ≡ set wait₁ v 1 → Growing n t p order′ near′ wait₂ (left - 1)
   unfolding grow
   growing-turn order near wait order′ near′ wait₁ wait₂ left v long z h ev nv eo en e1 e2 =
       record {
         up = v ∷ h .up;
         many = omega (arith, h .many);
-        tables = tables-more t p near wait (h .up) near′ wait₁ wait₂ v (g .whole-links) (g .whole-pairs) (omega (arith, below, g .few)) may (h .tables) en e1 e2;
-        laid = rw eo (laid-more order (h .up) (left - 1) v (omega (arith, h .many, g .few)) (λ i l. ap (λ (k : ℕ). getD order (k + i) 0) one ∙ h .laid i l));
+        tables = tables-more t p near wait (h .up) near′ wait₁ wait₂ v (g .whole-links) (g .whole-pairs)
+            (omega (arith, below, g .few)) may (h .tables) en e1 e2;
+        laid = rw eo (laid-more order (h .up) (left - 1) v (omega (arith, h .many, g .few))
+            (λ i l. ap (λ (k : ℕ). getD order (k + i) 0) one ∙ h .laid i l));
         rest = h .rest ∙ (ap (λ (k : ℕ). grow n t p k (h .up)) (sym one) ∙ step (left - 1));
       }
     where
@@ -316,16 +349,20 @@ module _ (n : ℕ) (t p : List ℕ) (g : Given n t p) where
       step k = rw (sym next, lt-ltb v n below) refl
 
   -- none is left
-  pub growing-done : (order near wait : List ℕ) (left : ℕ) → left ≡ 0 → Growing n t p order near wait left → Found n t p order left
+  pub growing-done : (order near wait : List ℕ) (left : ℕ) → left ≡ 0 → Growing n t p order near wait left →
+      Found n t p order left
   unfolding grow
-  growing-done order near wait left e h = found n t p order left (h .up) (h .rest ∙ ap (λ (k : ℕ). grow n t p k (h .up)) e) (h .many) (h .laid)
+  growing-done order near wait left e h =
+      found n t p order left (h .up) (h .rest ∙ ap (λ (k : ℕ). grow n t p k (h .up)) e) (h .many) (h .laid)
 
   -- some are left, and none may stand next
-  pub growing-stuck : (order near wait : List ℕ) (left v : ℕ) → left ≢ 0 → Growing n t p order near wait left → v ≡ nextUp n (ready near wait) → v ≡ n
+  pub growing-stuck : (order near wait : List ℕ) (left v : ℕ) → left ≢ 0 → Growing n t p order near wait left →
+      v ≡ nextUp n (ready near wait) → v ≡ n
       → Found n t p order left
   unfolding grow
   growing-stuck order near wait left v z h ev e =
-      found n t p order left (h .up) (h .rest ∙ (ap (λ (k : ℕ). grow n t p k (h .up)) one ∙ stop (left - 1))) (h .many) (h .laid)
+      found n t p order left (h .up) (h .rest
+      ∙ (ap (λ (k : ℕ). grow n t p k (h .up)) one ∙ stop (left - 1))) (h .many) (h .laid)
     where
       next : nextUp n (mayStand t p (h .up)) ≡ n
       next = sym (ev ∙ next-ready n t p near wait (h .up) (g .few) (h .tables)) ∙ e

@@ -7,7 +7,8 @@ use native.Mathlib.Omega.{arith}
 use lib.Dec.{leb, ltb}
 use lib.ListN.{length, getD, take, drop, length-take}
 use lib.Seq.{take-all}
-use borrow.Author.Tests.{eq-eqb, ne-eqb, leb-true, le-leb, lt-leb, leb-false, ltb-true, ltb-false, lt-ltb, le-ltb, eqb-false, not-false}
+use borrow.Author.Tests.{eq-eqb, ne-eqb, leb-true, le-leb, lt-leb, leb-false, ltb-true, ltb-false, lt-ltb, le-ltb}
+use borrow.Author.Tests.{eqb-false, not-false}
 use Rattle.base_lists.specs.All.{every-at}
 use Rattle.base_lists.specs.Folds.{every}
 use Rattle.base_lists.specs.Tables.{over}
@@ -38,7 +39,8 @@ module _ (n m : ℕ) (ends : List ℕ) where
   pub site-long : siteFits n m ends ≡ true → 2 * m ≤ length ends
   unfolding siteFits
   site-long s =
-      leb-true (2 * m) (length ends) (and-left (leb (2 * m) (length ends)) (linksFit n m ends) (and-right (leb n maxUnits) _ s))
+      leb-true (2 * m) (length ends) (and-left (leb (2 * m) (length ends)) (linksFit n m ends)
+      (and-right (leb n maxUnits) _ s))
 
 -- ---- the pairs
 
@@ -93,9 +95,15 @@ module _ (n m : ℕ) (ends p : List ℕ) where
   fits-given s b =
       record {
         few = few;
-        links = record { few = omega (arith, long, many); below = λ i l. omega (arith, few, ltb-true (getD t i 0) n (every-at (λ (x : ℕ). ltb x n) t i 0 below l)) };
+        links = record {
+          few = omega (arith, long, many);
+          below = λ i l. omega (arith, few, ltb-true (getD t i 0) n (every-at (λ (x : ℕ). ltb x n) t i 0 below l));
+        };
         whole-links = omega (arith, long);
-        pairs = record { few = omega (arith, pairs); below = λ i l. omega (arith, few, ltb-true (getD p i 0) n (every-at (λ (x : ℕ). ltb x n) p i 0 named l)) };
+        pairs = record {
+          few = omega (arith, pairs);
+          below = λ i l. omega (arith, few, ltb-true (getD p i 0) n (every-at (λ (x : ℕ). ltb x n) p i 0 named l));
+        };
         whole-pairs = omega (arith, even);
       }
     where
@@ -127,7 +135,8 @@ module _ (n m : ℕ) (ends p : List ℕ) where
       named = every-missing n p ∙ rw (or-false-right (oddWords p) (endMissing n p) rest) refl
 
   module _ (places : ℕ) where
-    pub passed-given : givenRefusal n m ends p places ≡ 0 → (siteFits n m ends ≡ true) × (n ≤ places) × (badPairs n p ≡ false)
+    pub passed-given : givenRefusal n m ends p places ≡ 0 →
+        (siteFits n m ends ≡ true) × (n ≤ places) × (badPairs n p ≡ false)
     unfolding givenRefusal
     passed-given e =
         let a = passed-test (not (siteFits n m ends)) 10 _ (omega arith) e in
@@ -136,15 +145,19 @@ module _ (n m : ℕ) (ends p : List ℕ) where
         (not-false (siteFits n m ends) (a .0), ltb-false places n (b .0), d .0)
 
     -- an earlier test holds, or none does
-    given-refused : (givenRefusal n m ends p places ≡ 0 → ⊥) → orderRefusal n m ends p places ≡ givenRefusal n m ends p places
+    given-refused : (givenRefusal n m ends p places ≡ 0 → ⊥) →
+        orderRefusal n m ends p places ≡ givenRefusal n m ends p places
     unfolding givenRefusal orderRefusal
     given-refused h =
-        first-some ((10, not (siteFits n m ends)) ∷ (14, ltb places n) ∷ (19, badPairs n p) ∷ []) ((20, noOrder n t p) ∷ []) h
+        first-some ((10, not (siteFits n m ends)) ∷ (14, ltb places n) ∷ (19, badPairs n p) ∷ [])
+        ((20, noOrder n t p) ∷ []) h
 
-    given-passed : givenRefusal n m ends p places ≡ 0 → orderRefusal n m ends p places ≡ firstOf ((20, noOrder n t p) ∷ [])
+    given-passed : givenRefusal n m ends p places ≡ 0 →
+        orderRefusal n m ends p places ≡ firstOf ((20, noOrder n t p) ∷ [])
     unfolding givenRefusal orderRefusal
     given-passed h =
-        first-none ((10, not (siteFits n m ends)) ∷ (14, ltb places n) ∷ (19, badPairs n p) ∷ []) ((20, noOrder n t p) ∷ []) (omega arith) h
+        first-none ((10, not (siteFits n m ends)) ∷ (14, ltb places n) ∷ (19, badPairs n p) ∷ [])
+        ((20, noOrder n t p) ∷ []) (omega arith) h
 
   -- ---- what is written
 
@@ -159,7 +172,8 @@ module _ (n m : ℕ) (ends p : List ℕ) where
       (sym q, rw (q, ne-eqb r 0 h) refl)
 
   -- 20
-  pub told-none : (out order : List ℕ) (left : ℕ) → givenRefusal n m ends p (length out) ≡ 0 → Found n t p order left → (left ≡ 0 → ⊥) → Told 20 out out
+  pub told-none : (out order : List ℕ) (left : ℕ) → givenRefusal n m ends p (length out) ≡ 0 → Found n t p order left →
+      (left ≡ 0 → ⊥) → Told 20 out out
   unfolding orderWritten
   told-none out order left e f h =
       let b : noOrder n t p ≡ true = rw (ne-eqb (length (orderOf n t p)) n (omega (arith, f .many))) refl in
@@ -167,7 +181,8 @@ module _ (n m : ℕ) (ends p : List ℕ) where
       (sym q, rw q refl)
 
   -- all stand: the order, laid over the slice
-  pub told-order : (out new order : List ℕ) (left : ℕ) → givenRefusal n m ends p (length out) ≡ 0 → Found n t p order left → left ≡ 0
+  pub told-order : (out new order : List ℕ) (left : ℕ) → givenRefusal n m ends p (length out) ≡ 0 →
+      Found n t p order left → left ≡ 0
       → new ≡ over n (λ (i : ℕ). getD order i 0) out → Told 0 out new
   unfolding orderWritten
   told-order out new order left e f z w =
@@ -175,8 +190,10 @@ module _ (n m : ℕ) (ends p : List ℕ) where
       let b : noOrder n t p ≡ false = rw (eq-eqb (length (orderOf n t p)) n whole) refl in
       let q : orderRefusal n m ends p (length out) ≡ 0 = given-passed (length out) e ∙ rw b refl in
       let fits : length (orderOf n t p) ≤ length out = omega (arith, passed-given (length out) e .1) in
-      let laid : over (length (orderOf n t p)) (λ (i : ℕ). getD order i 0) out ≡ orderOf n t p ++ drop (length (orderOf n t p)) out =
-      laid-over (orderOf n t p) (λ (i : ℕ). getD order i 0) out fits (λ i l. ap (λ (k : ℕ). getD order k 0) (first left i z) ∙ f .laid i l) in
+      let laid : over (length (orderOf n t p)) (λ (i : ℕ). getD order i 0) out
+      ≡ orderOf n t p ++ drop (length (orderOf n t p)) out =
+      laid-over (orderOf n t p) (λ (i : ℕ). getD order i 0) out fits
+      (λ i l. ap (λ (k : ℕ). getD order k 0) (first left i z) ∙ f .laid i l) in
       (sym q, rw q (w ∙ (ap (λ (k : ℕ). over k (λ (i : ℕ). getD order i 0) out) (sym whole) ∙ laid)))
     where
       first : (left i : ℕ) → left ≡ 0 → i ≡ left + i

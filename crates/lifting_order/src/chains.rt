@@ -1,11 +1,13 @@
-// The places of a table that hold a unit, by chains: one pass makes them, and a walk along one meets that unit's links or pairs and no other.
+// The places of a table that hold a unit, by chains: one pass makes them, and a walk along one meets that unit's links
+// or pairs and no other.
 ghost use mathlib.Core.Path.{_≡_};
 ghost use Prim.Native.Nat.{ℕ, _<_};
 ghost use lib.ListN.{length, getD};
 ghost use Rattle.lifting_order.specs.Chains.{Words, Chained};
 ghost use Rattle.lifting_order.specs.Marking.{otherOf, walked};
 
-// One more than the last place that holds each unit, and than the place before each that holds the same; 0 where there is none.
+// One more than the last place that holds each unit, and than the place before each that holds the same; 0 where there
+// is none.
 pub(crate) struct Chains {
     pub last: [u16; 256],
     pub next: [u16; 2048],
@@ -50,7 +52,8 @@ fn other(i: usize) -> usize
     if i % 2 == 0 { i + 1 } else { i - 1 }
 }
 
-// At each place that holds `v` the entry of the unit at the other place: marked, or one less where `v` is the pair's second.
+// At each place that holds `v` the entry of the unit at the other place: marked, or one less where `v` is the pair's
+// second.
 pub(crate) fn walk<'a>(
     mark: bool,
     t: &'a [u16],

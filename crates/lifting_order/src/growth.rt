@@ -23,7 +23,8 @@ fn reached() -> [u16; 256]
 // How many pairs each unit is the first of.
 fn waiting(p: &[u16]) -> [u16; 256]
     requires { ⌜ Words (now p) × (length (now p) ≡ 2 * linkCount (now p)) ⌝ }
-    ensures { λ r. ⌜ ((w : ℕ) → w < 256 → getD r w 0 ≡ count (linkCount (now (p .entry))) (λ (k : ℕ). eqb (endA (now (p .entry)) k) w)) ⌝ }
+    ensures { λ r. ⌜ ((w : ℕ) → w < 256 →
+        getD r w 0 ≡ count (linkCount (now (p .entry))) (λ (k : ℕ). eqb (endA (now (p .entry)) k) w)) ⌝ }
 {
     let mut wait = chains::zeros();
     let mut k = 0;
@@ -54,8 +55,8 @@ fn next_up<'a>(units: u16, near: &'a [u16], wait: &'a [u16]) -> u16
     least
 }
 
-// How many units are left when all stand or none may stand next; the others lie in `order` past so many places, the last to stand in front. A unit
-// that stands waits for ever, so that it is not taken twice.
+// How many units are left when all stand or none may stand next; the others lie in `order` past so many places, the
+// last to stand in front. A unit that stands waits for ever, so that it is not taken twice.
 pub(crate) fn grown<'a>(units: u16, ends: &'a [u16], pairs: &'a [u16], order: &mut [u16]) -> u16
     requires { ⌜ Given units (now ends) (now pairs) × (length (now order) ≡ 256) ⌝ }
     ensures { λ r. ⌜ Found units (now (ends .entry)) (now (pairs .entry)) (now (order .exit)) r ⌝ }

@@ -52,10 +52,13 @@ fn given_refusal<'a>(units: u16, links: u16, ends: &'a [u16], pairs: &'a [u16], 
     0
 }
 
-// The order at the front of `out`: 10 where the table is no site's, 14, 19, 20. On a refusal no word changes; words past the order stay.
+// The order at the front of `out`: 10 where the table is no site's, 14, 19, 20. On a refusal no word changes; words
+// past the order stay.
 pub fn write<'a>(units: u16, links: u16, ends: &'a [u16], pairs: &'a [u16], out: &mut [u16]) -> u8
-    ensures number { λ r. ⌜ r ≡ orderRefusal units links (now (ends .entry)) (now (pairs .entry)) (length (now (out .entry))) ⌝ }
-    ensures lent { λ _. ⌜ now (out .exit) ≡ orderWritten units links (now (ends .entry)) (now (pairs .entry)) (now (out .entry)) ⌝ }
+    ensures number { λ r. ⌜ r ≡ orderRefusal units links (now (ends .entry)) (now (pairs .entry))
+        (length (now (out .entry))) ⌝ }
+    ensures lent { λ _. ⌜ now (out .exit)
+        ≡ orderWritten units links (now (ends .entry)) (now (pairs .entry)) (now (out .entry)) ⌝ }
 {
     let refused = given_refusal(units, links, ends, pairs, out.len());
     if refused != 0 {

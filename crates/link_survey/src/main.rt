@@ -1,4 +1,5 @@
-// The program: a survey file on standard input, its report on standard output. A failed read ends the input as its end does.
+// The program: a survey file on standard input, its report on standard output. A failed read ends the input as its end
+// does.
 use libc::STDIN_FILENO;
 use libc::STDOUT_FILENO;
 

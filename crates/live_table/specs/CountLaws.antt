@@ -34,7 +34,8 @@ unfolding countsTo
 counts-at m t v h = getD-tab maxUnits (countedAt m t) v 0 h
 
 -- and numbers that are the counts are these
-pub counts-ext : (m : ℕ) (t counts : List ℕ) → length counts ≡ maxUnits → ((v : ℕ) → v < maxUnits → getD counts v 0 ≡ countedAt m t v)
+pub counts-ext : (m : ℕ) (t counts : List ℕ) → length counts ≡ maxUnits →
+    ((v : ℕ) → v < maxUnits → getD counts v 0 ≡ countedAt m t v)
     → counts ≡ countsTo m t
 counts-ext m t counts full h =
     ext-getD 0 counts (countsTo m t) (full ∙ sym (length-counts m t))
@@ -42,7 +43,8 @@ counts-ext m t counts full h =
 
 -- ---- one link more
 
-pub counted-none : (t counts : List ℕ) → ((v : ℕ) → v < maxUnits → getD counts v 0 ≡ 0) → (v : ℕ) → v < maxUnits → getD counts v 0 ≡ countedAt 0 t v
+pub counted-none : (t counts : List ℕ) → ((v : ℕ) → v < maxUnits → getD counts v 0 ≡ 0) → (v : ℕ) → v < maxUnits →
+    getD counts v 0 ≡ countedAt 0 t v
 unfolding countedAt
 counted-none t counts z v h = z v h
 
@@ -54,7 +56,8 @@ raisedAt counts v x = set counts v (min (getD counts v 0 + x) 65535)
 unfoldable pub countedIn : List ℕ → ℕ → ℕ → List ℕ
 countedIn counts a b = raisedAt (raisedAt counts a 1) b (cond (eqb a b) 0 1)
 
-raised-same : (counts : List ℕ) (v x : ℕ) → v < length counts → getD counts v 0 + x ≤ 65535 → getD (raisedAt counts v x) v 0 ≡ getD counts v 0 + x
+raised-same : (counts : List ℕ) (v x : ℕ) → v < length counts → getD counts v 0 + x ≤ 65535 →
+    getD (raisedAt counts v x) v 0 ≡ getD counts v 0 + x
 raised-same counts v x h l = getD-set-same counts v _ 0 h ∙ omega arith
 
 raised-other : (counts : List ℕ) (u v x : ℕ) → (v ≡ u → ⊥) → getD (raisedAt counts u x) v 0 ≡ getD counts v 0
@@ -65,11 +68,13 @@ module _ (counts : List ℕ) (a b v : ℕ) (h : v < length counts) (l : getD cou
   unfolding countedIn
   counted-one = go (ℕ-discrete a v) (ℕ-discrete b v)
     where
-      go : Dec (a ≡ v) → Dec (b ≡ v) → getD (raisedAt (raisedAt counts a 1) b (cond (eqb a b) 0 1)) v 0 ≡ getD counts v 0 + cond (eqb a v || eqb b v) 1 0
+      go : Dec (a ≡ v) → Dec (b ≡ v) → getD (raisedAt (raisedAt counts a 1) b (cond (eqb a b) 0 1)) v 0
+          ≡ getD counts v 0 + cond (eqb a v || eqb b v) 1 0
       go (yes p) (yes q) =
           let first : getD (raisedAt counts v 1) v 0 ≡ getD counts v 0 + 1 = raised-same counts v 1 h (omega arith) in
           let again : getD (raisedAt (raisedAt counts v 1) v 0) v 0 ≡ getD (raisedAt counts v 1) v 0 + 0 =
-          raised-same (raisedAt counts v 1) v 0 (omega (arith, length-set counts v (min (getD counts v 0 + 1) 65535))) (omega (arith, first)) in
+          raised-same (raisedAt counts v 1) v 0 (omega (arith, length-set counts v (min (getD counts v 0 + 1) 65535)))
+          (omega (arith, first)) in
           rw (p, q, eq-eqb v v refl) (omega (arith, again, first))
       go (yes p) (no q) =
           rw (p, ne-eqb b v q, eq-eqb v v refl)
@@ -77,15 +82,18 @@ module _ (counts : List ℕ) (a b v : ℕ) (h : v < length counts) (l : getD cou
       go (no p) (yes q) =
           let same : getD (raisedAt counts a 1) v 0 ≡ getD counts v 0 = raised-other counts a v 1 (λ e. p (sym e)) in
           let again : getD (raisedAt (raisedAt counts a 1) v 1) v 0 ≡ getD (raisedAt counts a 1) v 0 + 1 =
-          raised-same (raisedAt counts a 1) v 1 (omega (arith, length-set counts a (min (getD counts a 0 + 1) 65535))) (omega (arith, same)) in
+          raised-same (raisedAt counts a 1) v 1 (omega (arith, length-set counts a (min (getD counts a 0 + 1) 65535)))
+          (omega (arith, same)) in
           rw (q, ne-eqb a v p, eq-eqb v v refl) (omega (arith, again, same))
       go (no p) (no q) =
           rw (ne-eqb a v p, ne-eqb b v q)
-          (raised-other (raisedAt counts a 1) b v _ (λ e. q (sym e)) ∙ raised-other counts a v 1 (λ e. p (sym e)) ∙ omega arith)
+          (raised-other (raisedAt counts a 1) b v _ (λ e. q (sym e)) ∙ raised-other counts a v 1 (λ e. p (sym e))
+          ∙ omega arith)
 
 -- a turn of the loop
 pub counted-next : (j : ℕ) (t counts new : List ℕ) (a b : ℕ) → j < 65535 → length counts ≡ maxUnits
-    → ((v : ℕ) → v < maxUnits → getD counts v 0 ≡ countedAt j t v) → a ≡ endA t j → b ≡ endB t j → new ≡ countedIn counts a b
+    → ((v : ℕ) → v < maxUnits → getD counts v 0 ≡ countedAt j t v) → a ≡ endA t j → b ≡ endB t j →
+    new ≡ countedIn counts a b
     → (v : ℕ) → v < maxUnits → getD new v 0 ≡ countedAt (j + 1) t v
 unfolding countedAt
 counted-next j t counts new a b few full was p q put v h =
@@ -103,7 +111,8 @@ counted-all i m t v l g = rw (le-antisymm l g)
 abbrev pub wrongAt : ℕ → List ℕ → List ℕ → ℕ → Bool
 wrongAt m t counts v = not (eqb (getD counts v 0) (countedAt m t v))
 
-pub miscounted-all : (m : ℕ) (t counts : List ℕ) (i : ℕ) (wrong : Bool) → wrong ≡ some i (wrongAt m t counts) → i ≤ maxUnits → maxUnits ≤ i
+pub miscounted-all : (m : ℕ) (t counts : List ℕ) (i : ℕ) (wrong : Bool) → wrong ≡ some i (wrongAt m t counts) →
+    i ≤ maxUnits → maxUnits ≤ i
     → wrong ≡ miscounted m t counts
 unfolding miscounted
 miscounted-all m t counts i wrong e l g = e ∙ rw (le-antisymm l g) refl
@@ -111,9 +120,13 @@ miscounted-all m t counts i wrong e l g = e ∙ rw (le-antisymm l g) refl
 abbrev pub Miscounted : ℕ → List ℕ → List ℕ → Type 0
 Miscounted m t counts = (v : ℕ) × (v < maxUnits) × (getD counts v 0 ≡ countedAt m t v → ⊥)
 
-wrong-exact : (m : ℕ) (t counts : List ℕ) (v : ℕ) → (wrongAt m t counts v ≡ true) ↔ (getD counts v 0 ≡ countedAt m t v → ⊥)
+wrong-exact : (m : ℕ) (t counts : List ℕ) (v : ℕ) →
+    (wrongAt m t counts v ≡ true) ↔ (getD counts v 0 ≡ countedAt m t v → ⊥)
 wrong-exact m t counts v =
-    not-exact (eqb (getD counts v 0) (countedAt m t v)) (eqb-true (getD counts v 0) (countedAt m t v), eq-eqb (getD counts v 0) (countedAt m t v))
+    not-exact (eqb (getD counts v 0) (countedAt m t v)) (
+      eqb-true (getD counts v 0) (countedAt m t v),
+      eq-eqb (getD counts v 0) (countedAt m t v),
+    )
 
 pub miscounted-exact : (m : ℕ) (t counts : List ℕ) → (miscounted m t counts ≡ true) ↔ Miscounted m t counts
 unfolding miscounted
@@ -124,4 +137,5 @@ miscounted-exact m t counts = (
 
 -- counts are not miscounted
 pub right-counted : (m : ℕ) (t : List ℕ) → miscounted m t (countsTo m t) ≡ false
-right-counted m t = refuted (miscounted m t (countsTo m t)) (λ e. let w = miscounted-exact m t (countsTo m t) .0 e in w .2 (counts-at m t (w .0) (w .1)))
+right-counted m t = refuted (miscounted m t (countsTo m t))
+    (λ e. let w = miscounted-exact m t (countsTo m t) .0 e in w .2 (counts-at m t (w .0) (w .1)))

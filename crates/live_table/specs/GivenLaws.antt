@@ -65,7 +65,8 @@ module _ (l : Live) where
     fifteen = rw (eq-eqb (length (held l .levels)) (linksIn (held l)) (levelled ∙ sym held-links)) refl
 
     -- 5 and 15 have no cause
-    pub given-held : badUnitCount (l .units) ≡ false → heldRefusal (l .units) (l .links) (held l .words) (held l .levels) (l .counts) ≡ givenRefusal l
+    pub given-held : badUnitCount (l .units) ≡ false →
+        heldRefusal (l .units) (l .links) (held l .words) (held l .levels) (l .counts) ≡ givenRefusal l
     unfolding givenRefusal heldRefusal
     given-held e = rw (e, five, six, fifteen, le-ltb maxLinks (l .links) m) refl
 

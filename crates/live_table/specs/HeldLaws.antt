@@ -11,12 +11,14 @@ use Rattle.table.specs.RefusalLaws.{first-none}
 use Rattle.spec_machine.specs.Load.{Input, linksIn, endsOf, levelsOf}
 use Rattle.live_table.specs.CountLaws.{right-counted}
 use Rattle.live_table.specs.Live.{held, liveOf}
-use Rattle.live_table.specs.LiveCalls.{openRefusal, givenTests, linkTests, pairTests, givenRefusal, linkRefusal, pairRefusal, addRefusal, withdrawRefusal}
+use Rattle.live_table.specs.LiveCalls.{openRefusal, givenTests, linkTests, pairTests, givenRefusal, linkRefusal}
+use Rattle.live_table.specs.LiveCalls.{pairRefusal, addRefusal, withdrawRefusal}
 use Rattle.live_table.specs.PassedLaws.{passed}
 
 module _ (x : Input) (e : openRefusal x ≡ 0) where
   words-of : take (2 * linksIn x) (endsOf (x .words)) ≡ x .words
-  words-of = take-at (x .words) _ (2 * linksIn x) (passes (x .units) (x .words) (table-alone (x .units) (x .words) (x .levels) e) .pairs)
+  words-of = take-at (x .words) _ (2 * linksIn x)
+      (passes (x .units) (x .words) (table-alone (x .units) (x .words) (x .levels) e) .pairs)
 
   levels-of : take (linksIn x) (levelsOf (x .levels)) ≡ x .levels
   levels-of = take-at (x .levels) _ (linksIn x) (table-levelled (x .units) (x .words) (x .levels) e)
@@ -29,7 +31,17 @@ module _ (x : Input) (e : openRefusal x ≡ 0) where
   unfolding givenRefusal liveOf
   given-of =
       let p = passed (x .units) (x .words) (x .levels) e in
-      rw (words-of, levels-of, p .four, p .six, p .sixteen, p .seven, p .eight, p .nine, right-counted (linksIn x) (x .words)) refl
+      rw (
+        words-of,
+        levels-of,
+        p .four,
+        p .six,
+        p .sixteen,
+        p .seven,
+        p .eight,
+        p .nine,
+        right-counted (linksIn x) (x .words),
+      ) refl
 
   pub add-of : (a b : ℕ) (level : ℤ) → addRefusal a b level (liveOf x) ≡ linkRefusal a b level x
   unfolding addRefusal givenRefusal linkRefusal

@@ -1,4 +1,5 @@
--- A live table (document 02, T-09), and what is made of the lists that it holds: opened as given, a link added at the end, a link withdrawn by its two units.
+-- A live table (document 02, T-09), and what is made of the lists that it holds: opened as given, a link added at the
+-- end, a link withdrawn by its two units.
 use mathlib.Core.Bool.{cond}
 use mathlib.Core.List.{List, [], _∷_, _++_}
 use Prim.Native.Nat.{ℕ, suc, _+_, _*_}
@@ -22,7 +23,13 @@ held l = record { units = l .units; words = take (2 * l .links) (l .ends); level
 
 -- the live table that holds it: ends past the links absent, levels past them 0, each number the count
 unfoldable pub liveOf : Input → Live
-liveOf x = record { units = x .units; links = linksIn x; ends = endsOf (x .words); levels = levelsOf (x .levels); counts = countsTo (linksIn x) (x .words) }
+liveOf x = record {
+  units = x .units;
+  links = linksIn x;
+  ends = endsOf (x .words);
+  levels = levelsOf (x .levels);
+  counts = countsTo (linksIn x) (x .words);
+}
 
 -- of no unit and no link: what is in hand where opening was refused
 abbrev pub unopened : Live

@@ -6,7 +6,8 @@ use lib.Dec.{eqb, leb, ltb}
 use lib.IntN.{ℤ}
 use Rattle.table_levels.specs.Level.{inRange}
 use Rattle.table.specs.Refusals.{firstOf}
-use Rattle.table.specs.Table.{maxLinks, badUnitCount, levelOutside, endMissing, equalEnds, repeatedLink, sameEnds, joinedIn, storedRefusal}
+use Rattle.table.specs.Table.{maxLinks, badUnitCount, levelOutside, endMissing, equalEnds, repeatedLink, sameEnds}
+use Rattle.table.specs.Table.{joinedIn, storedRefusal}
 use Rattle.spec_machine.specs.Load.{Input, linksIn}
 use Rattle.live_table.specs.Counts.{miscounted}
 use Rattle.live_table.specs.Live.{Live, held, liveOf, unopened, added, withdrawn}

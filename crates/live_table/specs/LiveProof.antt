@@ -12,7 +12,8 @@ use Rattle.base_lists.specs.Tests.{either}
 use Rattle.table_levels.specs.Level.{HIGHEST}
 use Rattle.table.specs.Passes.{table-levelled}
 use Rattle.table.specs.Refusals.{firstOf}
-use Rattle.table.specs.RefusalLaws.{Reason, FirstCause, SomeCause, Numbered, tests, first-cause, some-cause, passed-test}
+use Rattle.table.specs.RefusalLaws.{Reason, FirstCause, SomeCause, Numbered, tests, first-cause, some-cause}
+use Rattle.table.specs.RefusalLaws.{passed-test}
 use Rattle.table.specs.Table.{maxUnits, endA, endB, sameEnds, joinedIn}
 use Rattle.table.specs.TableCauses.{sameEnds-exact, stored-first-cause, stored-some-cause}
 use Rattle.spec_machine.specs.Load.{Input, linksIn}
@@ -20,14 +21,16 @@ use Rattle.spec_machine.specs.Calls.{loadAnswer, storedLoadAnswer}
 use Rattle.live_table.specs.Counts.{linksAt}
 use Rattle.live_table.specs.CountLaws.{counts-at}
 use Rattle.live_table.specs.Live.{Live, held, liveOf, added, withdrawn, placeOf}
-use Rattle.live_table.specs.LiveCalls.{answered, openRefusal, openAnswer, addAnswer, withdrawAnswer, addRefusal, withdrawRefusal, linkRefusal, pairRefusal}
+use Rattle.live_table.specs.LiveCalls.{answered, openRefusal, openAnswer, addAnswer, withdrawAnswer, addRefusal}
+use Rattle.live_table.specs.LiveCalls.{withdrawRefusal, linkRefusal, pairRefusal}
 use Rattle.live_table.specs.LiveCauses.{givenReasons, linkReasons, pairReasons}
 use Rattle.live_table.specs.AddedLaws.{added-refusal}
 use Rattle.live_table.specs.WithdrawnLaws.{withdrawn-passes}
 use Rattle.live_table.specs.HeldLaws.{held-of, add-of, withdraw-of}
 use Rattle.live_table.specs.PlaceLaws.{place-found, place-joins}
 use Rattle.live_table.specs.WithoutLaws.{links-less, ends-moved, level-moved}
-use Rattle.live_table.specs.LiveRight.{Change, add, withdraw, answerTo, numberOf, made, left, played, leftBy, OpenRight, ChangeRight, ListRight, ListsRight, LiveTable}
+use Rattle.live_table.specs.LiveRight.{Change, add, withdraw, answerTo, numberOf, made, left, played, leftBy}
+use Rattle.live_table.specs.LiveRight.{OpenRight, ChangeRight, ListRight, ListsRight, LiveTable}
 
 -- ---- answers
 
@@ -57,11 +60,22 @@ change-bound reasons p k e = (λ i h. rw e (first-cause reasons i h), rw e (some
 change-right : (c : Change) (l : Live) → ChangeRight c l
 unfolding addAnswer withdrawAnswer addRefusal withdrawRefusal givenReasons linkReasons pairReasons
 change-right (add a b level) l =
-    let q = change-bound (givenReasons l ++ linkReasons a b level (held l)) (omega arith) (addRefusal a b level l) refl in
-    record { cause = q .0; refused = q .1; asGiven = kept-live (addRefusal a b level l) l _; changed = made-live (addRefusal a b level l) l _ }
+    let q = change-bound (givenReasons l ++ linkReasons a b level (held l)) (omega arith)
+    (addRefusal a b level l) refl in
+    record {
+      cause = q .0;
+      refused = q .1;
+      asGiven = kept-live (addRefusal a b level l) l _;
+      changed = made-live (addRefusal a b level l) l _;
+    }
 change-right (withdraw a b) l =
     let q = change-bound (givenReasons l ++ pairReasons a b (held l)) (omega arith) (withdrawRefusal a b l) refl in
-    record { cause = q .0; refused = q .1; asGiven = kept-live (withdrawRefusal a b l) l _; changed = made-live (withdrawRefusal a b l) l _ }
+    record {
+      cause = q .0;
+      refused = q .1;
+      asGiven = kept-live (withdrawRefusal a b l) l _;
+      changed = made-live (withdrawRefusal a b l) l _;
+    }
 
 -- ---- two units whose link may be withdrawn have one
 
@@ -72,7 +86,8 @@ module _ (x : Input) (a b : ℕ) (e : pairRefusal a b x ≡ 0) where
       let p = passed-test (leb (x .units) a || leb (x .units) b) 7 _ (omega arith) e in
       let q = passed-test (eqb a b) 8 _ (omega arith) (p .1) in
       let r = passed-test (not (joinedIn sameEnds a b (x .words))) 21 _ (omega arith) (q .1) in
-      ltb-true (placeOf a b (x .words)) (linksIn x) (sym (place-found a b (x .words)) ∙ not-false (joinedIn sameEnds a b (x .words)) (r .0))
+      ltb-true (placeOf a b (x .words)) (linksIn x) (sym (place-found a b (x .words))
+      ∙ not-false (joinedIn sameEnds a b (x .words)) (r .0))
 
 -- ---- a change of the table of lists that pass is the table of the lists that it leaves
 
@@ -122,7 +137,8 @@ list-right : (x : Input) → openRefusal x ≡ 0 → (cs : List Change) → List
 list-right x e cs =
     let first : openAnswer x .live ≡ liveOf x = open-right x .opened (open-number x ∙ e) in
     let last : played cs (openAnswer x .live) ≡ liveOf (leftBy cs x) = ap (played cs) first ∙ played-of cs x e in
-    let in-it : held (played cs (openAnswer x .live)) ≡ leftBy cs x = ap held last ∙ held-of (leftBy cs x) (leftBy-passes cs x e) in
+    let in-it : held (played cs (openAnswer x .live)) ≡ leftBy cs x =
+    ap held last ∙ held-of (leftBy cs x) (leftBy-passes cs x e) in
     record {
       table = last;
       holds = in-it;
@@ -153,4 +169,9 @@ lists-right x e =
     heard a b z = omega (arith, found x a b z, table-levelled (x .units) (x .words) (x .levels) e)
 
 pub live-table : LiveTable
-live-table = record { opening = open-right; change = change-right; changes = λ x z cs. list-right x (sym (open-number x) ∙ z) cs; lists = lists-right }
+live-table = record {
+  opening = open-right;
+  change = change-right;
+  changes = λ x z cs. list-right x (sym (open-number x) ∙ z) cs;
+  lists = lists-right;
+}

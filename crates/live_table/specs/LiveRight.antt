@@ -16,7 +16,8 @@ use Rattle.spec_machine.specs.State.{State}
 use Rattle.spec_machine.specs.Calls.{loadAnswer, storedLoadAnswer}
 use Rattle.live_table.specs.Counts.{linksAt}
 use Rattle.live_table.specs.Live.{Live, held, liveOf, added, withdrawn, placeOf}
-use Rattle.live_table.specs.LiveCalls.{Answer, openRefusal, openAnswer, addAnswer, withdrawAnswer, linkRefusal, pairRefusal}
+use Rattle.live_table.specs.LiveCalls.{Answer, openRefusal, openAnswer, addAnswer, withdrawAnswer, linkRefusal}
+use Rattle.live_table.specs.LiveCalls.{pairRefusal}
 use Rattle.live_table.specs.LiveCauses.{givenReasons, linkReasons, pairReasons}
 use Rattle.live_table.specs.WithoutLaws.{moved}
 
@@ -57,7 +58,8 @@ leftBy (c ∷ cs) x = leftBy cs (left c x)
 -- ---- an open
 
 pub record OpenRight (x : Input) : Type 0 where
-  pub cause : (k : ℕ) → (k ≡ 0 → ⊥) → (openAnswer x .number ≡ k) ↔ FirstCause (storedReasons (x .units) (x .words) (x .levels)) k
+  pub cause : (k : ℕ) → (k ≡ 0 → ⊥) → (openAnswer x .number ≡ k)
+      ↔ FirstCause (storedReasons (x .units) (x .words) (x .levels)) k
   pub refused : (openAnswer x .number ≡ 0 → ⊥) ↔ SomeCause (storedReasons (x .units) (x .words) (x .levels))
   pub opened : openAnswer x .number ≡ 0 → openAnswer x .live ≡ liveOf x
 
@@ -77,18 +79,22 @@ pub record ListRight (x : Input) (cs : List Change) : Type 0 where
   -- it holds them, so that every load takes what it holds as it takes them, and passes the checks of a stored table
   pub holds : held (played cs (openAnswer x .live)) ≡ leftBy cs x
   pub loads : (s : State) → loadAnswer (held (played cs (openAnswer x .live))) s ≡ loadAnswer (leftBy cs x) s
-  pub storedLoads : (s : State) → storedLoadAnswer (held (played cs (openAnswer x .live))) s ≡ storedLoadAnswer (leftBy cs x) s
+  pub storedLoads : (s : State) → storedLoadAnswer (held (played cs (openAnswer x .live))) s
+      ≡ storedLoadAnswer (leftBy cs x) s
   pub passes : openRefusal (leftBy cs x) ≡ 0
   -- each stored number is the count
-  pub counts : (v : ℕ) → v < maxUnits → getD (played cs (openAnswer x .live) .counts) v 0 ≡ linksAt (held (played cs (openAnswer x .live)) .words) v
+  pub counts : (v : ℕ) → v < maxUnits → getD (played cs (openAnswer x .live) .counts) v 0
+      ≡ linksAt (held (played cs (openAnswer x .live)) .words) v
 
 -- ---- lists that pass, with a link more or less
 
 pub record ListsRight (x : Input) : Type 0 where
   -- a link to be added is refused exactly as load refuses the lists with it
   pub added : (a b : ℕ) (level : ℤ) → linkRefusal a b level x ≡ openRefusal (added a b level x)
-  -- a link is withdrawn that joins the two units; each later one moves down by one position, its ends in their order and its level with it
-  pub joins : (a b : ℕ) → pairRefusal a b x ≡ 0 → SameEnds a b (endA (x .words) (placeOf a b (x .words))) (endB (x .words) (placeOf a b (x .words)))
+  -- a link is withdrawn that joins the two units; each later one moves down by one position, its ends in their order
+  -- and its level with it
+  pub joins : (a b : ℕ) → pairRefusal a b x ≡ 0 →
+      SameEnds a b (endA (x .words) (placeOf a b (x .words))) (endB (x .words) (placeOf a b (x .words)))
   pub fewer : (a b : ℕ) → pairRefusal a b x ≡ 0 → suc (linksIn (withdrawn a b x)) ≡ linksIn x
   pub ends : (a b : ℕ) → pairRefusal a b x ≡ 0 → (k : ℕ)
       → (endA (withdrawn a b x .words) k ≡ endA (x .words) (moved (placeOf a b (x .words)) k))

@@ -7,7 +7,8 @@ use native.Mathlib.Decide.{ℕ-discrete}
 use native.Mathlib.Omega.{arith}
 use lib.IntN.{ℤ}
 use Rattle.table.specs.RefusalLaws.{SomeCause, passed-test}
-use Rattle.table.specs.Table.{badUnitCount, oddWords, tooManyLinks, levelsDiffer, levelOutside, endMissing, equalEnds, repeatedLink, storedRefusal}
+use Rattle.table.specs.Table.{badUnitCount, oddWords, tooManyLinks, levelsDiffer, levelOutside, endMissing, equalEnds}
+use Rattle.table.specs.Table.{repeatedLink, storedRefusal}
 use Rattle.table.specs.TableCauses.{storedReasons, stored-some-cause}
 
 pub record Passed (n : ℕ) (t : List ℕ) (ls : List ℤ) : Type 0 where
@@ -31,7 +32,16 @@ passed n t ls e =
     let g = passed-test (endMissing n t) 7 _ (omega arith) (f .1) in
     let h = passed-test (equalEnds t) 8 _ (omega arith) (g .1) in
     let i = passed-test (repeatedLink t) 9 _ (omega arith) (h .1) in
-    record { four = a .0; five = b .0; six = c .0; fifteen = d .0; sixteen = f .0; seven = g .0; eight = h .0; nine = i .0 }
+    record {
+      four = a .0;
+      five = b .0;
+      six = c .0;
+      fifteen = d .0;
+      sixteen = f .0;
+      seven = g .0;
+      eight = h .0;
+      nine = i .0;
+    }
 
 pub passes-none : (n : ℕ) (t : List ℕ) (ls : List ℤ) → (SomeCause (storedReasons n t ls) → ⊥) → storedRefusal n t ls ≡ 0
 passes-none n t ls none = go (ℕ-discrete (storedRefusal n t ls) 0)

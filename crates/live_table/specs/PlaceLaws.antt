@@ -23,7 +23,8 @@ module _ (a b : ℕ) (t : List ℕ) (i : ℕ) where
   unfolding placeOf
   place-here h e = rw (rest-two t i 0 h, e)
 
-  pub place-later : i + 1 < length t → sameEnds a b (getD t i 0) (getD t (i + 1) 0) ≡ false → placeOf a b (drop i t) ≡ suc (placeOf a b (drop (i + 2) t))
+  pub place-later : i + 1 < length t → sameEnds a b (getD t i 0) (getD t (i + 1) 0) ≡ false →
+      placeOf a b (drop i t) ≡ suc (placeOf a b (drop (i + 2) t))
   unfolding placeOf
   place-later h e = rw (rest-two t i 0 h, e)
 
@@ -73,7 +74,8 @@ place-found a b (c ∷ d ∷ t) = go (sameEnds a b c d) (place-found a b t)
 -- ---- some link joins the two, in words
 
 -- the link that is found
-pub place-joins : (a b : ℕ) (t : List ℕ) → placeOf a b t < linkCount t → sameEnds a b (endA t (placeOf a b t)) (endB t (placeOf a b t)) ≡ true
+pub place-joins : (a b : ℕ) (t : List ℕ) → placeOf a b t < linkCount t →
+    sameEnds a b (endA t (placeOf a b t)) (endB t (placeOf a b t)) ≡ true
 unfolding placeOf
 place-joins a b [] h = absurd (omega arith)
 place-joins a b (c ∷ []) h = absurd (omega arith)
@@ -81,7 +83,8 @@ place-joins a b (c ∷ d ∷ t) h = go (sameEnds a b c d) refl h (place-joins a 
   where
     go : (e : Bool) → sameEnds a b c d ≡ e → cond e 0 (suc (placeOf a b t)) < length (c ∷ d ∷ t) / 2
         → (placeOf a b t < linkCount t → sameEnds a b (endA t (placeOf a b t)) (endB t (placeOf a b t)) ≡ true)
-        → sameEnds a b (endA (c ∷ d ∷ t) (cond e 0 (suc (placeOf a b t)))) (endB (c ∷ d ∷ t) (cond e 0 (suc (placeOf a b t)))) ≡ true
+        → sameEnds a b (endA (c ∷ d ∷ t) (cond e 0 (suc (placeOf a b t))))
+        (endB (c ∷ d ∷ t) (cond e 0 (suc (placeOf a b t)))) ≡ true
     go true p l later = p
     go false p l later = rw (endA-later c d t (placeOf a b t), endB-later c d t (placeOf a b t)) (later (omega arith))
 
@@ -89,18 +92,25 @@ place-joins a b (c ∷ d ∷ t) h = go (sameEnds a b c d) refl h (place-joins a 
 abbrev pub Joined : ℕ → ℕ → List ℕ → Type 0
 Joined a b t = (k : ℕ) × (k < linkCount t) × SameEnds a b (endA t k) (endB t k)
 
-joined-back : (a b : ℕ) (t : List ℕ) (k : ℕ) → k < linkCount t → SameEnds a b (endA t k) (endB t k) → joinedIn sameEnds a b t ≡ true
+joined-back : (a b : ℕ) (t : List ℕ) (k : ℕ) → k < linkCount t → SameEnds a b (endA t k) (endB t k) →
+    joinedIn sameEnds a b t ≡ true
 unfolding joinedIn
 joined-back a b [] k l s = absurd (omega arith)
 joined-back a b (c ∷ []) k l s = absurd (omega arith)
-joined-back a b (c ∷ d ∷ t) zero l s = or-left (sameEnds a b c d) (joinedIn sameEnds a b t) (sameEnds-exact a b c d .1 s)
+joined-back a b (c ∷ d ∷ t) zero l s = or-left (sameEnds a b c d) (joinedIn sameEnds a b t)
+    (sameEnds-exact a b c d .1 s)
 joined-back a b (c ∷ d ∷ t) (suc k) l s =
-    or-right (sameEnds a b c d) (joinedIn sameEnds a b t) (joined-back a b t k (omega arith) (rw (endA-later c d t k, endB-later c d t k) at s))
+    or-right (sameEnds a b c d) (joinedIn sameEnds a b t)
+    (joined-back a b t k (omega arith) (rw (endA-later c d t k, endB-later c d t k) at s))
 
 pub joined-exact : (a b : ℕ) (t : List ℕ) → (joinedIn sameEnds a b t ≡ true) ↔ Joined a b t
 joined-exact a b t = (forth, λ w. joined-back a b t (w .0) (w .1) (w .2))
   where
     forth : joinedIn sameEnds a b t ≡ true → Joined a b t
     forth e =
-        let l : placeOf a b t < linkCount t = ltb-true (placeOf a b t) (linkCount t) (sym (place-found a b t) ∙ e) in
-        (placeOf a b t, l, sameEnds-exact a b (endA t (placeOf a b t)) (endB t (placeOf a b t)) .0 (place-joins a b t l))
+        let l : placeOf a b t < linkCount t = ltb-true (placeOf a b t) (linkCount t) (sym (place-found a b t) ∙ e) in (
+          placeOf a b t,
+          l,
+          sameEnds-exact a b (endA t (placeOf a b t)) (endB t (placeOf a b t)) .0
+              (place-joins a b t l),
+        )

@@ -18,7 +18,8 @@ use Rattle.spec_machine.specs.Load.{Input, linksIn}
 use Rattle.live_table.specs.Live.{without, lessLink}
 use Rattle.live_table.specs.LiveCalls.{openRefusal}
 use Rattle.live_table.specs.PassedLaws.{passes-none}
-use Rattle.live_table.specs.WithoutLaws.{length-without, moved, moved-few, moved-apart, length-less, links-less, ends-moved, level-moved, without-before, without-after}
+use Rattle.live_table.specs.WithoutLaws.{length-without, moved, moved-few, moved-apart, length-less, links-less}
+use Rattle.live_table.specs.WithoutLaws.{ends-moved, level-moved, without-before, without-after}
 
 module _ (n : ℕ) (t : List ℕ) (ls : List ℤ) (e : storedRefusal n t ls ≡ 0) (j : ℕ) (h : j < linkCount t) where
   abbrev less : List ℕ
@@ -44,8 +45,10 @@ module _ (n : ℕ) (t : List ℕ) (ls : List ℤ) (e : storedRefusal n t ls ≡ 
   word-left i l = go (decLt i (2 * j))
     where
       go : Dec (i < 2 * j) → getD less i 0 < n
-      go (yes b) = rw (without-before (2 * j) 2 t (omega arith) i 0 b) (whole .endsExist i (omega (arith, l, length-less t j h)))
-      go (no b) = rw (without-after (2 * j) 2 t (omega arith) i 0 (omega arith)) (whole .endsExist (i + 2) (omega (arith, l, length-less t j h)))
+      go (yes b) = rw (without-before (2 * j) 2 t (omega arith) i 0 b)
+          (whole .endsExist i (omega (arith, l, length-less t j h)))
+      go (no b) = rw (without-after (2 * j) 2 t (omega arith) i 0 (omega arith))
+          (whole .endsExist (i + 2) (omega (arith, l, length-less t j h)))
 
   few : (k : ℕ) → k < linkCount less → moved j k < linkCount t
   few k l = moved-few j k (linkCount t) h (omega (arith, l, links-less t j h))
@@ -61,7 +64,8 @@ module _ (n : ℕ) (t : List ℕ) (ls : List ℤ) (e : storedRefusal n t ls ≡ 
       w .2
       (rw (level-moved ls j heard (w .0) HIGHEST)
       (range-exact (getD ls (moved j (w .0)) HIGHEST) .0
-      (every-at inRange ls (moved j (w .0)) HIGHEST (table-range n t ls e) (moved-few j (w .0) (length ls) heard (omega (arith, w .1, one-less))))))
+      (every-at inRange ls (moved j (w .0)) HIGHEST (table-range n t ls e)
+      (moved-few j (w .0) (length ls) heard (omega (arith, w .1, one-less))))))
   none (inr (inr (inr (inr (inr (inl w)))))) = omega (arith, w .2, word-left (w .0) (w .1))
   none (inr (inr (inr (inr (inr (inr (inl w))))))) =
       let m = ends-moved t j h (w .0) in
@@ -69,7 +73,8 @@ module _ (n : ℕ) (t : List ℕ) (ls : List ℤ) (e : storedRefusal n t ls ≡ 
   none (inr (inr (inr (inr (inr (inr (inr (inl w)))))))) =
       let m = ends-moved t j h (w .0) in
       let k = ends-moved t j h (w .1) in
-      whole .once (moved j (w .0)) (moved j (w .1)) (moved-apart j (w .0) (w .1) (w .2)) (few (w .0) (w .3)) (few (w .1) (w .4))
+      whole .once (moved j (w .0)) (moved j (w .1)) (moved-apart j (w .0) (w .1) (w .2)) (few (w .0) (w .3))
+      (few (w .1) (w .4))
       (rw (← (m .0), ← (m .1), ← (k .0), ← (k .1)) (w .5))
 
   pub less-passes : storedRefusal n less fewer ≡ 0

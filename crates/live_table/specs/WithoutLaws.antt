@@ -67,11 +67,16 @@ module _ (t : List ℕ) (j : ℕ) (h : j < linkCount t) where
   pub links-less : linkCount (without (2 * j) 2 t) ≡ linkCount t - 1
   links-less = omega (arith, length-less)
 
-  pub ends-moved : (k : ℕ) → (endA (without (2 * j) 2 t) k ≡ endA t (moved j k)) × (endB (without (2 * j) 2 t) k ≡ endB t (moved j k))
+  pub ends-moved : (k : ℕ) → (endA (without (2 * j) 2 t) k ≡ endA t (moved j k))
+      × (endB (without (2 * j) 2 t) k ≡ endB t (moved j k))
   ends-moved k = go (decLt k j)
     where
-      go : Dec (k < j) → (endA (without (2 * j) 2 t) k ≡ endA t (moved j k)) × (endB (without (2 * j) 2 t) k ≡ endB t (moved j k))
-      go (yes b) = rw (lt-ltb k j b) (without-before (2 * j) 2 t few (2 * k) 0 (omega arith), without-before (2 * j) 2 t few (2 * k + 1) 0 (omega arith))
+      go : Dec (k < j) → (endA (without (2 * j) 2 t) k ≡ endA t (moved j k))
+          × (endB (without (2 * j) 2 t) k ≡ endB t (moved j k))
+      go (yes b) = rw (lt-ltb k j b) (
+        without-before (2 * j) 2 t few (2 * k) 0 (omega arith),
+        without-before (2 * j) 2 t few (2 * k + 1) 0 (omega arith),
+      )
       go (no b) =
           let e : 2 * k + 2 ≡ 2 * suc k = omega arith in
           let f : 2 * k + 1 + 2 ≡ 2 * suc k + 1 = omega arith in
@@ -80,11 +85,13 @@ module _ (t : List ℕ) (j : ℕ) (h : j < linkCount t) where
             without-after (2 * j) 2 t few (2 * k + 1) 0 (omega arith) ∙ ap (λ (x : ℕ). getD t x 0) f,
           )
 
-pub level-moved : (ls : List ℤ) (j : ℕ) → j < length ls → (k : ℕ) (d : ℤ) → getD (without j 1 ls) k d ≡ getD ls (moved j k) d
+pub level-moved : (ls : List ℤ) (j : ℕ) → j < length ls → (k : ℕ) (d : ℤ) →
+    getD (without j 1 ls) k d ≡ getD ls (moved j k) d
 level-moved ls j h k d = go (decLt k j)
   where
     go : Dec (k < j) → getD (without j 1 ls) k d ≡ getD ls (moved j k) d
     go (yes b) = rw (lt-ltb k j b) (without-before j 1 ls (omega arith) k d b)
     go (no b) =
         let e : k + 1 ≡ suc k = omega arith in
-        rw (le-ltb k j (omega arith)) (without-after j 1 ls (omega arith) k d (omega arith) ∙ ap (λ (x : ℕ). getD ls x d) e)
+        rw (le-ltb k j (omega arith)) (without-after j 1 ls (omega arith) k d (omega arith)
+        ∙ ap (λ (x : ℕ). getD ls x d) e)

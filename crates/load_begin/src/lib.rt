@@ -15,11 +15,17 @@ ghost use mathlib.Core.Path.{_≡_};
 ghost use mathlib.Core.List.{_++_};
 ghost use Prim.Native.Nat.{_≤_};
 ghost use lib.ListN.{length, drop, take};
-ghost use Rattle.spec_machine.specs.Load.{absents, silences, firstClock, blankComponents, blankPlan, blankTree, blankTour, blankRanking, blankOrder, blankRange, blankGlobal, blankAux, blankLabels, endsOf, levelsOf, tableOf, parentsOf, planOf};
+ghost use Rattle.spec_machine.specs.Load.{absents, silences, firstClock, blankComponents, blankPlan, blankTree};
+ghost use Rattle.spec_machine.specs.Load.{blankTour, blankRanking, blankOrder, blankRange, blankGlobal, blankAux};
+ghost use Rattle.spec_machine.specs.Load.{blankLabels, endsOf, levelsOf, tableOf, parentsOf, planOf};
 
 // The table of links, from its first 2,048 words and its first 1,024 levels.
 pub fn table(units: u16, words: &[u16], levels: &[i16]) -> Table
-    ensures { λ r. ⌜ r ≡ tableOf (record { units = units; words = take 2048 (now (words .entry)); levels = take 1024 (now (levels .entry)) }) ⌝ }
+    ensures { λ r. ⌜ r ≡ tableOf (record {
+      units = units;
+      words = take 2048 (now (words .entry));
+      levels = take 1024 (now (levels .entry));
+    }) ⌝ }
 {
     let count = base_copies::held(2048, words.len());
     Table {
@@ -57,7 +63,8 @@ fn blank() -> [u16; 2048]
 
 // As many words as there is room for, from the first place on; the rest stays.
 fn first_words(words: &[u16], to: &mut [u16])
-    ensures { λ _. ⌜ now (to .exit) ≡ take (length (now (to .entry))) (now (words .entry)) ++ drop (length (take (length (now (to .entry))) (now (words .entry)))) (now (to .entry)) ⌝ }
+    ensures { λ _. ⌜ now (to .exit) ≡ take (length (now (to .entry))) (now (words .entry))
+        ++ drop (length (take (length (now (to .entry))) (now (words .entry)))) (now (to .entry)) ⌝ }
 {
     let count = base_copies::held(to.len(), words.len());
     base_copies::lay(&words[..count], 0, to);
@@ -72,7 +79,8 @@ fn silent() -> [i16; 1024]
 // The levels from the first place on; the rest stays.
 fn levels_in(levels: &[i16], heard: &mut [i16])
     requires { ⌜ length (now levels) ≤ length (now heard) ⌝ }
-    ensures { λ _. ⌜ now (heard .exit) ≡ now (levels .entry) ++ drop (length (now (levels .entry))) (now (heard .entry)) ⌝ }
+    ensures { λ _. ⌜ now (heard .exit) ≡ now (levels .entry)
+        ++ drop (length (now (levels .entry))) (now (heard .entry)) ⌝ }
 {
     let mut i = 0;
     while i < levels.len() {

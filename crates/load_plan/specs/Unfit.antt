@@ -23,14 +23,19 @@ topsDiffer table tops j = not (eqb (at tops (endA table j)) (at tops (endB table
 
 -- ---- one more, as the loops look
 
-pub stray-more : (parents near tops : List ℕ) (v : ℕ) (was new x y : Bool) (up mark top : ℕ) → was ≡ some v (stray parents near tops)
-    → up ≡ at parents v → mark ≡ at near v → top ≡ at tops v → x ≡ (not (eqb up ABSENT) && eqb mark 0) → y ≡ (x || ltb v top) → new ≡ (was || y)
+pub stray-more : (parents near tops : List ℕ) (v : ℕ) (was new x y : Bool) (up mark top : ℕ) →
+    was ≡ some v (stray parents near tops)
+    → up ≡ at parents v → mark ≡ at near v → top ≡ at tops v → x ≡ (not (eqb up ABSENT) && eqb mark 0) →
+    y ≡ (x || ltb v top) → new ≡ (was || y)
     → new ≡ some (v + 1) (stray parents near tops)
-stray-more parents near tops v was new x y up mark top h p q t b d e = some-more v (stray parents near tops) was new y h (rw (d, b, p, q, t) refl) e
+stray-more parents near tops v was new x y up mark top h p q t b d e =
+    some-more v (stray parents near tops) was new y h (rw (d, b, p, q, t) refl) e
 
-pub differ-more : (table tops : List ℕ) (j : ℕ) (was new : Bool) (a b : ℕ) → was ≡ some j (topsDiffer table tops) → a ≡ at tops (endA table j) → b ≡ at tops (endB table j)
+pub differ-more : (table tops : List ℕ) (j : ℕ) (was new : Bool) (a b : ℕ) → was ≡ some j (topsDiffer table tops) →
+    a ≡ at tops (endA table j) → b ≡ at tops (endB table j)
     → new ≡ (was || not (eqb a b)) → new ≡ some (j + 1) (topsDiffer table tops)
-differ-more table tops j was new a b h p q e = some-more j (topsDiffer table tops) was new (not (eqb a b)) h (rw (p, q) refl) e
+differ-more table tops j was new a b h p q e =
+    some-more j (topsDiffer table tops) was new (not (eqb a b)) h (rw (p, q) refl) e
 
 -- ---- all
 
@@ -48,8 +53,10 @@ module _ (n m : ℕ) (table parents near tops : List ℕ) (few : n ≤ 256) (end
       (some-or n (stray parents near tops) (strayParent m table parents) (strayTop n parents)
       (λ v l.
       ap₂ _||_
-      (ap (λ (b : Bool). not (eqb (at parents v) ABSENT) && b) (ap (λ (x : ℕ). eqb x 0) (marks v (omega arith)) ∙ blank (some m (parentLink table parents v))))
+      (ap (λ (b : Bool). not (eqb (at parents v) ABSENT) && b) (ap (λ (x : ℕ). eqb x 0) (marks v (omega arith))
+      ∙ blank (some m (parentLink table parents v))))
       (ap (λ (x : ℕ). ltb v x) (top v l))))
       (some-cong m (topsDiffer table tops) (splits n table parents)
-      (λ j l. ap not (ap₂ eqb (top (endA table j) (ends .1 (2 * j) (omega arith))) (top (endB table j) (ends .1 (2 * j + 1) (omega arith))))))
+      (λ j l. ap not (ap₂ eqb (top (endA table j) (ends .1 (2 * j) (omega arith)))
+      (top (endB table j) (ends .1 (2 * j + 1) (omega arith))))))
       ∙ or-assoc (some n (strayParent m table parents)) (some n (strayTop n parents)) (some m (splits n table parents))

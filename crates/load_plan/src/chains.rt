@@ -22,7 +22,8 @@ pub(crate) fn tops(units: u16, parents: &[u16]) -> [u16; 256]
     tops
 }
 
-// The unit without a parent at the end of a chain from unit `v`: absent where it goes on for as many units as there are.
+// The unit without a parent at the end of a chain from unit `v`: absent where it goes on for as many units as there
+// are.
 fn top_of(units: u16, parents: &[u16], v: u16) -> u16
     ensures { λ r. ⌜ r ≡ topOf (now (parents .entry)) units v ⌝ }
 {

@@ -13,9 +13,11 @@ ghost use Rattle.spec_rules.specs.Planned.{planUnfit};
 ghost use Rattle.spec_machine.specs.Load.{plannedLoadRefusal};
 ghost use Rattle.load_plan.specs.Unfit.{stray, topsDiffer};
 
-// The number of the first check that fails, 0 where table and parents pass: 4 to 6, 15, 16, 7 to 9, then 17 and 18, last 22.
+// The number of the first check that fails, 0 where table and parents pass: 4 to 6, 15, 16, 7 to 9, then 17 and 18,
+// last 22.
 pub fn refusal(units: u16, table: &[u16], levels: &[i16], parents: &[u16]) -> u8
-    ensures { λ r. ⌜ r ≡ plannedLoadRefusal (record { units = units; words = now (table .entry); levels = now (levels .entry) }) (now (parents .entry)) ⌝ }
+    ensures { λ r. ⌜ r ≡ plannedLoadRefusal
+        (record { units = units; words = now (table .entry); levels = now (levels .entry) }) (now (parents .entry)) ⌝ }
 {
     let refused = table::refusal(false, units, table, levels);
     if refused != 0 {

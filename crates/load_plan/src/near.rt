@@ -11,7 +11,8 @@ ghost use Rattle.load_plan.specs.Marks.{marked};
 // 1 for each unit that some link joins with its parent, else 0.
 pub(crate) fn near(links: u16, table: &[u16], parents: &[u16]) -> [u16; 256]
     requires { ⌜ links ≤ 1024 ⌝ }
-    ensures { λ r. ⌜ ((v : ℕ) → v < 256 → getD r v 0 ≡ cond (some links (parentLink (now (table .entry)) (now (parents .entry)) v)) 1 0) ⌝ }
+    ensures { λ r. ⌜ ((v : ℕ) → v < 256 →
+        getD r v 0 ≡ cond (some links (parentLink (now (table .entry)) (now (parents .entry)) v)) 1 0) ⌝ }
 {
     let mut near = no_marks();
     let mut j = 0;

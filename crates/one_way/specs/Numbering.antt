@@ -19,7 +19,8 @@ strongRefusal n t words = firstOf (strongTests n t words)
 
 -- the reply: the number of passes
 unfoldable pub strongReply : ℕ → List ℕ → List ℕ → Numbering
-strongReply n t out = cond (eqb (strongRefusal n t (length out)) 0) (Passes (minLabel n t out .1)) (Refused (strongRefusal n t (length out)))
+strongReply n t out = cond (eqb (strongRefusal n t (length out)) 0) (Passes (minLabel n t out .1))
+    (Refused (strongRefusal n t (length out)))
 
 -- the slice: the number of each unit and the rest as it was, or all as it was
 unfoldable pub strongNumbers : ℕ → List ℕ → List ℕ → List ℕ

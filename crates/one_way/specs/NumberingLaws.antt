@@ -11,8 +11,10 @@ use lib.ListN.{length}
 use borrow.Author.Tests.{ltb-true, lt-ltb, le-ltb, ltb-false, leb-false, eqb-false, ne-eqb}
 use Rattle.base_lists.specs.Tests.{or-false-left, or-false-right}
 use Rattle.table.specs.Refusals.{firstOf}
-use Rattle.table.specs.RefusalLaws.{Reason, FirstCause, SomeCause, tests, first-cause, some-cause, first-some, first-none, passed-test}
-use Rattle.table.specs.Table.{maxUnits, badUnitCount, oddWords, tooManyLinks, endMissing, equalEnds, repeatedPair, pairTests, pairRefusal}
+use Rattle.table.specs.RefusalLaws.{Reason, FirstCause, SomeCause, tests, first-cause, some-cause, first-some}
+use Rattle.table.specs.RefusalLaws.{first-none, passed-test}
+use Rattle.table.specs.Table.{maxUnits, badUnitCount, oddWords, tooManyLinks, endMissing, equalEnds, repeatedPair}
+use Rattle.table.specs.Table.{pairTests, pairRefusal}
 use Rattle.table.specs.TableCauses.{pairReasons}
 use Rattle.theory_min_label.specs.MinLabel.{minLabel}
 use Rattle.theory_min_label.specs.Groups.{Link}
@@ -43,18 +45,22 @@ module _ (n : ℕ) (t : List ℕ) (words : ℕ) where
 
 -- 4 to 9 of ordered pairs, then 14: the slice has fewer than n words
 unfoldable pub strongReasons : ℕ → List ℕ → ℕ → List Reason
-strongReasons n t words = pairReasons n t ++ (record { number = 14; test = ltb words n; cause = words < n; exact = (ltb-true words n, lt-ltb words n) } ∷ [])
+strongReasons n t words = pairReasons n t
+    ++ (record { number = 14; test = ltb words n; cause = words < n; exact = (ltb-true words n, lt-ltb words n) } ∷ [])
 
-strongRefusal-tests : (n : ℕ) (t : List ℕ) (words : ℕ) → strongRefusal n t words ≡ firstOf (tests (strongReasons n t words))
+strongRefusal-tests : (n : ℕ) (t : List ℕ) (words : ℕ) →
+    strongRefusal n t words ≡ firstOf (tests (strongReasons n t words))
 unfolding strongRefusal strongReasons pairReasons
 strongRefusal-tests n t words = refl
 
 -- the reply is k exactly when cause k holds and no earlier one does
-pub strong-first-cause : (n : ℕ) (t : List ℕ) (words k : ℕ) → (k ≡ 0 → ⊥) → (strongRefusal n t words ≡ k) ↔ FirstCause (strongReasons n t words) k
+pub strong-first-cause : (n : ℕ) (t : List ℕ) (words k : ℕ) → (k ≡ 0 → ⊥) →
+    (strongRefusal n t words ≡ k) ↔ FirstCause (strongReasons n t words) k
 strong-first-cause n t words k h = rw strongRefusal-tests (first-cause (strongReasons n t words) k h)
 
 -- the call is refused exactly when some cause holds
-pub strong-some-cause : (n : ℕ) (t : List ℕ) (words : ℕ) → (strongRefusal n t words ≡ 0 → ⊥) ↔ SomeCause (strongReasons n t words)
+pub strong-some-cause : (n : ℕ) (t : List ℕ) (words : ℕ) →
+    (strongRefusal n t words ≡ 0 → ⊥) ↔ SomeCause (strongReasons n t words)
 unfolding strongReasons pairReasons
 strong-some-cause n t words = rw strongRefusal-tests (some-cause (strongReasons n t words) (omega arith))
 
@@ -94,21 +100,25 @@ accepted-site n t words e =
 -- ---- the reply and the slice
 
 module _ (n : ℕ) (t out : List ℕ) where
-  pub strong-refused : (k : ℕ) → k ≡ strongRefusal n t (length out) → (k ≡ 0 → ⊥) → (Refused k ≡ strongReply n t out) × (out ≡ strongNumbers n t out)
+  pub strong-refused : (k : ℕ) → k ≡ strongRefusal n t (length out) → (k ≡ 0 → ⊥) →
+      (Refused k ≡ strongReply n t out) × (out ≡ strongNumbers n t out)
   unfolding strongReply strongNumbers
   strong-refused k e z = rw (← e) (rw (ne-eqb k 0 z) (refl, refl))
 
-  pub strong-accepted : strongRefusal n t (length out) ≡ 0 → (Passes (minLabel n t out .1) ≡ strongReply n t out) × (minLabel n t out .0 ≡ strongNumbers n t out)
+  pub strong-accepted : strongRefusal n t (length out) ≡ 0 →
+      (Passes (minLabel n t out .1) ≡ strongReply n t out) × (minLabel n t out .0 ≡ strongNumbers n t out)
   unfolding strongReply strongNumbers
   strong-accepted e = rw e (refl, refl)
 
   -- a reply that is the call's tells its number and values
   pub strong-tells : (r : Numbering) → r ≡ strongReply n t out
-      → (numberOf r ≡ strongRefusal n t (length out)) × (valuesOf r ≡ cond (eqb (strongRefusal n t (length out)) 0) (minLabel n t out .1 ∷ []) [])
+      → (numberOf r ≡ strongRefusal n t (length out))
+      × (valuesOf r ≡ cond (eqb (strongRefusal n t (length out)) 0) (minLabel n t out .1 ∷ []) [])
   unfolding strongReply
   strong-tells r e = rw e (go (strongRefusal n t (length out)) (ℕ-discrete (strongRefusal n t (length out)) 0))
     where
       go : (k : ℕ) → Dec (k ≡ 0) → (numberOf (cond (eqb k 0) (Passes (minLabel n t out .1)) (Refused k)) ≡ k)
-          × (valuesOf (cond (eqb k 0) (Passes (minLabel n t out .1)) (Refused k)) ≡ cond (eqb k 0) (minLabel n t out .1 ∷ []) [])
+          × (valuesOf (cond (eqb k 0) (Passes (minLabel n t out .1)) (Refused k))
+          ≡ cond (eqb k 0) (minLabel n t out .1 ∷ []) [])
       go k (yes z) = rw z (refl, refl)
       go k (no z) = rw (ne-eqb k 0 z) (refl, refl)

@@ -1,4 +1,5 @@
--- Every call that is not refused is answered rightly: by some number of passes, and with the numbers that Groups.antt asks for.
+-- Every call that is not refused is answered rightly: by some number of passes, and with the numbers that Groups.antt
+-- asks for.
 use mathlib.Core.Path.{_≡_, sym}
 use mathlib.Core.List.{List}
 use Prim.Native.Nat.{ℕ}

@@ -25,7 +25,8 @@ fn lowers(forward: bool, a: u16, b: u16, key: &[u32], x: &[u16]) -> bool
 // The link at the words `i` and `i + 1` hands a label on; whether one fell.
 fn hand(forward: bool, links: &[u16], i: usize, key: &[u32], x: &mut [u16]) -> bool
     requires { ⌜ (i + 1 < length (now links)) × Room (now links) (now key) (now x) ⌝ }
-    ensures { λ _. ⌜ now (x .exit) ≡ handed forward (now (key .entry)) (now (x .entry)) (getD (now (links .entry)) i 0) (getD (now (links .entry)) (i + 1) 0) ⌝ }
+    ensures { λ _. ⌜ now (x .exit) ≡ handed forward (now (key .entry)) (now (x .entry)) (getD (now (links .entry)) i 0)
+        (getD (now (links .entry)) (i + 1) 0) ⌝ }
 {
     let a = links[i];
     let b = links[i + 1];
@@ -85,7 +86,8 @@ fn relax(
     had: u16,
 ) -> u16
     requires { ⌜ (had ≤ 256) × Room (now links) (now key) (now x) ⌝ }
-    ensures { λ r. ⌜ (r ≤ 256) × Spread (Hears forward (Live (now (links .entry)) (now (key .entry)))) (now (x .entry)) (now (x .exit)) ⌝ }
+    ensures { λ r. ⌜ (r ≤ 256) × Spread (Hears forward (Live (now (links .entry)) (now (key .entry)))) (now (x .entry))
+        (now (x .exit)) ⌝ }
 {
     let mut end = had;
     let mut k = first;
@@ -130,7 +132,8 @@ fn flood(
     queue: &mut [u16],
 )
     requires { ⌜ Room (now links) (now key) (now x) ⌝ }
-    ensures { λ _. ⌜ Spread (Hears forward (Live (now (links .entry)) (now (key .entry)))) (now (x .entry)) (now (x .exit)) ⌝ }
+    ensures { λ _. ⌜ Spread (Hears forward (Live (now (links .entry)) (now (key .entry)))) (now (x .entry))
+        (now (x .exit)) ⌝ }
 {
     base_slices::put(queue, 0, unit);
     let mut head: u16 = 0;
@@ -155,7 +158,8 @@ fn flood(
 // From the least unit on, so that no label falls twice.
 fn search(forward: bool, units: u16, links: &[u16], order: &[u16], key: &[u32], x: &mut [u16])
     requires { ⌜ Room (now links) (now key) (now x) ⌝ }
-    ensures { λ _. ⌜ Spread (Hears forward (Live (now (links .entry)) (now (key .entry)))) (now (x .entry)) (now (x .exit)) ⌝ }
+    ensures { λ _. ⌜ Spread (Hears forward (Live (now (links .entry)) (now (key .entry)))) (now (x .entry))
+        (now (x .exit)) ⌝ }
 {
     let mut queue = [0u16; 256];
     let mut unit: u16 = 0;
@@ -175,7 +179,8 @@ pub(crate) fn settle(
     x: &mut [u16],
 )
     requires { ⌜ Room (now links) (now key) (now x) ⌝ }
-    ensures { λ _. ⌜ Spread (Hears forward (Live (now (links .entry)) (now (key .entry)))) (now (x .entry)) (now (x .exit))
+    ensures { λ _. ⌜ Spread (Hears forward (Live (now (links .entry)) (now (key .entry)))) (now (x .entry))
+        (now (x .exit))
         × Settled (Hears forward (Live (now (links .entry)) (now (key .entry)))) (now (x .exit)) ⌝ }
 {
     search(forward, units, links, order, key, x);

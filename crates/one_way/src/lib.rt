@@ -1,4 +1,5 @@
-// One-way links (document 02, T-11): to each unit the least number of its strongly connected group, by the min-label method.
+// One-way links (document 02, T-11): to each unit the least number of its strongly connected group, by the min-label
+// method.
 ghost use mathlib.Core.Path.{_≡_};
 ghost use mathlib.Core.Bool.{cond};
 ghost use mathlib.Core.List.{[], _∷_};
@@ -17,13 +18,15 @@ pub enum Numbering {
     Refused(u8),
 }
 
-// The numbers of the units into the first words of a slice: 4 to 9 of ordered pairs, 14. On a refusal nothing changes; what stands past the
-// numbers stays.
+// The numbers of the units into the first words of a slice: 4 to 9 of ordered pairs, 14. On a refusal nothing changes;
+// what stands past the numbers stays.
 pub fn strong(units: u16, links: &[u16], numbers: &mut [u16]) -> Numbering
     ensures reply { λ r. ⌜ r ≡ strongReply units (now (links .entry)) (now (numbers .entry)) ⌝ }
     ensures lent { λ _. ⌜ now (numbers .exit) ≡ strongNumbers units (now (links .entry)) (now (numbers .entry)) ⌝ }
     ensures number { λ r. ⌜ numberOf r ≡ strongRefusal units (now (links .entry)) (length (now (numbers .entry))) ⌝ }
-    ensures values { λ r. ⌜ valuesOf r ≡ cond (eqb (strongRefusal units (now (links .entry)) (length (now (numbers .entry)))) 0) (minLabel units (now (links .entry)) (now (numbers .entry)) .1 ∷ []) [] ⌝ }
+    ensures values { λ r. ⌜ valuesOf r ≡ cond
+        (eqb (strongRefusal units (now (links .entry)) (length (now (numbers .entry)))) 0)
+        (minLabel units (now (links .entry)) (now (numbers .entry)) .1 ∷ []) [] ⌝ }
 {
     let refused = refusal(units, links, numbers.len());
     if refused != 0 {

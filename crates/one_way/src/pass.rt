@@ -1,4 +1,5 @@
-// One pass: labels forward and backward, marks, and the keys that tell which links remain; and passes until every unit has its number.
+// One pass: labels forward and backward, marks, and the keys that tell which links remain; and passes until every unit
+// has its number.
 use crate::labels;
 use crate::order;
 use one_way_tables::clear;
@@ -31,7 +32,8 @@ fn forward(units: u16, links: &[u16], order: &[u16], key: &[u32]) -> [u16; 256]
 // Step 2: backward least labels.
 fn backward(units: u16, links: &[u16], order: &[u16], key: &[u32], f: &[u16]) -> [u16; 256]
     requires { ⌜ Site units (now links) × (length (now key) ≡ 256) ⌝ }
-    ensures { λ r. ⌜ Least units (Hears false (Live (now (links .entry)) (now (key .entry)))) (source (now (f .entry))) (at r) ⌝ }
+    ensures { λ r. ⌜ Least units (Hears false (Live (now (links .entry)) (now (key .entry)))) (source (now (f .entry)))
+        (at r) ⌝ }
 {
     let mut b = sources(f);
     labels::settle(false, units, links, order, key, &mut b);
@@ -61,7 +63,8 @@ fn pass<'a>(
     out: &mut [u16],
 )
     requires { ⌜ Site units (now links) × (length (now key) ≡ 256) ⌝ }
-    ensures { λ _. ⌜ Passed units (now (links .entry)) (now (key .entry)) (now (key .exit)) (now (out .entry)) (now (out .exit)) ⌝ }
+    ensures { λ _. ⌜ Passed units (now (links .entry)) (now (key .entry)) (now (key .exit)) (now (out .entry))
+        (now (out .exit)) ⌝ }
 {
     let f = forward(units, links, ahead, key);
     let b = backward(units, links, back, key, &f);

@@ -1,4 +1,5 @@
-// The tables of a pass over one-way links (T-11): the labels that it begins with, the marks and the keys that it leaves.
+// The tables of a pass over one-way links (T-11): the labels that it begins with, the marks and the keys that it
+// leaves.
 ghost use mathlib.Core.Path.{_≡_};
 ghost use mathlib.Core.Bool.{cond, _&&_, _||_};
 ghost use Prim.Native.Nat.{ℕ, _+_, _*_, _<_};
@@ -62,7 +63,8 @@ fn number_of(f: u16, b: u16, old: u16) -> u16
 
 // Step 3, marking: a unit whose two labels are equal has its number.
 pub fn mark<'a>(units: u16, f: &'a [u16], b: &'a [u16], out: &mut [u16])
-    ensures { λ _. ⌜ now (out .exit) ≡ over units (marked (now (f .entry)) (now (b .entry)) (now (out .entry))) (now (out .entry)) ⌝ }
+    ensures { λ _. ⌜ now (out .exit) ≡ over units (marked (now (f .entry)) (now (b .entry)) (now (out .entry)))
+        (now (out .entry)) ⌝ }
 {
     let mut v: u16 = 0;
     while v < units {

@@ -1,4 +1,5 @@
--- Folds over the bits of numbers: the bits that all of them have are no more than any one, and no one is more than the bits that any has.
+-- Folds over the bits of numbers: the bits that all of them have are no more than any one, and no one is more than the
+-- bits that any has.
 use mathlib.Core.Path.{_≡_, refl, ap, _∙_}
 use mathlib.Core.Logic.{_⊎_, inl, inr}
 use Prim.Native.Nat.{ℕ, zero, suc, _+_, _*_, _/_, _%_, _≤_, _<_, min, max}
@@ -21,7 +22,8 @@ or-ge-r a b = omega (arith, or-add-and a b, and-le-l a b)
 pub and-again : (a b : ℕ) → bitAnd (bitAnd a b) b ≡ bitAnd a b
 and-again a = bin-ind (λ (n : ℕ). (b : ℕ) → bitAnd (bitAnd n b) b ≡ bitAnd n b) (λ b. refl) step a
   where
-    step : (n : ℕ) → ((b : ℕ) → bitAnd (bitAnd (n / 2) b) b ≡ bitAnd (n / 2) b) → (b : ℕ) → bitAnd (bitAnd n b) b ≡ bitAnd n b
+    step : (n : ℕ) → ((b : ℕ) → bitAnd (bitAnd (n / 2) b) b ≡ bitAnd (n / 2) b) → (b : ℕ) →
+        bitAnd (bitAnd n b) b ≡ bitAnd n b
     step n again b =
         let z = bitAnd n b in
         let half : z / 2 ≡ bitAnd (n / 2) (b / 2) = omega (arith, and-step n b) in
@@ -77,7 +79,8 @@ fold-one op s y ss sy ys yy zero f h = inl refl
 fold-one op s y ss sy ys yy (suc n) f h =
     go (fold-one op s y ss sy ys yy n f (λ (i : ℕ) (l : i < n). h i (le-step l))) (h n (le-refl (suc n)))
   where
-    go : (fold op n f s ≡ s) ⊎ (fold op n f s ≡ y) → (f n ≡ s) ⊎ (f n ≡ y) → (fold op (suc n) f s ≡ s) ⊎ (fold op (suc n) f s ≡ y)
+    go : (fold op n f s ≡ s) ⊎ (fold op n f s ≡ y) → (f n ≡ s) ⊎ (f n ≡ y) →
+        (fold op (suc n) f s ≡ s) ⊎ (fold op (suc n) f s ≡ y)
     go (inl e) (inl g) = inl (rw (e, g) ss)
     go (inl e) (inr g) = inr (rw (e, g) sy)
     go (inr e) (inl g) = inr (rw (e, g) ys)

@@ -23,7 +23,8 @@ length-flags size n p = length-over n (λ (i : ℕ). cond (p i) 1 0) (replicate 
 
 pub flag-at : (size n : ℕ) (p : ℕ → Bool) (i : ℕ) → i < n → i < size → getD (flagTable size n p) i 0 ≡ cond (p i) 1 0
 unfolding flagTable
-flag-at size n p i h l = getD-over n (λ (i : ℕ). cond (p i) 1 0) (replicate size 0) i 0 h (omega (arith, length-replicate {A = ℕ} size 0))
+flag-at size n p i h l = getD-over n (λ (i : ℕ). cond (p i) 1 0) (replicate size 0) i 0 h
+    (omega (arith, length-replicate {A = ℕ} size 0))
 
 -- ---- one more
 
@@ -32,7 +33,8 @@ unfolding flagTable
 flags-none size p = refl
 
 -- a store past the last place does nothing, whatever is stored
-pub flags-more : (size n : ℕ) (p : ℕ → Bool) (y : ℕ) → (n < size → y ≡ cond (p n) 1 0) → set (flagTable size n p) n y ≡ flagTable size (n + 1) p
+pub flags-more : (size n : ℕ) (p : ℕ → Bool) (y : ℕ) → (n < size → y ≡ cond (p n) 1 0) →
+    set (flagTable size n p) n y ≡ flagTable size (n + 1) p
 unfolding flagTable
 flags-more size n p y h = go (decLt n size)
   where
@@ -52,7 +54,8 @@ flag-test : (b : Bool) → eqb (cond b 1 0) 1 ≡ b
 flag-test true = refl
 flag-test false = refl
 
-pub flags-count : (size n : ℕ) (p : ℕ → Bool) → n ≤ size → count n (λ (i : ℕ). eqb (getD (flagTable size n p) i 0) 1) ≡ count n p
+pub flags-count : (size n : ℕ) (p : ℕ → Bool) → n ≤ size →
+    count n (λ (i : ℕ). eqb (getD (flagTable size n p) i 0) 1) ≡ count n p
 flags-count size n p h =
     count-cong n (λ (i : ℕ). eqb (getD (flagTable size n p) i 0) 1) p
     (λ (i : ℕ) (l : i < n). rw (flag-at size n p i l (omega arith)) (flag-test (p i)))

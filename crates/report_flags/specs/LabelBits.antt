@@ -1,5 +1,5 @@
--- The bits that all labels at a unit have, and those that any has. A single point is a unit where they differ: one pass over the links finds
--- them, by one operation a table, where the definition goes over pairs of links.
+-- The bits that all labels at a unit have, and those that any has. A single point is a unit where they differ: one pass
+-- over the links finds them, by one operation a table, where the definition goes over pairs of links.
 use mathlib.Core.Path.{_≡_, refl, sym, _∙_}
 use mathlib.Core.Bool.{Bool, true, false, cond, not, _&&_, _||_}
 use mathlib.Core.Logic.{_⊎_, inl, inr}
@@ -41,7 +41,8 @@ unfolding labelBits
 labelBits-none b ends label u = refl
 
 pub labelBits-more : (b : Bool) (k : ℕ) (ends label : List ℕ) (u : ℕ)
-    → opOf b (labelBits b k ends label u) (cond (touches ends u k) (at label k) (startOf b)) ≡ labelBits b (k + 1) ends label u
+    → opOf b (labelBits b k ends label u) (cond (touches ends u k) (at label k) (startOf b))
+    ≡ labelBits b (k + 1) ends label u
 unfolding labelBits
 labelBits-more b k ends label u = rw (add-one k)
 
@@ -91,7 +92,8 @@ module _ (m : ℕ) (ends label : List ℕ) (u : ℕ) (words : (i : ℕ) → at l
   -- where all labels are y there is nothing between the two
   level : (y : ℕ) → y ≤ ABSENT → ((i : ℕ) → i < m → T i ≡ true → at label i ≡ y) → low < high → ⊥
   unfolding labelBits
-  level y w same less = go (fold-one bitAnd ABSENT y (and-self ABSENT) (and-comm ABSENT y ∙ and-word y w) (and-word y w) (and-self y) m (value ABSENT) (λ i l. pick ABSENT i l (either (T i))))
+  level y w same less = go (fold-one bitAnd ABSENT y (and-self ABSENT) (and-comm ABSENT y
+      ∙ and-word y w) (and-word y w) (and-self y) m (value ABSENT) (λ i l. pick ABSENT i l (either (T i))))
       (fold-one bitOr 0 y refl (or-zero-l y) (or-zero-r y) (or-self y) m (value 0) (λ i l. pick 0 i l (either (T i))))
     where
       value : ℕ → ℕ → ℕ
@@ -118,7 +120,8 @@ module _ (m : ℕ) (ends label : List ℕ) (u : ℕ) (words : (i : ℕ) → at l
       met i = T i && some m (other i)
 
       first : (some m T ≡ true) ⊎ (some m T ≡ false) → some m met ≡ true
-      first (inr none) = absurd (level 0 (omega arith) (λ i l t. absurd (not-both (T i) t (some-none m T none i l))) less)
+      first (inr none) = absurd (level 0 (omega arith)
+          (λ i l t. absurd (not-both (T i) t (some-none m T none i l))) less)
       first (inl found) = second (either (some m (other j)))
         where
           w : (i : ℕ) × (i < m) × (T i ≡ true)
@@ -135,7 +138,8 @@ module _ (m : ℕ) (ends label : List ℕ) (u : ℕ) (words : (i : ℕ) → at l
 
           second : (some m (other j) ≡ true) ⊎ (some m (other j) ≡ false) → some m met ≡ true
           second (inl h) = some-exact m met .1 (j, w .1, and-true (T j) (some m (other j)) (w .2) h)
-          second (inr none) = absurd (level (at label j) (words j) (λ i l t. equal i t (some-none m (other j) none i l) (ℕ-discrete (at label i) (at label j))) less)
+          second (inr none) = absurd (level (at label j) (words j)
+              (λ i l t. equal i t (some-none m (other j) none i l) (ℕ-discrete (at label i) (at label j))) less)
 
   pub single-bits : ltb low high ≡ single m ends label u
   single-bits = same-test (ltb low high) (single m ends label u) meets spread
@@ -159,15 +163,18 @@ op-twice : (b : Bool) (x y : ℕ) → opOf b (opOf b x y) y ≡ opOf b x y
 op-twice true x y = or-again x y
 op-twice false x y = and-again x y
 
-labelBits-start : (b : Bool) (m : ℕ) (ends label : List ℕ) (u : ℕ) → opOf b (labelBits b m ends label u) (startOf b) ≡ labelBits b m ends label u
+labelBits-start : (b : Bool) (m : ℕ) (ends label : List ℕ) (u : ℕ) →
+    opOf b (labelBits b m ends label u) (startOf b) ≡ labelBits b m ends label u
 unfolding labelBits
 labelBits-start true m ends label u = or-zero-r (labelBits true m ends label u)
 labelBits-start false m ends label u =
-    and-word (labelBits false m ends label u) (all-start m (λ (j : ℕ). cond (touches ends u j) (at label j) ABSENT) ABSENT)
+    and-word (labelBits false m ends label u)
+    (all-start m (λ (j : ℕ). cond (touches ends u j) (at label j) ABSENT) ABSENT)
 
 -- both ends of a link
 pair : (b : Bool) (z x s a c u : ℕ) → opOf b z s ≡ z → Dec (a ≡ u) → Dec (c ≡ u)
-    → cond (eqb c u) (opOf b (cond (eqb a u) (opOf b z x) z) x) (cond (eqb a u) (opOf b z x) z) ≡ opOf b z (cond (eqb a u || eqb c u) x s)
+    → cond (eqb c u) (opOf b (cond (eqb a u) (opOf b z x) z) x) (cond (eqb a u) (opOf b z x) z)
+    ≡ opOf b z (cond (eqb a u || eqb c u) x s)
 pair b z x s a c u own (yes p) (yes q) = rw (eq-eqb a u p, eq-eqb c u q) (op-twice b z x)
 pair b z x s a c u own (yes p) (no q) = rw (eq-eqb a u p, ne-eqb c u q)
 pair b z x s a c u own (no p) (yes q) = rw (ne-eqb a u p, eq-eqb c u q)
@@ -203,11 +210,13 @@ module _ (b : Bool) (k : ℕ) (ends label t : List ℕ) (was : BitTable b k ends
         takes-at b once c x u (omega (arith, once-long)) (ℕ-discrete c u),
         takes-at b t a x u (omega (arith, was .long)) (ℕ-discrete a u),
         was .known u h,
-        pair b (labelBits b k ends label u) x (startOf b) a c u (labelBits-start b k ends label u) (ℕ-discrete a u) (ℕ-discrete c u),
+        pair b (labelBits b k ends label u) x (startOf b) a c u (labelBits-start b k ends label u) (ℕ-discrete a u)
+            (ℕ-discrete c u),
       ) (labelBits-more b k ends label u)
 
   -- link k is taken in by both of its ends
-  pub bits-more : BitTable b (k + 1) ends label (takesIn b (takesIn b t (endA ends k) (at label k)) (endB ends k) (at label k))
+  pub bits-more : BitTable b (k + 1) ends label
+      (takesIn b (takesIn b t (endA ends k) (at label k)) (endB ends k) (at label k))
   bits-more = record {
     long = length-set once (endB ends k) (opOf b (getD once (endB ends k) 0) (at label k)) ∙ once-long;
     known = twice-at;

@@ -31,11 +31,13 @@ pub sharing-none : (label : List ℕ) (x : ℕ) → sharing 0 label x ≡ 0
 unfolding sharing
 sharing-none label x = refl
 
-pub sharing-more : (k : ℕ) (label : List ℕ) (x : ℕ) → sharing k label x + cond (eqb (at label k) x) 1 0 ≡ sharing (k + 1) label x
+pub sharing-more : (k : ℕ) (label : List ℕ) (x : ℕ) →
+    sharing k label x + cond (eqb (at label k) x) 1 0 ≡ sharing (k + 1) label x
 unfolding sharing
 sharing-more k label x = rw (add-one k)
 
-pub sharing-other : (k : ℕ) (label : List ℕ) (x : ℕ) → (at label k ≡ x → ⊥) → sharing k label x ≡ sharing (k + 1) label x
+pub sharing-other : (k : ℕ) (label : List ℕ) (x : ℕ) → (at label k ≡ x → ⊥) →
+    sharing k label x ≡ sharing (k + 1) label x
 sharing-other k label x d = rw (← sharing-more k label x, ne-eqb (at label k) x d) (omega arith)
 
 -- ---- buckets: a label below 1,024 is the number of its bucket
@@ -49,14 +51,18 @@ pub record Shared (m : ℕ) (label bucket : List ℕ) : Type 0 where
   pub known : (q : ℕ) → q < BUCKETS → getD bucket q 0 ≡ sharing m label q
 
 pub shared-none : (label : List ℕ) → Shared 0 label (replicate BUCKETS 0)
-shared-none label = record { long = length-replicate {A = ℕ} BUCKETS 0; known = λ q h. getD-replicate BUCKETS q 0 0 h ∙ sym (sharing-none label q) }
+shared-none label = record {
+  long = length-replicate {A = ℕ} BUCKETS 0;
+  known = λ q h. getD-replicate BUCKETS q 0 0 h ∙ sym (sharing-none label q);
+}
 
 -- one more in bucket q, as a word
 abbrev pub counted : List ℕ → ℕ → List ℕ
 counted bucket q = set bucket q ((getD bucket q 0 + 1) % 65536)
 
 module _ (k : ℕ) (label bucket : List ℕ) (was : Shared k label bucket) (fits : k < ABSENT) where
-  one-more : (q : ℕ) → q < BUCKETS → Dec (q ≡ at label k) → getD (counted bucket (at label k)) q 0 ≡ sharing (k + 1) label q
+  one-more : (q : ℕ) → q < BUCKETS → Dec (q ≡ at label k) →
+      getD (counted bucket (at label k)) q 0 ≡ sharing (k + 1) label q
   one-more q h (yes e) =
       rw (
         ← e,
@@ -81,7 +87,8 @@ module _ (k : ℕ) (label bucket : List ℕ) (was : Shared k label bucket) (fits
   }
 
 -- a link whose label has no bucket
-pub shared-other : (k : ℕ) (label bucket : List ℕ) → Shared k label bucket → BUCKETS ≤ at label k → Shared (k + 1) label bucket
+pub shared-other : (k : ℕ) (label bucket : List ℕ) → Shared k label bucket → BUCKETS ≤ at label k →
+    Shared (k + 1) label bucket
 shared-other k label bucket was h = record {
   long = was .long;
   known = λ q l. was .known q l ∙ sharing-other k label q (λ e. omega (arith, e));
@@ -91,7 +98,8 @@ shared-other k label bucket was h = record {
 unfoldable pub lookup : ℕ → List ℕ → List ℕ → ℕ → ℕ → ℕ
 lookup m label bucket absent x = cond (ltb x BUCKETS) (at bucket x) (cond (eqb x ABSENT) absent (sharing m label x))
 
-module _ (m : ℕ) (label bucket : List ℕ) (all : Shared m label bucket) (absent : ℕ) (lost : absent ≡ sharing m label ABSENT) where
+module _ (m : ℕ) (label bucket : List ℕ) (all : Shared m label bucket) (absent : ℕ)
+    (lost : absent ≡ sharing m label ABSENT) where
   by-place : (x : ℕ) → Dec (x < BUCKETS) → Dec (x ≡ ABSENT) → lookup m label bucket absent x ≡ sharing m label x
   unfolding lookup
   by-place x (yes h) d = rw (lt-ltb x BUCKETS h, all .known x h)

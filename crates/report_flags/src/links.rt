@@ -56,7 +56,8 @@ fn count_labels(links: u16, label: &[u16], bucket: &mut [u16]) -> u16
     absent
 }
 
-// The count of the label `x` from the buckets, and from `absent` for the absent label; a label that no state holds is counted.
+// The count of the label `x` from the buckets, and from `absent` for the absent label; a label that no state holds is
+// counted.
 fn look_up<'a>(links: u16, label: &'a [u16], bucket: &'a [u16], absent: u16, x: u16) -> u16
     ensures { λ r. ⌜ r ≡ lookup links (now (label .entry)) (now (bucket .entry)) absent x ⌝ }
 {

@@ -79,7 +79,9 @@ fn take_in(any: bool, t: &mut [u16], a: u16, x: u16)
 
 // Both ends of link `j` take in its label.
 fn take_link<'a>(any: bool, ends: &'a [u16], label: &'a [u16], j: u16, t: &mut [u16])
-    ensures { λ _. ⌜ now (t .exit) ≡ takesIn any (takesIn any (now (t .entry)) (endA (now (ends .entry)) j) (at (now (label .entry)) j)) (endB (now (ends .entry)) j) (at (now (label .entry)) j) ⌝ }
+    ensures { λ _. ⌜ now (t .exit) ≡ takesIn any
+        (takesIn any (now (t .entry)) (endA (now (ends .entry)) j) (at (now (label .entry)) j))
+        (endB (now (ends .entry)) j) (at (now (label .entry)) j) ⌝ }
 {
     let at = 2 * (j as usize);
     let x = label_of(label, j);
@@ -95,7 +97,8 @@ fn label_tables<'a>(
     low: &mut [u16],
     high: &mut [u16],
 )
-    requires { ⌜ BitTable false 0 (now ends) (now label) (now low) × BitTable true 0 (now ends) (now label) (now high) ⌝ }
+    requires { ⌜ BitTable false 0 (now ends) (now label) (now low)
+        × BitTable true 0 (now ends) (now label) (now high) ⌝ }
     ensures low { λ _. ⌜ BitTable false links (now (ends .entry)) (now (label .entry)) (now (low .exit)) ⌝ }
     ensures high { λ _. ⌜ BitTable true links (now (ends .entry)) (now (label .entry)) (now (high .exit)) ⌝ }
 {

@@ -1,4 +1,5 @@
--- The lines of all units and of all links: what the tables say in each, and the lines one after the other over the front of a slice.
+-- The lines of all units and of all links: what the tables say in each, and the lines one after the other over the
+-- front of a slice.
 use mathlib.Core.Path.{_≡_, _∙_}
 use mathlib.Core.Bool.{cond}
 use mathlib.Core.List.{List, _++_}
@@ -35,16 +36,19 @@ pub linesOver-fits : (long n : ℕ) (body : ℕ → List ℕ) (out : List ℕ) �
 unfolding linesOver
 linesOver-fits long n body out h = rw (le-leb (long * n) (length out) h)
 
-pub linesOver-short : (long n : ℕ) (body : ℕ → List ℕ) (out : List ℕ) → length out < long * n → linesOver long n body out ≡ out
+pub linesOver-short : (long n : ℕ) (body : ℕ → List ℕ) (out : List ℕ) → length out < long * n →
+    linesOver long n body out ≡ out
 unfolding linesOver
 linesOver-short long n body out h = rw (lt-leb (long * n) (length out) h)
 
-pub length-lines : (long n : ℕ) (body : ℕ → List ℕ) → ((i : ℕ) → lineLength (body i) ≡ long) → length (linesOf n body) ≡ long * n
+pub length-lines : (long n : ℕ) (body : ℕ → List ℕ) → ((i : ℕ) → lineLength (body i) ≡ long) →
+    length (linesOf n body) ≡ long * n
 length-lines long n body h =
     length-gathered n long (λ (i : ℕ). lineOf (body i)) (λ (i : ℕ) (l : i < n). length-line (body i) ∙ h i)
 
 -- one line more, written to the lent rest past those laid down
-pub lines-next : (k : ℕ) (body : ℕ → List ℕ) (out : List ℕ) (at : ℕ) → length (linesOf k body) ≡ at → at + lineLength (body k) ≤ length out
+pub lines-next : (k : ℕ) (body : ℕ → List ℕ) (out : List ℕ) (at : ℕ) → length (linesOf k body) ≡ at →
+    at + lineLength (body k) ≤ length out
     → back at (linesOf k body ++ drop at out) (lineOver (body k) (lent at (linesOf k body ++ drop at out)))
     ≡ linesOf (k + 1) body ++ drop (at + lineLength (body k)) out
 lines-next k body out at e h = rw (add-one k) (line-next (body k) (linesOf k body) out at e h)

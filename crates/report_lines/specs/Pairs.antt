@@ -1,4 +1,5 @@
--- The two characters of a byte as one word, a table of them for all bytes, and a line laid down by stores of pairs, one after the other.
+-- The two characters of a byte as one word, a table of them for all bytes, and a line laid down by stores of pairs, one
+-- after the other.
 use mathlib.Core.Path.{_≡_, refl, _∙_}
 use mathlib.Core.List.{List, [], _∷_, _++_, append-assoc}
 use Prim.Native.Nat.{ℕ, _+_, _*_, _-_, _/_, _%_, _≤_, _<_}
@@ -73,7 +74,8 @@ hexAt at b out = set (set out at (digitOf (b / 16))) (at + 1) (digitOf (b % 16))
 abbrev pub wordHexAt : ℕ → ℕ → List ℕ → List ℕ
 wordHexAt at w out = hexAt (at + 2) (w % 256) (hexAt at (w / 256 % 256) out)
 
-pub hex-stored : (at b : ℕ) (out : List ℕ) → set (set out at (digitOf (b / 16))) (at + 1) (digitOf (b % 16)) ≡ hexAt at b out
+pub hex-stored : (at b : ℕ) (out : List ℕ) →
+    set (set out at (digitOf (b / 16))) (at + 1) (digitOf (b % 16)) ≡ hexAt at b out
 unfolding hexAt
 hex-stored at b out = refl
 
@@ -102,7 +104,12 @@ word-more f out at w e h =
     let high = w / 256 % 256 in
     let further : at + 4 ≡ at + 2 + 2 = omega arith in
     let longer : 2 * length (f ++ high ∷ []) ≡ at + 2 = omega (arith, length-append f (high ∷ [])) in
-    rw (hex-more f out at high e (omega arith), hex-more (f ++ high ∷ []) out (at + 2) (w % 256) longer (omega arith), further, append-assoc f (high ∷ []) (w % 256 ∷ []))
+    rw (
+      hex-more f out at high e (omega arith),
+      hex-more (f ++ high ∷ []) out (at + 2) (w % 256) longer (omega arith),
+      further,
+      append-assoc f (high ∷ []) (w % 256 ∷ []),
+    )
 
 -- the check byte from the sum of the bytes laid down, and the line feed
 row-closed : (f out : List ℕ) (at : ℕ) → 2 * length f ≡ at → at + 3 ≤ length out
@@ -115,11 +122,13 @@ row-closed f out at e h = rw (← e) (line-laid f out (omega arith))
 -- a slice after the stores of a row: kind, numbers and flag, then the byte that brings the sum to 0, then the line feed
 abbrev unitStored : ℕ → ℕ → ℕ → ℕ → ℕ → ℕ → List ℕ → List ℕ
 unitStored sum unit color parent place single out =
-    set (hexAt 20 ((256 - sum) % 256) (hexAt 18 single (wordHexAt 14 place (wordHexAt 10 parent (wordHexAt 6 color (wordHexAt 2 unit (hexAt 0 UNIT out))))))) 22 LF
+    set (hexAt 20 ((256 - sum) % 256) (hexAt 18 single
+    (wordHexAt 14 place (wordHexAt 10 parent (wordHexAt 6 color (wordHexAt 2 unit (hexAt 0 UNIT out))))))) 22 LF
 
 abbrev labelStored : ℕ → ℕ → ℕ → ℕ → List ℕ → List ℕ
 labelStored sum position label lone out =
-    set (hexAt 12 ((256 - sum) % 256) (hexAt 10 lone (wordHexAt 6 label (wordHexAt 2 position (hexAt 0 LABEL out))))) 14 LF
+    set (hexAt 12 ((256 - sum) % 256) (hexAt 10 lone (wordHexAt 6 label (wordHexAt 2 position (hexAt 0 LABEL out))))) 14
+    LF
 
 pub unit-laid : (unit color parent place single : ℕ) (out : List ℕ) → 23 ≤ length out
     → unitStored (sumOf (unitBody unit color parent place single) % 256) unit color parent place single out
@@ -139,7 +148,8 @@ unit-laid unit color parent place single out h =
     ) (row-closed (a ++ single ∷ []) out 20 refl (omega arith))
 
 pub label-laid : (position label lone : ℕ) (out : List ℕ) → 15 ≤ length out
-    → labelStored (sumOf (labelBody position label lone) % 256) position label lone out ≡ lineOver (labelBody position label lone) out
+    → labelStored (sumOf (labelBody position label lone) % 256) position label lone out
+    ≡ lineOver (labelBody position label lone) out
 label-laid position label lone out h =
     let j : List ℕ = LABEL ∷ wordBytes position in
     let x : List ℕ = j ++ wordBytes label in
@@ -152,11 +162,13 @@ label-laid position label lone out h =
 
 -- ---- sums in eight bits
 
-pub word-sum : (sum w a r : ℕ) → a ≡ (sum + w / 256 % 256) % 256 → r ≡ (a + w % 256) % 256 → r ≡ (sum + w / 256 % 256 + w % 256) % 256
+pub word-sum : (sum w a r : ℕ) → a ≡ (sum + w / 256 % 256) % 256 → r ≡ (a + w % 256) % 256 →
+    r ≡ (sum + w / 256 % 256 + w % 256) % 256
 word-sum sum w a r p q = omega arith
 
 -- the sum of a body with one part more
-sum-word : (f : List ℕ) (w a r : ℕ) → a ≡ sumOf f % 256 → r ≡ (a + w / 256 % 256 + w % 256) % 256 → r ≡ sumOf (f ++ wordBytes w) % 256
+sum-word : (f : List ℕ) (w a r : ℕ) → a ≡ sumOf f % 256 → r ≡ (a + w / 256 % 256 + w % 256) % 256 →
+    r ≡ sumOf (f ++ wordBytes w) % 256
 unfolding sumOf
 sum-word f w a r p q = omega (arith, sum-append f (wordBytes w))
 
@@ -180,7 +192,8 @@ unit-sum unit color parent place single a b c d r ea eb ec ed er =
     let g : List ℕ = f ++ wordBytes color in
     let h : List ℕ = g ++ wordBytes parent in
     sum-byte (h ++ wordBytes place) single d r
-    (sum-word h place c d (sum-word g parent b c (sum-word f color a b (sum-word (UNIT ∷ []) unit UNIT a (sum-kind UNIT (omega arith)) ea) eb) ec) ed)
+    (sum-word h place c d (sum-word g parent b c
+    (sum-word f color a b (sum-word (UNIT ∷ []) unit UNIT a (sum-kind UNIT (omega arith)) ea) eb) ec) ed)
     er
 
 pub label-sum : (position label lone a b r : ℕ)
@@ -190,4 +203,5 @@ pub label-sum : (position label lone a b r : ℕ)
     → r ≡ sumOf (labelBody position label lone) % 256
 label-sum position label lone a b r ea eb er =
     let f : List ℕ = LABEL ∷ wordBytes position in
-    sum-byte (f ++ wordBytes label) lone b r (sum-word f label a b (sum-word (LABEL ∷ []) position LABEL a (sum-kind LABEL (omega arith)) ea) eb) er
+    sum-byte (f ++ wordBytes label) lone b r
+    (sum-word f label a b (sum-word (LABEL ∷ []) position LABEL a (sum-kind LABEL (omega arith)) ea) eb) er

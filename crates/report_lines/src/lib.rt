@@ -1,4 +1,5 @@
-// The lines of a report. Those of all units and of all links stand one after the other: each is written to the rest of the slice, past those before it.
+// The lines of a report. Those of all units and of all links stand one after the other: each is written to the rest of
+// the slice, past those before it.
 ghost use mathlib.Core.Path.{_≡_};
 ghost use Prim.Native.Nat.{_≤_};
 ghost use lib.ListN.{length};
@@ -24,7 +25,9 @@ fn unit_at<'a>(
     out: &mut [u8],
 )
     requires { ⌜ (now pairs ≡ pairTable) × (23 ≤ length (now out)) ⌝ }
-    ensures { λ _. ⌜ now (out .exit) ≡ lineOver (unitRow (now (color .entry)) (now (parent .entry)) (now (place .entry)) (now (singles .entry)) v) (now (out .entry)) ⌝ }
+    ensures { λ _. ⌜ now (out .exit) ≡ lineOver
+        (unitRow (now (color .entry)) (now (parent .entry)) (now (place .entry)) (now (singles .entry)) v)
+        (now (out .entry)) ⌝ }
 {
     let i = v as usize;
     let c = base_slices::word(color, i);
@@ -43,7 +46,9 @@ pub fn unit_lines<'a>(
     singles: &'a [u8],
     out: &mut [u8],
 )
-    ensures { λ _. ⌜ now (out .exit) ≡ linesOver 23 units (unitRow (now (color .entry)) (now (parent .entry)) (now (place .entry)) (now (singles .entry))) (now (out .entry)) ⌝ }
+    ensures { λ _. ⌜ now (out .exit) ≡ linesOver 23 units
+        (unitRow (now (color .entry)) (now (parent .entry)) (now (place .entry)) (now (singles .entry)))
+        (now (out .entry)) ⌝ }
 {
     if out.len() < 23 * (units as usize) {
         return;
@@ -60,7 +65,8 @@ pub fn unit_lines<'a>(
 // The line of link `j`.
 fn link_at<'a>(pairs: &'a [u16], j: u16, label: &'a [u16], lones: &'a [u8], out: &mut [u8])
     requires { ⌜ (now pairs ≡ pairTable) × (15 ≤ length (now out)) ⌝ }
-    ensures { λ _. ⌜ now (out .exit) ≡ lineOver (labelRow (now (label .entry)) (now (lones .entry)) j) (now (out .entry)) ⌝ }
+    ensures { λ _. ⌜ now (out .exit) ≡ lineOver (labelRow (now (label .entry)) (now (lones .entry)) j)
+        (now (out .entry)) ⌝ }
 {
     let i = j as usize;
     let x = base_slices::word(label, i);
@@ -70,7 +76,8 @@ fn link_at<'a>(pairs: &'a [u16], j: u16, label: &'a [u16], lones: &'a [u8], out:
 
 // The lines of all links; nothing where they do not fit.
 pub fn link_lines<'a>(links: u16, label: &'a [u16], lones: &'a [u8], out: &mut [u8])
-    ensures { λ _. ⌜ now (out .exit) ≡ linesOver 15 links (labelRow (now (label .entry)) (now (lones .entry))) (now (out .entry)) ⌝ }
+    ensures { λ _. ⌜ now (out .exit) ≡ linesOver 15 links (labelRow (now (label .entry)) (now (lones .entry)))
+        (now (out .entry)) ⌝ }
 {
     if out.len() < 15 * (links as usize) {
         return;

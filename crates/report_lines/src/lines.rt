@@ -1,4 +1,5 @@
-// The first and the last line of a report, each over the front of a lent slice; nothing is written where it does not fit.
+// The first and the last line of a report, each over the front of a lent slice; nothing is written where it does not
+// fit.
 ghost use mathlib.Core.Path.{_≡_};
 ghost use Rattle.file_frames.specs.Frame.{lineOver};
 ghost use Rattle.file_frames.specs.Bodies.{headBody, tailBody};

@@ -1,4 +1,5 @@
-// One unit's or one link's line over the front of a slice that holds it, by the table of pairs: no branch, and no test of an index.
+// One unit's or one link's line over the front of a slice that holds it, by the table of pairs: no branch, and no test
+// of an index.
 ghost use mathlib.Core.Path.{_≡_};
 ghost use Prim.Native.Nat.{_+_, _≤_, _/_, _%_};
 ghost use lib.ListN.{length};

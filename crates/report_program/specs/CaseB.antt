@@ -12,7 +12,8 @@ use Rattle.spec_machine.specs.Run.{ran}
 use Rattle.spec_machine.specs.RunLaws.{total, ran-made}
 use Rattle.spec_machine.specs.Report.{report}
 use Rattle.spec_machine.specs.Cases.{siteB, reportB, accepted-B, report-B}
-use Rattle.report_program.specs.Printed.{MAX-INPUT, WORDS, LEVELS, surveyed, tableIn, printedTable, printedRead, printed}
+use Rattle.report_program.specs.Printed.{MAX-INPUT, WORDS, LEVELS, surveyed, tableIn, printedTable, printedRead}
+use Rattle.report_program.specs.Printed.{printed}
 use Rattle.report_program.specs.PrintedLaws.{surveyed-end}
 use Rattle.report_program.specs.LaidLaws.{input-short}
 

@@ -14,11 +14,13 @@ use borrow.Author.Tests.{eq-eqb, ne-eqb, lt-ltb, le-ltb, le-leb, lt-leb, eqb-tru
 use Rattle.base_lists.specs.All.{cond-keeps}
 use Rattle.base_lists.specs.Tests.{either}
 use Rattle.table.specs.Refusals.{written}
-use Rattle.table.specs.Table.{badUnitCount, oddWords, tooManyLinks, levelsDiffer, levelOutside, endMissing, equalEnds, repeatedLink, storedRefusal}
+use Rattle.table.specs.Table.{badUnitCount, oddWords, tooManyLinks, levelsDiffer, levelOutside, endMissing, equalEnds}
+use Rattle.table.specs.Table.{repeatedLink, storedRefusal}
 use Rattle.file_frames.specs.Frame.{lineOver}
 use Rattle.file_frames.specs.Bodies.{refusalBody}
 use Rattle.file_frames.specs.FrameLaws.{length-line}
-use Rattle.file_spec.specs.File.{linesOf, readRefusal, readReply, readWords, unitsIn, linkFrames, endsIn, levelsIn, readLevels}
+use Rattle.file_spec.specs.File.{linesOf, readRefusal, readReply, readWords, unitsIn, linkFrames, endsIn, levelsIn}
+use Rattle.file_spec.specs.File.{readLevels}
 use Rattle.file_spec.specs.LineSteps.{length-ends, length-levels}
 use Rattle.file_spec.specs.ReadLaws.{accepted-sound, unread-told, read-told}
 use Rattle.file_spec.specs.declared.Reading.{Reading}
@@ -31,8 +33,10 @@ use Rattle.spec_machine.specs.Load.{Input, linksIn, storedLoadRefusal, begun, l
 use Rattle.spec_machine.specs.StepLaws.{loaded-wellFormed}
 use Rattle.spec_machine.specs.Report.{report, reportLength}
 use Rattle.spec_machine.specs.ReportLaws.{length-report}
-use Rattle.spec_machine.specs.Calls.{numberOf, answered, storedLoadAnswer, roundRefusal, runAnswer, reportRefusal, reportAnswer, reported}
-use Rattle.report_program.specs.Printed.{MAX-INPUT, WORDS, LEVELS, countOf, refusalLine, surveyed, tableIn, printedTable, printedRead, unreadBy, printed, laidOver, laidCount}
+use Rattle.spec_machine.specs.Calls.{numberOf, answered, storedLoadAnswer, roundRefusal, runAnswer, reportRefusal}
+use Rattle.spec_machine.specs.Calls.{reportAnswer, reported}
+use Rattle.report_program.specs.Printed.{MAX-INPUT, WORDS, LEVELS, countOf, refusalLine, surveyed, tableIn}
+use Rattle.report_program.specs.Printed.{printedTable, printedRead, unreadBy, printed, laidOver, laidCount}
 use Rattle.report_program.specs.PrintedLaws.{surveyed-table, surveyed-finished, surveyed-wellFormed}
 
 -- ---- laying down
@@ -101,7 +105,8 @@ module _ (input : Input) where
     unfinished = refl
 
     -- a load of a stored table on any state and a run with the greatest budget leave the survey
-    pub survey-left : (s begun ended : State) → begun ≡ storedLoadAnswer input s .state → ended ≡ runAnswer 65535 begun .state → ended ≡ surveyed input
+    pub survey-left : (s begun ended : State) → begun ≡ storedLoadAnswer input s .state →
+        ended ≡ runAnswer 65535 begun .state → ended ≡ surveyed input
     unfolding storedLoadAnswer runAnswer roundRefusal
     survey-left s begun ended l r = rw (r, l, accepted) (rw (loaded-wellFormed input accepted, unfinished) refl)
 
@@ -120,39 +125,54 @@ module _ (input : Input) where
     printed-length : length (printedTable input) ≡ reportLength (input .units) (linksIn input)
     unfolding loaded begun
     printed-length =
-        ap length table-printed ∙ length-report (surveyed input) ∙ ap (λ (x : Table). reportLength (x .units) (x .links)) (surveyed-table input accepted)
+        ap length table-printed ∙ length-report (surveyed input)
+        ∙ ap (λ (x : Table). reportLength (x .units) (x .links)) (surveyed-table input accepted)
 
     -- refused only where it has too few places
-    report-refusal : (places : ℕ) → reportRefusal (surveyed input) places ≡ cond (ltb places (length (printedTable input))) 14 0
+    report-refusal : (places : ℕ) → reportRefusal (surveyed input) places
+        ≡ cond (ltb places (length (printedTable input))) 14 0
     unfolding reportRefusal
     report-refusal places = rw (well, at-end, table-printed, length-report (surveyed input)) refl
 
-    report-number : (places : ℕ) → numberOf (reportAnswer places (surveyed input) .reply) ≡ cond (ltb places (length (printedTable input))) 14 0
+    report-number : (places : ℕ) → numberOf (reportAnswer places (surveyed input) .reply)
+        ≡ cond (ltb places (length (printedTable input))) 14 0
     unfolding reportAnswer
     report-number places = rw (report-refusal places) (go (ltb places (length (printedTable input))))
       where
-        go : (b : Bool) → numberOf (answered (cond b 14 0) (surveyed input) (surveyed input) (Written (reportLength (units (surveyed input)) (links (surveyed input)))) .reply) ≡ cond b 14 0
+        go : (b : Bool) → numberOf (answered (cond b 14 0) (surveyed input) (surveyed input)
+            (Written (reportLength (units (surveyed input)) (links (surveyed input)))) .reply) ≡ cond b 14 0
         go true = refl
         go false = refl
 
     pub report-laid : (out : List ℕ) → reported (surveyed input) out ≡ laidOver (printedTable input) out
     unfolding reported laidOver
-    report-laid out = rw (report-refusal (length out), sym table-printed) (go (ltb (length out) (length (printedTable input))))
+    report-laid out = rw (
+      report-refusal (length out),
+      sym table-printed,
+    ) (go (ltb (length out) (length (printedTable input))))
       where
-        go : (b : Bool) → written (cond b 14 0) (printedTable input) out ≡ cond b out (printedTable input ++ drop (length (printedTable input)) out)
+        go : (b : Bool) → written (cond b 14 0) (printedTable input) out
+            ≡ cond b out (printedTable input ++ drop (length (printedTable input)) out)
         go true = refl
         go false = refl
 
     -- and then so many characters are written
-    pub report-count : (places : ℕ) → countOf (reportAnswer places (surveyed input) .reply) ≡ laidCount (printedTable input) places
+    pub report-count : (places : ℕ) → countOf (reportAnswer places (surveyed input) .reply)
+        ≡ laidCount (printedTable input) places
     unfolding reportAnswer laidCount
-    report-count places = rw (report-refusal places, sym (length-report (surveyed input)), sym table-printed) (go (ltb places (length (printedTable input))))
+    report-count places = rw (
+      report-refusal places,
+      sym (length-report (surveyed input)),
+      sym table-printed,
+    ) (go (ltb places (length (printedTable input))))
       where
-        go : (b : Bool) → countOf (answered (cond b 14 0) (surveyed input) (surveyed input) (Written (length (printedTable input))) .reply) ≡ cond b 0 (length (printedTable input))
+        go : (b : Bool) → countOf (answered (cond b 14 0) (surveyed input) (surveyed input)
+            (Written (length (printedTable input))) .reply) ≡ cond b 0 (length (printedTable input))
         go true = refl
         go false = refl
 
-    pub report-none : (places : ℕ) → (numberOf (reportAnswer places (surveyed input) .reply) ≡ 0 → ⊥) → 0 ≡ laidCount (printedTable input) places
+    pub report-none : (places : ℕ) → (numberOf (reportAnswer places (surveyed input) .reply) ≡ 0 → ⊥) →
+        0 ≡ laidCount (printedTable input) places
     unfolding laidCount
     report-none places refused = go (ltb places (length (printedTable input))) (λ z. refused (report-number places ∙ z))
       where
@@ -160,9 +180,11 @@ module _ (input : Input) where
         go true some = refl
         go false some = absurd (some refl)
 
-    pub report-all : (places : ℕ) → numberOf (reportAnswer places (surveyed input) .reply) ≡ 0 → reportLength (input .units) (linksIn input) ≡ laidCount (printedTable input) places
+    pub report-all : (places : ℕ) → numberOf (reportAnswer places (surveyed input) .reply) ≡ 0 →
+        reportLength (input .units) (linksIn input) ≡ laidCount (printedTable input) places
     unfolding laidCount
-    report-all places made = sym printed-length ∙ go (ltb places (length (printedTable input))) (sym (report-number places) ∙ made)
+    report-all places made = sym printed-length
+        ∙ go (ltb places (length (printedTable input))) (sym (report-number places) ∙ made)
       where
         go : (b : Bool) → cond {A = ℕ} b 14 0 ≡ 0 → length (printedTable input) ≡ cond b 0 (length (printedTable input))
         go true z = omega (arith, z)
@@ -201,19 +223,25 @@ module _ (input : List ℕ) (places spaces : ℕ) where
   taken-few z = accepted-sound (linesOf input) places spaces (taken-read z) .few
 
   -- what is taken stands in front
-  module _ (k n m : ℕ) (words after : List ℕ) (levels heard : List ℤ) (ek : k ≡ unread) (en : n ≡ cond (eqb unread 0) (tableIn input .units) 0)
-      (em : m ≡ cond (eqb unread 0) (linkFrames (linesOf input)) 0) (ew : after ≡ written unread (tableIn input .words) words)
+  module _ (k n m : ℕ) (words after : List ℕ) (levels heard : List ℤ) (ek : k ≡ unread)
+      (en : n ≡ cond (eqb unread 0) (tableIn input .units) 0)
+      (em : m ≡ cond (eqb unread 0) (linkFrames (linesOf input)) 0)
+      (ew : after ≡ written unread (tableIn input .words) words)
       (el : heard ≡ written unread (tableIn input .levels) levels) where
-    pub taken-table : printedRead k (record { units = n; words = take (2 * m) after; levels = take m heard }) ≡ printedRead unread (tableIn input)
+    pub taken-table : printedRead k (record { units = n; words = take (2 * m) after; levels = take m heard })
+        ≡ printedRead unread (tableIn input)
     taken-table = go (ℕ-discrete unread 0)
       where
-        go : Dec (unread ≡ 0) → printedRead k (record { units = n; words = take (2 * m) after; levels = take m heard }) ≡ printedRead unread (tableIn input)
+        go : Dec (unread ≡ 0) → printedRead k (record { units = n; words = take (2 * m) after; levels = take m heard })
+            ≡ printedRead unread (tableIn input)
         go (yes z) =
             let e : m ≡ linkFrames (linesOf input) = rw z at em in
             let front : take (2 * m) after ≡ endsIn (linesOf input) =
-            rw (ew, z) (take-at (endsIn (linesOf input)) (drop (length (endsIn (linesOf input))) words) (2 * m) (length-ends (linesOf input) ∙ ap (λ (x : ℕ). 2 * x) (sym e))) in
+            rw (ew, z) (take-at (endsIn (linesOf input)) (drop (length (endsIn (linesOf input))) words) (2 * m)
+            (length-ends (linesOf input) ∙ ap (λ (x : ℕ). 2 * x) (sym e))) in
             let first : take m heard ≡ levelsIn (linesOf input) =
-            rw (el, z) (take-at (levelsIn (linesOf input)) (drop (length (levelsIn (linesOf input))) levels) m (length-levels (linesOf input) ∙ sym e)) in
+            rw (el, z) (take-at (levelsIn (linesOf input)) (drop (length (levelsIn (linesOf input))) levels) m
+            (length-levels (linesOf input) ∙ sym e)) in
             let count : n ≡ unitsIn (linesOf input) = rw z at en in
             rw (ek, front, first, count) refl
         go (no h) = rw ek (read-refused unread _ h ∙ sym (read-refused unread _ h))
@@ -225,14 +253,17 @@ module _ (input : List ℕ) (places spaces : ℕ) where
         let (q, h) = unread-told input places spaces k e in
         (q ∙ sym (input-short short), λ z. h (taken-read z))
 
-    pub taken-told : (u m : ℕ) → readReply input places spaces ≡ Read u m → (unread ≡ 0) × (u ≡ unitsIn (linesOf input)) × (m ≡ linkFrames (linesOf input))
+    pub taken-told : (u m : ℕ) → readReply input places spaces ≡ Read u m →
+        (unread ≡ 0) × (u ≡ unitsIn (linesOf input)) × (m ≡ linkFrames (linesOf input))
     taken-told u m e = let r = read-told input places spaces u m e in (input-short short ∙ r .0, r .1, r .2)
 
 module _ (input words : List ℕ) (levels : List ℤ) (short : length input ≤ MAX-INPUT) where
-  pub taken-words : readWords input words (length levels) ≡ written (unreadBy input (length words) (length levels)) (tableIn input .words) words
+  pub taken-words : readWords input words (length levels)
+      ≡ written (unreadBy input (length words) (length levels)) (tableIn input .words) words
   unfolding readWords
   taken-words = rw (input-short input (length words) (length levels) short) refl
 
-  pub taken-levels : readLevels input (length words) levels ≡ written (unreadBy input (length words) (length levels)) (tableIn input .levels) levels
+  pub taken-levels : readLevels input (length words) levels
+      ≡ written (unreadBy input (length words) (length levels)) (tableIn input .levels) levels
   unfolding readLevels
   taken-levels = rw (input-short input (length words) (length levels) short) refl

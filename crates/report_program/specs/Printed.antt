@@ -1,5 +1,5 @@
--- What the program prints for its input: the report of the finished survey, or only the 1E line of the refusal. Reading comes before loading, and a file is
--- loaded as a stored table (document 02, T-10).
+-- What the program prints for its input: the report of the finished survey, or only the 1E line of the refusal. Reading
+-- comes before loading, and a file is loaded as a stored table (document 02, T-10).
 use mathlib.Core.Bool.{Bool, cond}
 use mathlib.Core.List.{List, _++_}
 use Prim.Native.Nat.{ℕ}
@@ -42,13 +42,18 @@ printedTable input =
 
 -- what a file's lines say: the unit count in its first, the ends and levels in its 02 and 03 frames
 abbrev pub tableIn : List ℕ → Input
-tableIn file = record { units = unitsIn (linesOf file); words = endsIn (linesOf file); levels = levelsIn (linesOf file) }
+tableIn file = record {
+  units = unitsIn (linesOf file);
+  words = endsIn (linesOf file);
+  levels = levelsIn (linesOf file);
+}
 
 -- what is printed of a table, or of the number by which reading it was refused
 unfoldable pub printedRead : ℕ → Input → List ℕ
 printedRead unread input = let whole = printedTable input in cond (eqb unread 0) whole (refusalLine unread)
 
--- the number by which an input is refused before a load: 1 where it is too long, else that of reading it into so many words and levels; 0 where it is taken
+-- the number by which an input is refused before a load: 1 where it is too long, else that of reading it into so many
+-- words and levels; 0 where it is taken
 unfoldable pub unreadBy : List ℕ → ℕ → ℕ → ℕ
 unreadBy input places spaces = cond (ltb MAX-INPUT (length input)) 1 (readRefusal (linesOf input) places spaces)
 

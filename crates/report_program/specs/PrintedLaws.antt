@@ -15,7 +15,8 @@ use Rattle.spec_machine.specs.Load.{Input, storedLoadRefusal, tableOf, loaded}
 use Rattle.spec_machine.specs.Step.{steps}
 use Rattle.spec_machine.specs.StepLaws.{loaded-wellFormed, first-countdown}
 use Rattle.spec_machine.specs.Run.{ran}
-use Rattle.spec_machine.specs.RunLaws.{Made, ran-made, total, total-least, total-countdown, ended-exact, steps-wellFormed}
+use Rattle.spec_machine.specs.RunLaws.{Made, ran-made, total, total-least, total-countdown, ended-exact}
+use Rattle.spec_machine.specs.RunLaws.{steps-wellFormed}
 use Rattle.theory_reach.specs.Started.{Started, loaded-started}
 use Rattle.theory_reach.specs.Reach.{SurveyRight, survey-right, table-steps}
 use Rattle.report_program.specs.Printed.{surveyed}
@@ -35,16 +36,24 @@ module _ (input : Input) (accepted : storedLoadRefusal input ≡ 0) where
 
   -- the greatest budget is more than enough
   all-made : ran 65535 0 (loaded input) .1 ≡ total (loaded input)
-  all-made = omega (arith, at-least (made .stops), at-most (decLt (total (loaded input)) (ran 65535 0 (loaded input) .1)))
+  all-made = omega (
+    arith,
+    at-least (made .stops),
+    at-most (decLt (total (loaded input)) (ran 65535 0 (loaded input) .1)),
+  )
     where
-      at-least : (ran 65535 0 (loaded input) .1 ≡ 65535) ⊎ (finished (ran 65535 0 (loaded input) .0) ≡ true) → total (loaded input) ≤ ran 65535 0 (loaded input) .1
+      at-least : (ran 65535 0 (loaded input) .1 ≡ 65535) ⊎ (finished (ran 65535 0 (loaded input) .0) ≡ true) →
+          total (loaded input) ≤ ran 65535 0 (loaded input) .1
       at-least (inl e) = omega (arith, few)
       at-least (inr f) =
-          ended-exact (loaded input) w (ran 65535 0 (loaded input) .1) .0 (rw (← (made .state)) (eqb-true (ran 65535 0 (loaded input) .0 .clock .stage) FINISHED f))
+          ended-exact (loaded input) w (ran 65535 0 (loaded input) .1) .0
+          (rw (← (made .state)) (eqb-true (ran 65535 0 (loaded input) .0 .clock .stage) FINISHED f))
 
-      at-most : Dec (total (loaded input) < ran 65535 0 (loaded input) .1) → ran 65535 0 (loaded input) .1 ≤ total (loaded input)
+      at-most : Dec (total (loaded input) < ran 65535 0 (loaded input) .1) →
+          ran 65535 0 (loaded input) .1 ≤ total (loaded input)
       at-most (yes l) =
-          absurd (not-both (finished (steps (total (loaded input)) (loaded input))) (eq-eqb _ FINISHED (total-least (loaded input) w .ends)) (made .going (total (loaded input)) l))
+          absurd (not-both (finished (steps (total (loaded input)) (loaded input)))
+          (eq-eqb _ FINISHED (total-least (loaded input) w .ends)) (made .going (total (loaded input)) l))
       at-most (no l) = omega arith
 
   pub surveyed-end : surveyed input ≡ steps (total (loaded input)) (loaded input)

@@ -31,11 +31,13 @@ use Rattle.spec_machine.specs.State.{State, units, links}
 use Rattle.spec_machine.specs.Load.{Input, linksIn, storedLoadRefusal, loaded}
 use Rattle.spec_machine.specs.StepLaws.{loaded-wellFormed}
 use Rattle.spec_machine.specs.RunLaws.{total, total-least, total-countdown}
-use Rattle.spec_machine.specs.Report.{unitSingle, linkLabel, linkLone, flag, report, reportLength, headLine, unitLine, linkLine, tailLine}
+use Rattle.spec_machine.specs.Report.{unitSingle, linkLabel, linkLone, flag, report, reportLength, headLine, unitLine}
+use Rattle.spec_machine.specs.Report.{linkLine, tailLine}
 use Rattle.spec_machine.specs.ReportLaws.{length-head, units-long, links-long, length-report, head-at, unit-at, link-at}
 use Rattle.theory_reach.specs.Started.{loaded-started}
 use Rattle.theory_reach.specs.Reach.{rounds-steps}
-use Rattle.report_program.specs.Printed.{MAX-INPUT, WORDS, LEVELS, refusalLine, surveyed, tableIn, printedTable, printedRead, unreadBy, printed}
+use Rattle.report_program.specs.Printed.{MAX-INPUT, WORDS, LEVELS, refusalLine, surveyed, tableIn, printedTable}
+use Rattle.report_program.specs.Printed.{printedRead, unreadBy, printed}
 use Rattle.report_program.specs.PrintedLaws.{surveyed-end, surveyed-table, surveyed-right}
 use Rattle.report_program.specs.Program.{programReasons, programNumbers, SurveyPrinted, ProgramRight}
 
@@ -61,7 +63,8 @@ member-byte (x ∷ l) h k (inr m) = member-byte l (h .2) k m
 -- ---- the lines of a report, by its numbers of units and links
 
 module _ (s : State) (n m : ℕ) (un : units s ≡ n) (ln : links s ≡ m) where
-  link-by : (j : ℕ) → j < m → take 15 (drop (13 + 23 * n + 15 * j) (report s ++ [])) ≡ lineOf (labelBody j (linkLabel s j) (flag (linkLone s j)))
+  link-by : (j : ℕ) → j < m → take 15 (drop (13 + 23 * n + 15 * j) (report s ++ []))
+      ≡ lineOf (labelBody j (linkLabel s j) (flag (linkLone s j)))
   unfolding linkLine
   link-by j l = rw (← un) (link-at s [] j (rw ln l))
 
@@ -70,7 +73,8 @@ module _ (s : State) (n m : ℕ) (un : units s ≡ n) (ln : links s ≡ m) where
   unfolding report tailLine
   tail-by =
       rw (← un, ← ln)
-      (drop-at (headLine s ++ gathered (units s) (unitLine s) ++ gathered (links s) (linkLine s)) (tailLine s) (13 + 23 * units s + 15 * links s)
+      (drop-at (headLine s ++ gathered (units s) (unitLine s) ++ gathered (links s) (linkLine s)) (tailLine s)
+      (13 + 23 * units s + 15 * links s)
       (simp length-append (omega (arith, length-head s, units-long s, links-long s))))
 
 -- ---- the first cause
@@ -101,29 +105,35 @@ module _ (input : List ℕ) where
   refusal-long l = rw (lt-ltb MAX-INPUT (length input) l) refl
 
   module _ (short : length input ≤ MAX-INPUT) where
-    after-length : refusal ≡ firstOf (tests (readReasons (linesOf input) WORDS LEVELS) ++ tests (storedReasons (tableIn input .units) (tableIn input .words) (tableIn input .levels)))
+    after-length : refusal ≡ firstOf (tests (readReasons (linesOf input) WORDS LEVELS)
+        ++ tests (storedReasons (tableIn input .units) (tableIn input .words) (tableIn input .levels)))
     unfolding refusal
     after-length =
         rw (le-ltb MAX-INPUT (length input) short)
-        (ap firstOf (tests-append (readReasons (linesOf input) WORDS LEVELS) (storedReasons (tableIn input .units) (tableIn input .words) (tableIn input .levels))))
+        (ap firstOf (tests-append (readReasons (linesOf input) WORDS LEVELS)
+        (storedReasons (tableIn input .units) (tableIn input .words) (tableIn input .levels))))
 
     refusal-unread : (unread ≡ 0 → ⊥) → refusal ≡ unread
     unfolding unread
     refusal-unread h =
-        let e : readRefusal (linesOf input) WORDS LEVELS ≡ firstOf (tests (readReasons (linesOf input) WORDS LEVELS)) = readRefusal-tests (linesOf input) WORDS LEVELS in
+        let e : readRefusal (linesOf input) WORDS LEVELS ≡ firstOf (tests (readReasons (linesOf input) WORDS LEVELS)) =
+        readRefusal-tests (linesOf input) WORDS LEVELS in
         after-length ∙ (first-some (tests (readReasons (linesOf input) WORDS LEVELS)) _ (λ z. h (e ∙ z)) ∙ sym e)
 
     refusal-unloaded : unread ≡ 0 → refusal ≡ unloaded
     unfolding unread unloaded readReasons storedReasons storedRefusal
     refusal-unloaded z =
         after-length
-        ∙ first-none (tests (readReasons (linesOf input) WORDS LEVELS)) (tests (storedReasons (tableIn input .units) (tableIn input .words) (tableIn input .levels))) (omega arith) (sym (readRefusal-tests (linesOf input) WORDS LEVELS) ∙ z)
+        ∙ first-none (tests (readReasons (linesOf input) WORDS LEVELS))
+        (tests (storedReasons (tableIn input .units) (tableIn input .words) (tableIn input .levels))) (omega arith)
+        (sym (readRefusal-tests (linesOf input) WORDS LEVELS) ∙ z)
 
   -- ---- the numbers that occur
 
   read-number : (k : ℕ) → (k ≡ 0 → ⊥) → unread ≡ k → Mem k programNumbers
   unfolding unread readReasons
-  read-number k h e = go (first-cause (readReasons (linesOf input) WORDS LEVELS) k h .0 (sym (readRefusal-tests (linesOf input) WORDS LEVELS) ∙ e))
+  read-number k h e = go (first-cause (readReasons (linesOf input) WORDS LEVELS) k h .0
+      (sym (readRefusal-tests (linesOf input) WORDS LEVELS) ∙ e))
     where
       go : FirstCause (readReasons (linesOf input) WORDS LEVELS) k → Mem k programNumbers
       go (inl p) = inl (sym (p .0))
@@ -137,7 +147,8 @@ module _ (input : List ℕ) where
 
   load-number : (k : ℕ) → (k ≡ 0 → ⊥) → unread ≡ 0 → unloaded ≡ k → Mem k programNumbers
   unfolding unread unloaded storedReasons
-  load-number k h z e = go (stored-first-cause (tableIn input .units) (tableIn input .words) (tableIn input .levels) k h .0 e)
+  load-number k h z e = go (stored-first-cause (tableIn input .units) (tableIn input .words)
+      (tableIn input .levels) k h .0 e)
     where
       pairs : length (endsIn (linesOf input)) ≡ 2 * linkFrames (linesOf input)
       pairs = length-ends (linesOf input)
@@ -151,16 +162,20 @@ module _ (input : List ℕ) where
       levels : length (levelsIn (linesOf input)) ≡ linkFrames (linesOf input)
       levels = length-levels (linesOf input)
 
-      go : FirstCause (storedReasons (tableIn input .units) (tableIn input .words) (tableIn input .levels)) k → Mem k programNumbers
+      go : FirstCause (storedReasons (tableIn input .units) (tableIn input .words) (tableIn input .levels)) k →
+          Mem k programNumbers
       go (inl p) = inr (inr (inr (inr (inr (inl (sym (p .0)))))))
       go (inr (_, inl p)) = absurd (omega (arith, pairs, p .1 .1))
       go (inr (_, inr (_, inl p))) = absurd (omega (arith, pairs, few, p .1))
       go (inr (_, inr (_, inr (_, inl p)))) = absurd (p .1 (omega (arith, pairs, levels)))
       go (inr (_, inr (_, inr (_, inr (_, inl p))))) =
-          absurd (not-both (every inRange (levelsIn (linesOf input))) (sound .levelled) (not-true _ (levelOutside-exact (levelsIn (linesOf input)) .1 (p .1))))
+          absurd (not-both (every inRange (levelsIn (linesOf input))) (sound .levelled)
+          (not-true _ (levelOutside-exact (levelsIn (linesOf input)) .1 (p .1))))
       go (inr (_, inr (_, inr (_, inr (_, inr (_, inl p)))))) = inr (inr (inr (inr (inr (inr (inl (sym (p .0))))))))
-      go (inr (_, inr (_, inr (_, inr (_, inr (_, inr (_, inl p))))))) = inr (inr (inr (inr (inr (inr (inr (inl (sym (p .0)))))))))
-      go (inr (_, inr (_, inr (_, inr (_, inr (_, inr (_, inr (_, inl p)))))))) = inr (inr (inr (inr (inr (inr (inr (inr (inl (sym (p .0))))))))))
+      go (inr (_, inr (_, inr (_, inr (_, inr (_, inr (_, inl p))))))) =
+          inr (inr (inr (inr (inr (inr (inr (inl (sym (p .0)))))))))
+      go (inr (_, inr (_, inr (_, inr (_, inr (_, inr (_, inr (_, inl p)))))))) =
+          inr (inr (inr (inr (inr (inr (inr (inr (inl (sym (p .0))))))))))
       go (inr (_, inr (_, inr (_, inr (_, inr (_, inr (_, inr (_, inr p)))))))) = absurd (p .1)
 
   -- ---- what is printed
@@ -180,7 +195,10 @@ module _ (input : List ℕ) where
           inr (refusal-unloaded short z ∙ y, z, y, rw (le-ltb MAX-INPUT (length input) short, z, y) refl)
       by-load short z (no h) =
           let e : refusal ≡ unloaded = refusal-unloaded short z in
-          inl (rw e (load-number unloaded h z refl), rw (le-ltb MAX-INPUT (length input) short, z, ne-eqb unloaded 0 h, e) refl)
+          inl (
+            rw e (load-number unloaded h z refl),
+            rw (le-ltb MAX-INPUT (length input) short, z, ne-eqb unloaded 0 h, e) refl,
+          )
 
       by-reading : length input ≤ MAX-INPUT → Dec (unread ≡ 0) → Either
       by-reading short (yes z) = by-load short z (ℕ-discrete unloaded 0)
@@ -205,10 +223,12 @@ module _ (input : List ℕ) where
       go : Either → FirstCause (programReasons input) k
       go (inl (m, line)) =
           let (below, some) = number-byte m in
-          let same : firstOf (tests (programReasons input)) ≡ k = same-refusal (firstOf (tests (programReasons input))) k below small (sym line ∙ e) in
+          let same : firstOf (tests (programReasons input)) ≡ k =
+          same-refusal (firstOf (tests (programReasons input))) k below small (sym line ∙ e) in
           first-cause (programReasons input) k (λ z. some (same ∙ z)) .0 same
       go (inr (_, _, _, whole)) =
-          let long : length (refusalLine k) ≡ reportLength (units (surveyed (tableIn input))) (links (surveyed (tableIn input))) =
+          let long : length (refusalLine k)
+          ≡ reportLength (units (surveyed (tableIn input))) (links (surveyed (tableIn input))) =
           ap length (sym e ∙ whole) ∙ length-report (surveyed (tableIn input)) in
           let seven : length (refusalLine k) ≡ 7 = length-line (refusalBody k) in
           absurd (omega arith)
@@ -230,7 +250,8 @@ module _ (input : List ℕ) where
 
   -- ---- the report
 
-  module _ (read : unread ≡ 0) (accepted : unloaded ≡ 0) (whole : printed input ≡ report (surveyed (tableIn input))) where
+  module _ (read : unread ≡ 0) (accepted : unloaded ≡ 0)
+      (whole : printed input ≡ report (surveyed (tableIn input))) where
     table : Input
     table = tableIn input
 
@@ -247,7 +268,8 @@ module _ (input : List ℕ) where
 
     e-rounds : e .clock .rounds ≡ total (loaded table)
     unfolding table e unloaded
-    e-rounds = rw (surveyed-end (tableIn input) accepted) (rounds-steps (loaded-started (tableIn input) accepted) (total (loaded (tableIn input))) (omega arith))
+    e-rounds = rw (surveyed-end (tableIn input) accepted)
+        (rounds-steps (loaded-started (tableIn input) accepted) (total (loaded (tableIn input))) (omega arith))
 
     -- nothing follows the report
     with-rest : printed input ≡ report e ++ []
@@ -267,14 +289,20 @@ module _ (input : List ℕ) where
           long = rw (whole, length-report (surveyed (tableIn input)), e-units, e-links) refl;
           headPrinted = rw (with-rest, head-at (surveyed (tableIn input)) [], e-rounds) refl;
           unitPrinted = λ v l. rw with-rest (unit-at (surveyed (tableIn input)) [] v (rw e-units l));
-          linkPrinted = λ j l. rw with-rest (link-by (surveyed (tableIn input)) (tableIn input .units) (linksIn (tableIn input)) e-units e-links j l);
-          tailPrinted = rw whole (tail-by (surveyed (tableIn input)) (tableIn input .units) (linksIn (tableIn input)) e-units e-links);
+          linkPrinted = λ j l. rw with-rest
+              (link-by (surveyed (tableIn input)) (tableIn input .units) (linksIn (tableIn input)) e-units e-links j l);
+          tailPrinted = rw whole (tail-by (surveyed (tableIn input)) (tableIn input .units)
+              (linksIn (tableIn input)) e-units e-links);
           right = surveyed-right (tableIn input) accepted;
         }
 
 pub program-right : ProgramRight
-program-right input = record { refusals = λ k l. (line-cause input k l, cause-line input k); prints = go (printed-by input) }
+program-right input = record {
+  refusals = λ k l. (line-cause input k l, cause-line input k);
+  prints = go (printed-by input);
+}
   where
-    go : Either input → ((k : ℕ) × Mem k programNumbers × (printed input ≡ refusalLine k)) ⊎ ((table : Input) × (e : State) × (rounds : ℕ) × SurveyPrinted input table e rounds)
+    go : Either input → ((k : ℕ) × Mem k programNumbers × (printed input ≡ refusalLine k))
+        ⊎ ((table : Input) × (e : State) × (rounds : ℕ) × SurveyPrinted input table e rounds)
     go (inl (m, line)) = inl (refusal input, m, line)
     go (inr (_, read, accepted, whole)) = inr (_, _, _, survey-printed input read accepted whole)

@@ -1,5 +1,5 @@
-// What the program prints: definitions, the statement about any input and its proof; and in code what both faces share, the input taken and the line of a
-// refusal.
+// What the program prints: definitions, the statement about any input and its proof; and in code what both faces share,
+// the input taken and the line of a refusal.
 use file_frames::kinds;
 use file_frames::line;
 use file_spec::Reading;
@@ -26,12 +26,21 @@ pub struct Found {
 
 // The input read to the front of `words` and `levels`: 1, 2, 3, 6, 16, 14. On a refusal nothing changes.
 pub fn taken(input: &[u8], words: &mut [u16], levels: &mut [i16]) -> Found
-    ensures number { λ r. ⌜ r .unread ≡ unreadBy (now (input .entry)) (length (now (words .entry))) (length (now (levels .entry))) ⌝ }
-    ensures units { λ r. ⌜ r .units ≡ cond (eqb (unreadBy (now (input .entry)) (length (now (words .entry))) (length (now (levels .entry)))) 0) (tableIn (now (input .entry)) .units) 0 ⌝ }
-    ensures links { λ r. ⌜ r .links ≡ cond (eqb (unreadBy (now (input .entry)) (length (now (words .entry))) (length (now (levels .entry)))) 0) (linkFrames (linesOf (now (input .entry)))) 0 ⌝ }
+    ensures number { λ r. ⌜ r .unread ≡ unreadBy (now (input .entry)) (length (now (words .entry)))
+        (length (now (levels .entry))) ⌝ }
+    ensures units { λ r. ⌜ r .units ≡ cond
+        (eqb (unreadBy (now (input .entry)) (length (now (words .entry))) (length (now (levels .entry)))) 0)
+        (tableIn (now (input .entry)) .units) 0 ⌝ }
+    ensures links { λ r. ⌜ r .links ≡ cond
+        (eqb (unreadBy (now (input .entry)) (length (now (words .entry))) (length (now (levels .entry)))) 0)
+        (linkFrames (linesOf (now (input .entry)))) 0 ⌝ }
     ensures fits { λ r. ⌜ r .links ≤ LEVELS ⌝ }
-    ensures words { λ _. ⌜ now (words .exit) ≡ written (unreadBy (now (input .entry)) (length (now (words .entry))) (length (now (levels .entry)))) (tableIn (now (input .entry)) .words) (now (words .entry)) ⌝ }
-    ensures levels { λ _. ⌜ now (levels .exit) ≡ written (unreadBy (now (input .entry)) (length (now (words .entry))) (length (now (levels .entry)))) (tableIn (now (input .entry)) .levels) (now (levels .entry)) ⌝ }
+    ensures words { λ _. ⌜ now (words .exit)
+        ≡ written (unreadBy (now (input .entry)) (length (now (words .entry))) (length (now (levels .entry))))
+        (tableIn (now (input .entry)) .words) (now (words .entry)) ⌝ }
+    ensures levels { λ _. ⌜ now (levels .exit)
+        ≡ written (unreadBy (now (input .entry)) (length (now (words .entry))) (length (now (levels .entry))))
+        (tableIn (now (input .entry)) .levels) (now (levels .entry)) ⌝ }
 {
     if MAX_INPUT < input.len() {
         return Found {

@@ -19,22 +19,26 @@ module _ (s : State) where
   unfolding questionRefusal
   question-malformed exists w = rw w refl
 
-  pub question-early : (exists : Bool) → wellFormed s ≡ true → (s .clock .stage ≡ FINISHED → ⊥) → 12 ≡ questionRefusal s exists
+  pub question-early : (exists : Bool) → wellFormed s ≡ true → (s .clock .stage ≡ FINISHED → ⊥) →
+      12 ≡ questionRefusal s exists
   unfolding questionRefusal
   question-early exists w h = rw (w, ne-eqb (s .clock .stage) FINISHED h) refl
 
-  pub question-none : (exists : Bool) → wellFormed s ≡ true → s .clock .stage ≡ FINISHED → exists ≡ true → 0 ≡ questionRefusal s exists
+  pub question-none : (exists : Bool) → wellFormed s ≡ true → s .clock .stage ≡ FINISHED → exists ≡ true →
+      0 ≡ questionRefusal s exists
   unfolding questionRefusal
   question-none exists w e x = rw (w, eq-eqb (s .clock .stage) FINISHED e, x) refl
 
-  pub question-missing : (exists : Bool) → wellFormed s ≡ true → s .clock .stage ≡ FINISHED → exists ≡ false → 13 ≡ questionRefusal s exists
+  pub question-missing : (exists : Bool) → wellFormed s ≡ true → s .clock .stage ≡ FINISHED → exists ≡ false →
+      13 ≡ questionRefusal s exists
   unfolding questionRefusal
   question-missing exists w e x = rw (w, eq-eqb (s .clock .stage) FINISHED e, x) refl
 
   -- ---- report, from whether the state is well formed
 
   pub report-told : (places : ℕ) (well : Bool) (k : ℕ) → well ≡ wellFormed s
-      → k ≡ firstOf ((10, not well) ∷ (12, not (finished s)) ∷ (14, ltb places (reportLength (units s) (links s))) ∷ []) → k ≡ reportRefusal s places
+      → k ≡ firstOf ((10, not well) ∷ (12, not (finished s)) ∷ (14, ltb places (reportLength (units s) (links s)))
+      ∷ []) → k ≡ reportRefusal s places
   unfolding reportRefusal
   report-told places well k e told = rw (told, e)
 

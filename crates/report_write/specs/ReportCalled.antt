@@ -28,10 +28,12 @@ module _ (s : State) (out : List ℕ) (accepted : reportRefusal s (length out) �
   fits =
       let later = passed-test (not (wellFormed s)) 10 _ (omega arith) accepted .1 in
       let last = passed-test (not (finished s)) 12 _ (omega arith) later .1 in
-      ltb-false (length out) (reportLength (units s) (links s)) (passed-test (ltb (length out) (reportLength (units s) (links s))) 14 0 (omega arith) last .0)
+      ltb-false (length out) (reportLength (units s) (links s))
+      (passed-test (ltb (length out) (reportLength (units s) (links s))) 14 0 (omega arith) last .0)
 
   -- the parts, from the state's numbers and tables
-  pub reported-parts : partsOver (units s) (links s) (s .clock .rounds) (s .clock .requests) (s .table .ends) (s .labels .label) (s .components .color) (s .tree .parent) (s .order .pre) out ≡ reported s out
+  pub reported-parts : partsOver (units s) (links s) (s .clock .rounds) (s .clock .requests) (s .table .ends)
+      (s .labels .label) (s .components .color) (s .tree .parent) (s .order .pre) out ≡ reported s out
   unfolding reported
   reported-parts =
       let n = passes (units s) (words s) (kept .passes) .fewUnits in

@@ -20,7 +20,9 @@ fn unit_part<'a>(
 ) -> u16
     requires { ⌜ units ≤ 256 ⌝ }
     ensures singles { λ r. ⌜ r ≡ count units (single links (now (ends .entry)) (now (label .entry))) ⌝ }
-    ensures lines { λ _. ⌜ now (out .exit) ≡ unitLines units links (now (ends .entry)) (now (label .entry)) (now (color .entry)) (now (parent .entry)) (now (place .entry)) (now (out .entry)) ⌝ }
+    ensures lines { λ _. ⌜ now (out .exit)
+        ≡ unitLines units links (now (ends .entry)) (now (label .entry)) (now (color .entry)) (now (parent .entry))
+        (now (place .entry)) (now (out .entry)) ⌝ }
 {
     let singles = report_flags::singles(units, links, ends, label);
     report_lines::unit_lines(units, color, parent, place, &singles, out);
@@ -52,7 +54,8 @@ fn all<'a>(
     out: &mut [u8],
 )
     requires { ⌜ (units ≤ 256) × (links ≤ 1024) × (reportLength units links ≤ length (now out)) ⌝ }
-    ensures { λ _. ⌜ now (out .exit) ≡ partsDown units links rounds requests (now (ends .entry)) (now (label .entry)) (now (color .entry)) (now (parent .entry)) (now (place .entry)) (now (out .entry)) ⌝ }
+    ensures { λ _. ⌜ now (out .exit) ≡ partsDown units links rounds requests (now (ends .entry)) (now (label .entry))
+        (now (color .entry)) (now (parent .entry)) (now (place .entry)) (now (out .entry)) ⌝ }
 {
     let unit_end = 13 + 23 * (units as usize);
     let link_end = unit_end + 15 * (links as usize);
@@ -71,7 +74,8 @@ fn all<'a>(
     report_lines::tail_line(singles, lones, &mut out[link_end..]);
 }
 
-// The report at the front of the slice; nothing where it does not fit, or a count is past its table, as in no well-formed state.
+// The report at the front of the slice; nothing where it does not fit, or a count is past its table, as in no
+// well-formed state.
 pub fn report_lines<'a>(
     units: u16,
     links: u16,
@@ -84,7 +88,8 @@ pub fn report_lines<'a>(
     place: &'a [u16],
     out: &mut [u8],
 )
-    ensures { λ _. ⌜ now (out .exit) ≡ partsOver units links rounds requests (now (ends .entry)) (now (label .entry)) (now (color .entry)) (now (parent .entry)) (now (place .entry)) (now (out .entry)) ⌝ }
+    ensures { λ _. ⌜ now (out .exit) ≡ partsOver units links rounds requests (now (ends .entry)) (now (label .entry))
+        (now (color .entry)) (now (parent .entry)) (now (place .entry)) (now (out .entry)) ⌝ }
 {
     if 256 < units {
         return;

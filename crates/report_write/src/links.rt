@@ -4,7 +4,8 @@ ghost use lib.Dec.{eqb};
 ghost use Rattle.report_write.specs.TwoLinks.{twoRefusal};
 use spec_state::Clock;
 
-// The number of the first cause among 10, 12, 13, given whether the state is well formed, then `number` where the call's own test holds.
+// The number of the first cause among 10, 12, 13, given whether the state is well formed, then `number` where the
+// call's own test holds.
 pub fn two_links(
     well: bool,
     stage: u16,

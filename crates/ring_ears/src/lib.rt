@@ -1,4 +1,5 @@
-// The order that grows by ears: from the two ends of the first link, until no link ties two units that hang on different units of it.
+// The order that grows by ears: from the two ends of the first link, until no link ties two units that hang on
+// different units of it.
 use ring_tables::counts;
 use ring_tables::end_a;
 use ring_tables::end_b;
@@ -15,7 +16,8 @@ ghost use Rattle.theory_ears.specs.Weaving.{holding, WovenIn, EarOf, Visited, P
 
 // The unit of the order that each unit of the tree hangs on, in the order in which they came to it.
 fn hold<'a>(count: u16, parent: &'a [u16], seq: &'a [u16], pos: &'a [u16], held: &mut [u16])
-    ensures { λ _. ⌜ now (held .exit) ≡ holding (now (parent .entry)) (now (seq .entry)) (now (pos .entry)) count (now (held .entry)) ⌝ }
+    ensures { λ _. ⌜ now (held .exit) ≡ holding (now (parent .entry)) (now (seq .entry)) (now (pos .entry)) count
+        (now (held .entry)) ⌝ }
 {
     let mut i = 0;
     while i < count {
@@ -36,7 +38,8 @@ fn ties<'a>(
     held: &'a [u16],
     j: u16,
 ) -> bool
-    ensures { λ r. ⌜ r ≡ ties (sure (now (marks .entry))) (now (ends .entry)) (now (parent .entry)) (now (pos .entry)) (now (held .entry)) j ⌝ }
+    ensures { λ r. ⌜ r ≡ ties (sure (now (marks .entry))) (now (ends .entry)) (now (parent .entry)) (now (pos .entry))
+        (now (held .entry)) j ⌝ }
 {
     let a = end_a(ends, j);
     let b = end_b(ends, j);
@@ -78,7 +81,8 @@ fn move_on(units: u16, q: u16, c: u16, pos: &mut [u16])
 
 // The way from u's anchor down to `u`, over the link to `v` and up to v's anchor, put in after u's anchor.
 fn weave<'a>(units: u16, parent: &'a [u16], held: &'a [u16], u: u16, v: u16, pos: &mut [u16])
-    ensures { λ _. ⌜ WovenIn units (now (parent .entry)) (now (held .entry)) u v (now (pos .entry)) (now (pos .exit)) ⌝ }
+    ensures { λ _. ⌜ WovenIn units (now (parent .entry)) (now (held .entry)) u v (now (pos .entry))
+        (now (pos .exit)) ⌝ }
 {
     let q = tables::at(pos, tables::at(held, u));
     let s = hanging(units, parent, pos, u);
@@ -99,7 +103,8 @@ fn weave<'a>(units: u16, parent: &'a [u16], held: &'a [u16], u: u16, v: u16, pos
 
 // The ear over link `j`, after the lower of the two anchors.
 fn ear<'a>(units: u16, ends: &'a [u16], parent: &'a [u16], held: &'a [u16], j: u16, pos: &mut [u16])
-    ensures { λ _. ⌜ EarOf units (now (ends .entry)) (now (parent .entry)) (now (held .entry)) j (now (pos .entry)) (now (pos .exit)) ⌝ }
+    ensures { λ _. ⌜ EarOf units (now (ends .entry)) (now (parent .entry)) (now (held .entry)) j (now (pos .entry))
+        (now (pos .exit)) ⌝ }
 {
     let a = end_a(ends, j);
     let b = end_b(ends, j);
@@ -122,7 +127,8 @@ fn visit<'a>(
     pos: &mut [u16],
     held: &mut [u16],
 )
-    ensures { λ _. ⌜ Visited (sure (now (marks .entry))) units links (now (ends .entry)) count (now (parent .entry)) (now (seq .entry)) j (now (pos .entry)) (now (held .entry)) (now (pos .exit)) (now (held .exit)) ⌝ }
+    ensures { λ _. ⌜ Visited (sure (now (marks .entry))) units links (now (ends .entry)) count (now (parent .entry))
+        (now (seq .entry)) j (now (pos .entry)) (now (held .entry)) (now (pos .exit)) (now (held .exit)) ⌝ }
 {
     if links <= j {
         return;
@@ -146,7 +152,8 @@ fn pass<'a>(
     pos: &mut [u16],
     held: &mut [u16],
 )
-    ensures { λ _. ⌜ Passed (sure (now (marks .entry))) units links (now (ends .entry)) count (now (parent .entry)) (now (seq .entry)) links (now (pos .entry)) (now (held .entry)) (now (pos .exit)) (now (held .exit)) ⌝ }
+    ensures { λ _. ⌜ Passed (sure (now (marks .entry))) units links (now (ends .entry)) count (now (parent .entry))
+        (now (seq .entry)) links (now (pos .entry)) (now (held .entry)) (now (pos .exit)) (now (held .exit)) ⌝ }
 {
     let mut j = 0;
     while j < links {
@@ -168,7 +175,8 @@ fn follow<'a>(
     pos: &mut [u16],
     held: &mut [u16],
 )
-    ensures { λ _. ⌜ Followed (sure (now (marks .entry))) units links (now (ends .entry)) count (now (parent .entry)) (now (seq .entry)) (now (pos .entry)) (now (held .entry)) (now (pos .exit)) (now (held .exit)) ⌝ }
+    ensures { λ _. ⌜ Followed (sure (now (marks .entry))) units links (now (ends .entry)) count (now (parent .entry))
+        (now (seq .entry)) (now (pos .entry)) (now (held .entry)) (now (pos .exit)) (now (held .exit)) ⌝ }
 {
     let total = table_values::bounded_sum(links, links);
     let mut i = 0;
@@ -192,7 +200,8 @@ fn settle<'a>(
     pos: &mut [u16],
     held: &mut [u16],
 )
-    ensures { λ _. ⌜ Settling (sure (now (marks .entry))) units links (now (ends .entry)) b count (now (parent .entry)) (now (seq .entry)) (now (pos .entry)) (now (held .entry)) (now (pos .exit)) (now (held .exit)) ⌝ }
+    ensures { λ _. ⌜ Settling (sure (now (marks .entry))) units links (now (ends .entry)) b count (now (parent .entry))
+        (now (seq .entry)) (now (pos .entry)) (now (held .entry)) (now (pos .exit)) (now (held .exit)) ⌝ }
 {
     let mut k: u16 = 0;
     while k < 257 {
@@ -220,7 +229,8 @@ pub fn grow<'a>(
     pos: &mut [u16],
     held: &mut [u16],
 )
-    ensures { λ _. ⌜ Settles (sure (now (marks .entry))) units links (now (ends .entry)) b count (now (parent .entry)) (now (seq .entry)) (now (pos .entry)) (now (held .entry)) (now (pos .exit)) (now (held .exit)) ⌝ }
+    ensures { λ _. ⌜ Settles (sure (now (marks .entry))) units links (now (ends .entry)) b count (now (parent .entry))
+        (now (seq .entry)) (now (pos .entry)) (now (held .entry)) (now (pos .exit)) (now (held .exit)) ⌝ }
 {
     hold(count, parent, seq, pos, held);
     follow(

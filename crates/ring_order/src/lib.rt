@@ -1,4 +1,5 @@
-// The order that a ring is taken from (T-04): from the ends of a link, over the tree of the links that count, by its ears.
+// The order that a ring is taken from (T-04): from the ends of a link, over the tree of the links that count, by its
+// ears.
 ghost use mathlib.Core.Path.{_≡_};
 ghost use lib.ListN.{length};
 ghost use Rattle.theory_ears.specs.Present.{sure};
@@ -26,7 +27,8 @@ pub fn ordered<'a>(
     i: u16,
     pos: &mut [u16],
 )
-    ensures { λ _. ⌜ Ordered (sure (now (marks .entry))) units links (now (ends .entry)) i (now (pos .entry)) (now (pos .exit)) ⌝ }
+    ensures { λ _. ⌜ Ordered (sure (now (marks .entry))) units links (now (ends .entry)) i (now (pos .entry))
+        (now (pos .exit)) ⌝ }
 {
     let a = end_a(ends, i);
     let b = end_b(ends, i);

@@ -1,5 +1,6 @@
-// The tree from the first end of the first link over the links that count, with its units in the order in which they came to it: a search in depth by
-// chains of links, of which nothing is promised, then sweeps over all links until one adds nothing.
+// The tree from the first end of the first link over the links that count, with its units in the order in which they
+// came to it: a search in depth by chains of links, of which nothing is promised, then sweeps over all links until one
+// adds nothing.
 use ring_tables::counts;
 use ring_tables::end_a;
 use ring_tables::end_b;
@@ -29,7 +30,8 @@ fn reach<'a>(
     parent: &mut [u16],
     seq: &mut [u16],
 ) -> u16
-    ensures { λ r. ⌜ Reached (sure (now (marks .entry))) links (now (ends .entry)) j (now (parent .entry)) (now (seq .entry)) count (now (parent .exit)) (now (seq .exit)) r ⌝ }
+    ensures { λ r. ⌜ Reached (sure (now (marks .entry))) links (now (ends .entry)) j (now (parent .entry))
+        (now (seq .entry)) count (now (parent .exit)) (now (seq .exit)) r ⌝ }
 {
     if links <= j {
         return count;
@@ -47,7 +49,8 @@ fn reach<'a>(
     table_values::bounded_sum(count, 1)
 }
 
-// One more than the last place that names each unit, and than the place before each that names the same; 0 where there is none.
+// One more than the last place that names each unit, and than the place before each that names the same; 0 where there
+// is none.
 pub(crate) fn chain(links: u16, ends: &[u16], last: &mut [u16], next: &mut [u16]) {
     let total = table_values::bounded_sum(links, links);
     let mut i = 0;
@@ -60,7 +63,8 @@ pub(crate) fn chain(links: u16, ends: &[u16], last: &mut [u16], next: &mut [u16]
     }
 }
 
-// As far as the chains lead, each unit's links before those of the unit that it came from. `cursor` is the place of each unit to be looked at next.
+// As far as the chains lead, each unit's links before those of the unit that it came from. `cursor` is the place of
+// each unit to be looked at next.
 fn deepen<'a>(
     marks: &'a [u8],
     links: u16,
@@ -72,7 +76,8 @@ fn deepen<'a>(
     parent: &mut [u16],
     seq: &mut [u16],
 ) -> u16
-    ensures { λ r. ⌜ Spanned (sure (now (marks .entry))) links (now (ends .entry)) (now (parent .entry)) (now (seq .entry)) 2 (now (parent .exit)) (now (seq .exit)) r ⌝ }
+    ensures { λ r. ⌜ Spanned (sure (now (marks .entry))) links (now (ends .entry)) (now (parent .entry))
+        (now (seq .entry)) 2 (now (parent .exit)) (now (seq .exit)) r ⌝ }
 {
     let mut count = 2;
     let mut v = b;
@@ -106,7 +111,8 @@ fn sweep<'a>(
     parent: &mut [u16],
     seq: &mut [u16],
 ) -> u16
-    ensures { λ r. ⌜ Swept (sure (now (marks .entry))) links (now (ends .entry)) links (now (parent .entry)) (now (seq .entry)) count (now (parent .exit)) (now (seq .exit)) r ⌝ }
+    ensures { λ r. ⌜ Swept (sure (now (marks .entry))) links (now (ends .entry)) links (now (parent .entry))
+        (now (seq .entry)) count (now (parent .exit)) (now (seq .exit)) r ⌝ }
 {
     let mut c = count;
     let mut j = 0;
@@ -126,7 +132,8 @@ fn fill<'a>(
     parent: &mut [u16],
     seq: &mut [u16],
 ) -> u16
-    ensures { λ r. ⌜ Filled (sure (now (marks .entry))) links (now (ends .entry)) (now (parent .entry)) (now (seq .entry)) count (now (parent .exit)) (now (seq .exit)) r ⌝ }
+    ensures { λ r. ⌜ Filled (sure (now (marks .entry))) links (now (ends .entry)) (now (parent .entry))
+        (now (seq .entry)) count (now (parent .exit)) (now (seq .exit)) r ⌝ }
 {
     let mut c = count;
     let mut k: u16 = 0;
@@ -153,7 +160,8 @@ pub(crate) fn span<'a>(
     parent: &mut [u16],
     seq: &mut [u16],
 ) -> u16
-    ensures { λ r. ⌜ Rooted (sure (now (marks .entry))) links (now (ends .entry)) a b (now (parent .entry)) (now (seq .entry)) (now (parent .exit)) (now (seq .exit)) r ⌝ }
+    ensures { λ r. ⌜ Rooted (sure (now (marks .entry))) links (now (ends .entry)) a b (now (parent .entry))
+        (now (seq .entry)) (now (parent .exit)) (now (seq .exit)) r ⌝ }
 {
     tables::store(parent, a, a);
     tables::store(parent, b, a);

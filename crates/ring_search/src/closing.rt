@@ -35,7 +35,8 @@ fn lean_one<'a>(
     low: &mut [u16],
     high: &mut [u16],
 )
-    ensures { λ _. ⌜ LeansOne (sure (now (marks .entry))) (now (ends .entry)) (now (pos .entry)) j (now (low .entry)) (now (high .entry)) (now (low .exit)) (now (high .exit)) ⌝ }
+    ensures { λ _. ⌜ LeansOne (sure (now (marks .entry))) (now (ends .entry)) (now (pos .entry)) j (now (low .entry))
+        (now (high .entry)) (now (low .exit)) (now (high .exit)) ⌝ }
 {
     if !within(marks, ends, pos, j) {
         return;
@@ -58,7 +59,8 @@ pub(crate) fn lean<'a>(
     low: &mut [u16],
     high: &mut [u16],
 )
-    ensures { λ _. ⌜ Leans (sure (now (marks .entry))) links (now (ends .entry)) (now (pos .entry)) links (now (low .entry)) (now (high .entry)) (now (low .exit)) (now (high .exit)) ⌝ }
+    ensures { λ _. ⌜ Leans (sure (now (marks .entry))) links (now (ends .entry)) (now (pos .entry)) links
+        (now (low .entry)) (now (high .entry)) (now (low .exit)) (now (high .exit)) ⌝ }
 {
     let mut j = 0;
     while j < links {
@@ -125,7 +127,8 @@ pub(crate) fn close<'a>(
     d: u16,
     out: &mut [u16],
 ) -> u16
-    ensures { λ r. ⌜ Closed units (now (low .entry)) (now (high .entry)) a b c d (now (out .entry)) (now (out .exit)) r ⌝ }
+    ensures { λ r. ⌜ Closed units (now (low .entry)) (now (high .entry)) a b c d (now (out .entry))
+        (now (out .exit)) r ⌝ }
 {
     let s = steps(units, high, b, d);
     let t = steps(units, low, a, c);

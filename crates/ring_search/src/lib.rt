@@ -1,4 +1,5 @@
-// The ring through two links (T-04), over plain tables and a test of which links count (T-08): a link counts where its mark is 0 or missing.
+// The ring through two links (T-04), over plain tables and a test of which links count (T-08): a link counts where its
+// mark is 0 or missing.
 ghost use mathlib.Core.Path.{_≡_};
 ghost use Rattle.theory_ears.specs.Present.{sure};
 ghost use Rattle.theory_ears.specs.Found.{RingTold};
@@ -10,7 +11,8 @@ use table_values::tables;
 
 mod closing;
 
-// The units of a ring that holds links `i` and `j`, the two ends of `i` in front, and how many they are; 0 where no ring holds both.
+// The units of a ring that holds links `i` and `j`, the two ends of `i` in front, and how many they are; 0 where no
+// ring holds both.
 pub fn ring<'a>(
     marks: &'a [u8],
     units: u16,
@@ -20,7 +22,8 @@ pub fn ring<'a>(
     j: u16,
     out: &mut [u16],
 ) -> u16
-    ensures { λ r. ⌜ RingTold (sure (now (marks .entry))) units links (now (ends .entry)) i j (now (out .entry)) (now (out .exit)) r ⌝ }
+    ensures { λ r. ⌜ RingTold (sure (now (marks .entry))) units links (now (ends .entry)) i j (now (out .entry))
+        (now (out .exit)) r ⌝ }
 {
     if !counts(marks, i) {
         return 0;

@@ -1,4 +1,5 @@
-// What the search of a ring (T-04) reads of its tables, with a test of which links count (T-08): a link counts where its mark is 0 or missing.
+// What the search of a ring (T-04) reads of its tables, with a test of which links count (T-08): a link counts where
+// its mark is 0 or missing.
 ghost use mathlib.Core.Path.{_≡_};
 ghost use Prim.Native.Nat.{ℕ, _<_};
 ghost use lib.ListN.{getD};
@@ -42,9 +43,11 @@ pub fn on(pos: &[u16], v: u16) -> bool
     tables::at(pos, v) != 0
 }
 
-// For so many units from `v` on, places from `i` up or down: where `placing`, each unit's place in a table by unit, else each place's unit in a row.
+// For so many units from `v` on, places from `i` up or down: where `placing`, each unit's place in a table by unit,
+// else each place's unit in a row.
 pub fn lay(next: &[u16], count: u16, v: u16, i: u16, up: bool, placing: bool, out: &mut [u16])
-    ensures { λ _. ⌜ now (out .exit) ≡ laid placing (onward up) i (climb (now (next .entry)) count v) (now (out .entry)) ⌝ }
+    ensures { λ _. ⌜ now (out .exit) ≡ laid placing (onward up) i (climb (now (next .entry)) count v)
+        (now (out .entry)) ⌝ }
 {
     let mut u = v;
     let mut x = i;

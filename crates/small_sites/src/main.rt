@@ -1,4 +1,5 @@
-// T-13: every set of links among one to five units, opened as a stored table and surveyed by the library; a line for each with its single points.
+// T-13: every set of links among one to five units, opened as a stored table and surveyed by the library; a line for
+// each with its single points.
 use libc::STDOUT_FILENO;
 use small_tables::MOST;
 use survey::Reply;

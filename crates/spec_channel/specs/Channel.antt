@@ -1,5 +1,5 @@
--- What T-12 asks, of any list of loads of seats and of ticks, refused ones included, from eight empty seats and a turn that no tick has moved:
--- `OneChannel`, at the end. ChannelProof.antt proves it.
+-- What T-12 asks, of any list of loads of seats and of ticks, refused ones included, from eight empty seats and a turn
+-- that no tick has moved: `OneChannel`, at the end. ChannelProof.antt proves it.
 use mathlib.Core.Path.{_≡_}
 use mathlib.Core.Bool.{true, false}
 use mathlib.Core.Logic.{_↔_}
@@ -12,7 +12,8 @@ use Rattle.spec_machine.specs.Step.{step}
 use Rattle.spec_claim.specs.Play.{round}
 use Rattle.spec_claim.specs.Claim.{Claim}
 use Rattle.spec_channel.specs.Turns.{Next}
-use Rattle.spec_channel.specs.Office.{Office, seat, empty, waits, tickRefusal, tick, seatRefusal, loadSeat, Event, play, tickCount, roundsOf, NotAgain}
+use Rattle.spec_channel.specs.Office.{Office, seat, empty, waits, tickRefusal, tick, seatRefusal, loadSeat, Event}
+use Rattle.spec_channel.specs.Office.{play, tickCount, roundsOf, NotAgain}
 use Rattle.spec_channel.specs.TickCauses.{tickReasons}
 
 -- before any tick the search begins at seat 0, the next after 7
@@ -45,12 +46,16 @@ pub record Channel (o : Office) : Type 0 where
   pub own : (i : ℕ) (input : Input) → i < 8 → seatRefusal i input ≡ loadRefusal input
   pub takes : (i : ℕ) (input : Input) → seatRefusal i input ≡ 0 → Takes i input o (loadSeat i input o)
   pub left : (i : ℕ) (input : Input) → (seatRefusal i input ≡ 0 → ⊥) → loadSeat i input o ≡ o
-  -- whatever follows, as long as seat i isn't loaded again: an unfinished survey gets a round within eight ticks, a finished one and an empty seat stay
-  pub soon : (i : ℕ) → i < 8 → waits o i ≡ true → (es : List Event) → NotAgain i es → 8 ≤ tickCount es → 1 ≤ roundsOf i es o
+  -- whatever follows, as long as seat i isn't loaded again: an unfinished survey gets a round within eight ticks, a
+  -- finished one and an empty seat stay
+  pub soon : (i : ℕ) → i < 8 → waits o i ≡ true → (es : List Event) → NotAgain i es → 8 ≤ tickCount es →
+      1 ≤ roundsOf i es o
   pub rests : (i : ℕ) → waits o i ≡ false → (es : List Event) → NotAgain i es → seat i (play es o) ≡ seat i o
-  -- and after as many rounds of its own a survey is the state that it would be alone: demand 3 holds of it, as of so many round calls
+  -- and after as many rounds of its own a survey is the state that it would be alone: demand 3 holds of it, as of so
+  -- many round calls
   pub alone : (i : ℕ) (input : Input) → seatRefusal i input ≡ 0 → (es : List Event) → NotAgain i es
-      → Claim input (loaded input) (replicate (roundsOf i es (loadSeat i input o)) round) (seat i (play es (loadSeat i input o))) (roundsOf i es (loadSeat i input o))
+      → Claim input (loaded input) (replicate (roundsOf i es (loadSeat i input o)) round)
+      (seat i (play es (loadSeat i input o))) (roundsOf i es (loadSeat i input o))
 
 abbrev pub OneChannel : Type 0
 OneChannel = (start : Office) → Begun start → (events : List Event) → Channel (play events start)

@@ -27,14 +27,16 @@ use Rattle.spec_channel.specs.Channel.{Gives, Channel, OneChannel}
 
 -- ---- rounds of a seat are round calls
 
-round-made : (s : State) → wellFormed s ≡ true → finished s ≡ false → roundAnswer s ≡ record { state = step s; reply = Done }
+round-made : (s : State) → wellFormed s ≡ true → finished s ≡ false →
+    roundAnswer s ≡ record { state = step s; reply = Done }
 unfolding roundAnswer roundRefusal
 round-made s w f = rw (w, f) refl
 
 -- one call, then the others
 call-first : (cs : List Call) (s : State)
     → (play (round ∷ cs) s .last ≡ play cs (roundAnswer s .state) .last)
-    × (used (round ∷ cs) (play (round ∷ cs) s .replies) ≡ usedBy round (roundAnswer s .reply) + used cs (play cs (roundAnswer s .state) .replies))
+    × (used (round ∷ cs) (play (round ∷ cs) s .replies)
+    ≡ usedBy round (roundAnswer s .reply) + used cs (play cs (roundAnswer s .state) .replies))
 unfolding play used
 call-first cs s = (refl, refl)
 
@@ -51,10 +53,14 @@ rounds-played (suc k) s e w (one due r) =
     let (p, q) = rounds-played k (step s) e (step-wellFormed s w f) r in
     let (a, b) = call-first cs s in
     let m = round-made s w f in
-    let more : 1 + k ≡ suc k = omega arith in
-    (a ∙ (ap (λ (x : Answer). play cs (x .state) .last) m ∙ p), b ∙ (ap (λ (x : Answer). usedBy round (x .reply) + used cs (play cs (x .state) .replies)) m ∙ (ap (λ (n : ℕ). 1 + n) q ∙ more)))
+    let more : 1 + k ≡ suc k = omega arith in (
+      a ∙ (ap (λ (x : Answer). play cs (x .state) .last) m ∙ p),
+      b ∙ (ap (λ (x : Answer). usedBy round (x .reply) + used cs (play cs (x .state) .replies)) m
+          ∙ (ap (λ (n : ℕ). 1 + n) q ∙ more)),
+    )
 
-load-done : (input : Input) (s : State) → loadRefusal input ≡ 0 → loadAnswer input s ≡ record { state = loaded input; reply = Done }
+load-done : (input : Input) (s : State) → loadRefusal input ≡ 0 →
+    loadAnswer input s ≡ record { state = loaded input; reply = Done }
 unfolding loadAnswer
 load-done input s e = rw e refl
 
@@ -111,16 +117,25 @@ module _ (o : Office.Office) (I : InOrder o) where
         };
         left = λ i input h. OfficeLaws.load-refused i input o h;
         soon = λ i h w es l t. round-soon es o i I h w l t;
-        rests = λ i w es l. rests-still _ (Office.seat i o) (Office.seat i (Office.play es o)) w (rounds-made i es o (I .eight) l);
+        rests = λ i w es l. rests-still _ (Office.seat i o) (Office.seat i (Office.play es o)) w
+            (rounds-made i es o (I .eight) l);
         alone = λ i input e es l. alone i input e es l;
       }
     where
       alone : (i : ℕ) (input : Input) → Office.seatRefusal i input ≡ 0 → (es : List Office.Event) → Office.NotAgain i es
-          → Claim input (loaded input) (replicate (Office.roundsOf i es (Office.loadSeat i input o)) round) (Office.seat i (Office.play es (Office.loadSeat i input o))) (Office.roundsOf i es (Office.loadSeat i input o))
+          → Claim input (loaded input) (replicate (Office.roundsOf i es (Office.loadSeat i input o)) round)
+          (Office.seat i (Office.play es (Office.loadSeat i input o)))
+          (Office.roundsOf i es (Office.loadSeat i input o))
       alone i input e es l =
           let r = rounds-made i es (Office.loadSeat i input o) (OfficeLaws.load-length i input o ∙ I .eight) l in
-          rounds-claim input (Office.roundsOf i es (Office.loadSeat i input o)) (Office.seat i (Office.play es (Office.loadSeat i input o)))
+          rounds-claim input (Office.roundsOf i es (Office.loadSeat i input o))
+          (Office.seat i (Office.play es (Office.loadSeat i input o)))
           (OfficeLaws.seat-accepted i input e .1) (rw (OfficeLaws.load-same i input o (I .eight) e) at r)
 
 pub one-channel : OneChannel
-one-channel start b es = channel (Office.play es start) (play-order es start (record { eight = b .eight; turn = rw (b .turn) (omega arith); sound = λ i h. inl (b .empty i h) }))
+one-channel start b es = channel (Office.play es start)
+    (play-order es start (record {
+      eight = b .eight;
+      turn = rw (b .turn) (omega arith);
+      sound = λ i h. inl (b .empty i h);
+    }))

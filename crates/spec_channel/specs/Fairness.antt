@@ -30,23 +30,28 @@ pub record InOrder (o : Office.Office) : Type 0 where
 
 sound-unspoilt : (s : State) → (Office.empty s ≡ true) ⊎ (wellFormed s ≡ true) → Office.spoilt s ≡ true → ⊥
 unfolding Office.spoilt
-sound-unspoilt s (inl e) q = not-both (Office.empty s) e (not-true (Office.empty s) (and-left (not (Office.empty s)) (not (wellFormed s)) q))
-sound-unspoilt s (inr e) q = not-both (wellFormed s) e (not-true (wellFormed s) (and-right (not (Office.empty s)) (not (wellFormed s)) q))
+sound-unspoilt s (inl e) q = not-both (Office.empty s) e
+    (not-true (Office.empty s) (and-left (not (Office.empty s)) (not (wellFormed s)) q))
+sound-unspoilt s (inr e) q = not-both (wellFormed s) e
+    (not-true (wellFormed s) (and-right (not (Office.empty s)) (not (wellFormed s)) q))
 
 -- a tick of an office in order has no cause of 10: it is refused only where no survey waits
 module _ (o : Office.Office) (I : InOrder o) where
   first-passes : (ltb 7 (o .last) || some 8 (λ (i : ℕ). Office.spoilt (Office.seat i o))) ≡ false
   first-passes =
-      let a : ltb 7 (o .last) ≡ false = refuted (ltb 7 (o .last)) (λ e. omega (arith, ltb-true 7 (o .last) e, I .turn)) in
+      let a : ltb 7 (o .last) ≡ false = refuted (ltb 7 (o .last))
+      (λ e. omega (arith, ltb-true 7 (o .last) e, I .turn)) in
       let b : some 8 (λ (i : ℕ). Office.spoilt (Office.seat i o)) ≡ false =
       refuted (some 8 (λ (i : ℕ). Office.spoilt (Office.seat i o)))
-      (λ e. let (i, h, q) = some-exact 8 (λ (i : ℕ). Office.spoilt (Office.seat i o)) .0 e in sound-unspoilt (Office.seat i o) (I .sound i h) q) in
+      (λ e. let (i, h, q) = some-exact 8 (λ (i : ℕ). Office.spoilt (Office.seat i o)) .0 e in sound-unspoilt
+      (Office.seat i o) (I .sound i h) q) in
       rw (a, b) refl
 
   pub tick-goes : (i : ℕ) → i < 8 → Office.waits o i ≡ true → Office.tickRefusal o ≡ 0
   unfolding Office.tickRefusal
   tick-goes i h e =
-      let b : some 8 (λ (i : ℕ). Office.waiting (Office.seat i o)) ≡ true = some-exact 8 (λ (i : ℕ). Office.waiting (Office.seat i o)) .1 (i, h, e) in
+      let b : some 8 (λ (i : ℕ). Office.waiting (Office.seat i o)) ≡ true =
+      some-exact 8 (λ (i : ℕ). Office.waiting (Office.seat i o)) .1 (i, h, e) in
       rw (first-passes, b) refl
 
   pub tick-rests : ((i : ℕ) → i < 8 → Office.waits o i ≡ false) → Office.tickRefusal o ≡ 11
@@ -54,7 +59,8 @@ module _ (o : Office.Office) (I : InOrder o) where
   tick-rests none =
       let b : some 8 (λ (i : ℕ). Office.waiting (Office.seat i o)) ≡ false =
       refuted (some 8 (λ (i : ℕ). Office.waiting (Office.seat i o)))
-      (λ e. let (i, h, q) = some-exact 8 (λ (i : ℕ). Office.waiting (Office.seat i o)) .0 e in not-both (Office.waiting (Office.seat i o)) q (none i h)) in
+      (λ e. let (i, h, q) = some-exact 8 (λ (i : ℕ). Office.waiting (Office.seat i o)) .0 e in not-both
+      (Office.waiting (Office.seat i o)) q (none i h)) in
       rw (first-passes, b) refl
 
 -- ---- it stays in order
@@ -68,9 +74,11 @@ load-order i input o I =
     }
   where
     go : (j : ℕ) → j < 8 → Dec (i ≡ j) → Dec (Office.seatRefusal i input ≡ 0)
-        → (Office.empty (Office.seat j (Office.loadSeat i input o)) ≡ true) ⊎ (wellFormed (Office.seat j (Office.loadSeat i input o)) ≡ true)
+        → (Office.empty (Office.seat j (Office.loadSeat i input o)) ≡ true)
+        ⊎ (wellFormed (Office.seat j (Office.loadSeat i input o)) ≡ true)
     go j h (yes q) (yes e) =
-        let s : Office.seat j (Office.loadSeat i input o) ≡ loaded input = rw (sym q) (OfficeLaws.load-same i input o (I .eight) e) in
+        let s : Office.seat j (Office.loadSeat i input o) ≡ loaded input =
+        rw (sym q) (OfficeLaws.load-same i input o (I .eight) e) in
         inr (rw s (loaded-wellFormed input (load-accepted input (OfficeLaws.seat-accepted i input e .1))))
     go j h (no q) d = rw (OfficeLaws.load-other i input o j (λ p _. q p)) (I .sound j h)
     go j h (yes q) (no e) = rw (OfficeLaws.load-other i input o j (λ _ p. e p)) (I .sound j h)
@@ -88,14 +96,16 @@ tick-order o I =
     turn (no e) = rw (OfficeLaws.tick-refused o e) (I .turn)
 
     -- a round of a survey that waits leaves it kept
-    kept : (s : State) → Office.waiting s ≡ true → (Office.empty s ≡ true) ⊎ (wellFormed s ≡ true) → wellFormed (step s) ≡ true
+    kept : (s : State) → Office.waiting s ≡ true → (Office.empty s ≡ true) ⊎ (wellFormed s ≡ true) →
+        wellFormed (step s) ≡ true
     kept s w (inl e) = absurd (not-both (Office.empty s) e (OfficeLaws.waiting-parts s w .0))
     kept s w (inr e) = step-wellFormed s e (OfficeLaws.waiting-parts s w .1)
 
     go : (j : ℕ) → j < 8 → Dec (Office.tickRefusal o ≡ 0) → Dec (Office.served o ≡ j)
         → (Office.empty (Office.seat j (Office.tick o)) ≡ true) ⊎ (wellFormed (Office.seat j (Office.tick o)) ≡ true)
     go j h (yes e) (yes q) =
-        let s : Office.seat j (Office.tick o) ≡ step (Office.seat j o) = rw q at (OfficeLaws.tick-same o (I .eight) e) in
+        let s : Office.seat j (Office.tick o) ≡ step (Office.seat j o) =
+        rw q at (OfficeLaws.tick-same o (I .eight) e) in
         let due : Office.waiting (Office.seat j o) ≡ true = rw q at (OfficeLaws.served-next o e .due) in
         inr (rw s (kept (Office.seat j o) due (I .sound j h)))
     go j h (yes e) (no q) = rw (OfficeLaws.tick-other o j (λ _ p. q p)) (I .sound j h)
@@ -118,13 +128,15 @@ nearer last d k i j a e f l h = go (ℕ-discrete d k)
     go (no q) = (omega arith, (omega arith, omega arith))
 
 -- a survey that waits at distance k gets a round within k + 1 ticks
-comes : (es : List Office.Event) (o : Office.Office) (i k : ℕ) → InOrder o → i < 8 → k < 8 → i ≡ seatAfter (o .last) k → Office.waits o i ≡ true
+comes : (es : List Office.Event) (o : Office.Office) (i k : ℕ) → InOrder o → i < 8 → k < 8 → i ≡ seatAfter (o .last) k →
+    Office.waits o i ≡ true
     → Office.NotAgain i es → k < Office.tickCount es → 1 ≤ Office.roundsOf i es o
 comes [] o i k I h a p w l t = absurd (omega arith)
 comes (Office.loads j input ∷ es) o i k I h a p w l t =
     comes es (Office.loadSeat j input o) i k (load-order j input o I) h a (rw (OfficeLaws.load-turn j input o) p)
     (rw (OfficeLaws.load-other j input o i (l .0)) w) (l .1) t
-comes (Office.ticks ∷ es) o i k I h a p w l t = go (ℕ-discrete (Office.served o) i) (λ m. comes es (Office.tick o) i m (tick-order o I) h)
+comes (Office.ticks ∷ es) o i k I h a p w l t =
+    go (ℕ-discrete (Office.served o) i) (λ m. comes es (Office.tick o) i m (tick-order o I) h)
   where
     e : Office.tickRefusal o ≡ 0
     e = tick-goes o I i h w
@@ -141,7 +153,8 @@ comes (Office.ticks ∷ es) o i k I h a p w l t = go (ℕ-discrete (Office.serve
         by (no q) = omega arith
 
     go : Dec (Office.served o ≡ i)
-        → ((m : ℕ) → m < 8 → i ≡ seatAfter (Office.tick o .last) m → Office.waits (Office.tick o) i ≡ true → Office.NotAgain i es → m < Office.tickCount es → 1 ≤ Office.roundsOf i es (Office.tick o))
+        → ((m : ℕ) → m < 8 → i ≡ seatAfter (Office.tick o .last) m → Office.waits (Office.tick o) i ≡ true →
+        Office.NotAgain i es → m < Office.tickCount es → 1 ≤ Office.roundsOf i es (Office.tick o))
         → 1 ≤ Office.roundOf i o + Office.roundsOf i es (Office.tick o)
     go (yes q) later = let g = OfficeLaws.round-given o i e q in omega (arith, g)
     go (no q) later =

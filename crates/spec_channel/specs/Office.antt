@@ -1,4 +1,5 @@
--- Several sites over one channel (document 02, T-12): eight seats and a turn; what a load of a seat and a tick make of them, and a list of these.
+-- Several sites over one channel (document 02, T-12): eight seats and a turn; what a load of a seat and a tick make of
+-- them, and a list of these.
 use mathlib.Core.Path.{_≡_}
 use mathlib.Core.Bool.{Bool, cond, not, _&&_, _||_}
 use mathlib.Core.List.{List, [], _∷_}
@@ -63,7 +64,8 @@ seatRefusal i input = let own = loadRefusal input in cond (ltb 7 i) 23 own
 
 -- no load moves the turn
 unfoldable pub loadSeat : ℕ → Input → Office → Office
-loadSeat i input o = cond (eqb (seatRefusal i input) 0) (record { seats = set (o .seats) i (loaded input); last = o .last }) o
+loadSeat i input o = cond (eqb (seatRefusal i input) 0)
+    (record { seats = set (o .seats) i (loaded input); last = o .last }) o
 
 -- ---- a list of loads and ticks, refused ones too
 

@@ -25,8 +25,10 @@ use Rattle.spec_channel.specs.Office
 
 pub waiting-parts : (s : State) → Office.waiting s ≡ true → (Office.empty s ≡ false) × (finished s ≡ false)
 unfolding Office.waiting
-waiting-parts s e =
-    (not-true (Office.empty s) (and-left (not (Office.empty s)) (not (finished s)) e), not-true (finished s) (and-right (not (Office.empty s)) (not (finished s)) e))
+waiting-parts s e = (
+  not-true (Office.empty s) (and-left (not (Office.empty s)) (not (finished s)) e),
+  not-true (finished s) (and-right (not (Office.empty s)) (not (finished s)) e),
+)
 
 -- ---- a load of a seat
 
@@ -48,7 +50,8 @@ module _ (i : ℕ) (input : Input) where
       go (no h) = let z : _≡_ {A = ℕ} 23 0 = sym (seat-missing (omega arith)) ∙ e in absurd (omega arith)
 
 module _ (i : ℕ) (input : Input) (o : Office.Office) where
-  pub load-made : Office.seatRefusal i input ≡ 0 → Office.loadSeat i input o ≡ record { seats = set (o .seats) i (loaded input); last = o .last }
+  pub load-made : Office.seatRefusal i input ≡ 0 →
+      Office.loadSeat i input o ≡ record { seats = set (o .seats) i (loaded input); last = o .last }
   unfolding Office.loadSeat
   load-made e = rw (eq-eqb (Office.seatRefusal i input) 0 e) refl
 
@@ -57,7 +60,8 @@ module _ (i : ℕ) (input : Input) (o : Office.Office) where
   load-refused h = rw (ne-eqb (Office.seatRefusal i input) 0 h) refl
 
   -- a seat that isn't loaded again stays, and so do the number of seats and the turn
-  pub load-other : (j : ℕ) → (i ≡ j → Office.seatRefusal i input ≡ 0 → ⊥) → Office.seat j (Office.loadSeat i input o) ≡ Office.seat j o
+  pub load-other : (j : ℕ) → (i ≡ j → Office.seatRefusal i input ≡ 0 → ⊥) →
+      Office.seat j (Office.loadSeat i input o) ≡ Office.seat j o
   load-other j h = go (ℕ-discrete (Office.seatRefusal i input) 0)
     where
       go : Dec (Office.seatRefusal i input ≡ 0) → Office.seat j (Office.loadSeat i input o) ≡ Office.seat j o
@@ -78,8 +82,10 @@ module _ (i : ℕ) (input : Input) (o : Office.Office) where
       go (no n) = rw (load-refused n) refl
       go (yes e) = rw (load-made e) (length-set (o .seats) i (loaded input))
 
-  pub load-same : length (o .seats) ≡ 8 → Office.seatRefusal i input ≡ 0 → Office.seat i (Office.loadSeat i input o) ≡ loaded input
-  load-same l e = let h = seat-accepted i input e .0 in rw (load-made e) (getD-set-same (o .seats) i (loaded input) unloaded (omega (arith, h, l)))
+  pub load-same : length (o .seats) ≡ 8 → Office.seatRefusal i input ≡ 0 →
+      Office.seat i (Office.loadSeat i input o) ≡ loaded input
+  load-same l e = let h = seat-accepted i input e .0 in rw (load-made e)
+      (getD-set-same (o .seats) i (loaded input) unloaded (omega (arith, h, l)))
 
 -- some seat passes a test, or none does
 pub some-or-none : (p : ℕ → Bool) → ((i : ℕ) × (i < 8) × (p i ≡ true)) ⊎ ((i : ℕ) → i < 8 → p i ≡ false)
@@ -109,7 +115,8 @@ module _ (o : Office.Office) where
 
   -- what a tick that is not refused found
   pub tick-passed : Office.tickRefusal o ≡ 0
-      → (ltb 7 (o .last) ≡ false) × (some 8 (λ (i : ℕ). Office.spoilt (Office.seat i o)) ≡ false) × (some 8 (λ (i : ℕ). Office.waiting (Office.seat i o)) ≡ true)
+      → (ltb 7 (o .last) ≡ false) × (some 8 (λ (i : ℕ). Office.spoilt (Office.seat i o)) ≡ false)
+      × (some 8 (λ (i : ℕ). Office.waiting (Office.seat i o)) ≡ true)
   unfolding Office.tickRefusal
   tick-passed e =
       let a = ltb 7 (o .last) in
@@ -128,19 +135,23 @@ module _ (o : Office.Office) where
   served-below e = let n = served-next e in rw (n .place) (omega arith)
 
   -- the seat served makes a round, the others stay
-  pub tick-same : length (o .seats) ≡ 8 → Office.tickRefusal o ≡ 0 → Office.seat (Office.served o) (Office.tick o) ≡ step (Office.seat (Office.served o) o)
+  pub tick-same : length (o .seats) ≡ 8 → Office.tickRefusal o ≡ 0 →
+      Office.seat (Office.served o) (Office.tick o) ≡ step (Office.seat (Office.served o) o)
   tick-same l e =
       let h = served-below e in
-      rw (tick-made e) (getD-set-same (o .seats) (Office.served o) (step (Office.seat (Office.served o) o)) unloaded (omega (arith, h, l)))
+      rw (tick-made e) (getD-set-same (o .seats) (Office.served o) (step (Office.seat (Office.served o) o)) unloaded
+      (omega (arith, h, l)))
 
-  pub tick-other : (j : ℕ) → (Office.tickRefusal o ≡ 0 → Office.served o ≡ j → ⊥) → Office.seat j (Office.tick o) ≡ Office.seat j o
+  pub tick-other : (j : ℕ) → (Office.tickRefusal o ≡ 0 → Office.served o ≡ j → ⊥) →
+      Office.seat j (Office.tick o) ≡ Office.seat j o
   tick-other j h = go (ℕ-discrete (Office.tickRefusal o) 0)
     where
       go : Dec (Office.tickRefusal o ≡ 0) → Office.seat j (Office.tick o) ≡ Office.seat j o
       go (no n) = rw (tick-refused n) refl
       go (yes e) =
           rw (tick-made e)
-          (getD-set-other (o .seats) (Office.served o) j (step (Office.seat (Office.served o) o)) unloaded (λ q. h e (sym q)))
+          (getD-set-other (o .seats) (Office.served o) j (step (Office.seat (Office.served o) o)) unloaded
+          (λ q. h e (sym q)))
 
   -- the round that a tick gives
   pub round-given : (i : ℕ) → Office.tickRefusal o ≡ 0 → Office.served o ≡ i → Office.roundOf i o ≡ 1
@@ -149,7 +160,8 @@ module _ (o : Office.Office) where
 
   pub round-none : (i : ℕ) → (Office.tickRefusal o ≡ 0 → Office.served o ≡ i → ⊥) → Office.roundOf i o ≡ 0
   unfolding Office.roundOf
-  round-none i h = rw (refuted (a && b) (λ t. h (eqb-true (Office.tickRefusal o) 0 (and-left a b t)) (eqb-true (Office.served o) i (and-right a b t)))) refl
+  round-none i h = rw (refuted (a && b) (λ t. h (eqb-true (Office.tickRefusal o) 0 (and-left a b t))
+      (eqb-true (Office.served o) i (and-right a b t)))) refl
     where
       a : Bool
       a = eqb (Office.tickRefusal o) 0
@@ -170,17 +182,23 @@ rounds-made i [] o l a = none
 rounds-made i (Office.loads j input ∷ es) o l a =
     let r = rounds-made i es (Office.loadSeat j input o) (load-length j input o ∙ l) (a .1) in
     rw (load-other j input o i (a .0)) at r
-rounds-made i (Office.ticks ∷ es) o l a = go (ℕ-discrete (Office.tickRefusal o) 0) (ℕ-discrete (Office.served o) i) (rounds-made i es (Office.tick o) (tick-length o ∙ l) a)
+rounds-made i (Office.ticks ∷ es) o l a =
+    go (ℕ-discrete (Office.tickRefusal o) 0) (ℕ-discrete (Office.served o) i)
+    (rounds-made i es (Office.tick o) (tick-length o ∙ l) a)
   where
     same : 0 + Office.roundsOf i es (Office.tick o) ≡ Office.roundsOf i es (Office.tick o)
     same = omega arith
 
-    go : Dec (Office.tickRefusal o ≡ 0) → Dec (Office.served o ≡ i) → Rounds (Office.roundsOf i es (Office.tick o)) (Office.seat i (Office.tick o)) (Office.seat i (Office.play es (Office.tick o)))
-        → Rounds (Office.roundOf i o + Office.roundsOf i es (Office.tick o)) (Office.seat i o) (Office.seat i (Office.play es (Office.tick o)))
+    go : Dec (Office.tickRefusal o ≡ 0) → Dec (Office.served o ≡ i) →
+        Rounds (Office.roundsOf i es (Office.tick o)) (Office.seat i (Office.tick o))
+        (Office.seat i (Office.play es (Office.tick o)))
+        → Rounds (Office.roundOf i o + Office.roundsOf i es (Office.tick o)) (Office.seat i o)
+        (Office.seat i (Office.play es (Office.tick o)))
     go (yes e) (yes q) r =
         let due : Office.waiting (Office.seat i o) ≡ true = rw q at (served-next o e .due) in
         let made : Office.seat i (Office.tick o) ≡ step (Office.seat i o) = rw q at (tick-same o l e) in
-        let more : 1 + Office.roundsOf i es (Office.tick o) ≡ suc (Office.roundsOf i es (Office.tick o)) = omega arith in
+        let more : 1 + Office.roundsOf i es (Office.tick o) ≡ suc (Office.roundsOf i es (Office.tick o)) =
+        omega arith in
         rw (round-given o i e q, more) (one due (rw made at r))
     go (yes e) (no q) r = rw (round-none o i (λ _ p. q p), same) (rw (tick-other o i (λ _ p. q p)) at r)
     go (no e) d r = rw (round-none o i (λ p _. e p), same) (rw (tick-other o i (λ p _. e p)) at r)

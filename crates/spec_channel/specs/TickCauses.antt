@@ -36,8 +36,12 @@ spoilt-exact s =
     and-exact (not (Office.empty s)) (not (wellFormed s)) (not-exact (Office.empty s) (eq-exact (units s) 0))
     (not-exact (wellFormed s) (kept-exact s))
 
-pub some-is : (p : ℕ → Bool) (P : ℕ → Type 0) → ((i : ℕ) → (p i ≡ true) ↔ P i) → (some 8 p ≡ true) ↔ ((i : ℕ) × (i < 8) × P i)
-some-is p P x = (λ e. let (i, h, q) = some-exact 8 p .0 e in (i, h, x i .0 q), λ w. some-exact 8 p .1 (w .0, w .1, x (w .0) .1 (w .2)))
+pub some-is : (p : ℕ → Bool) (P : ℕ → Type 0) → ((i : ℕ) → (p i ≡ true) ↔ P i) →
+    (some 8 p ≡ true) ↔ ((i : ℕ) × (i < 8) × P i)
+some-is p P x = (
+  λ e. let (i, h, q) = some-exact 8 p .0 e in (i, h, x i .0 q),
+  λ w. some-exact 8 p .1 (w .0, w .1, x (w .0) .1 (w .2)),
+)
 
 -- 10: the last-served number is above 7, or a loaded seat's survey isn't kept
 abbrev pub unsound : Office.Office → Reason
@@ -46,7 +50,11 @@ unsound o =
       number = 10;
       test = ltb 7 (o .last) || some 8 (λ (i : ℕ). Office.spoilt (Office.seat i o));
       cause = (7 < o .last) ⊎ ((i : ℕ) × (i < 8) × Spoilt (Office.seat i o));
-      exact = or-exact (ltb 7 (o .last)) (some 8 (λ (i : ℕ). Office.spoilt (Office.seat i o))) (ltb-true 7 (o .last), lt-ltb 7 (o .last)) (some-is (λ (i : ℕ). Office.spoilt (Office.seat i o)) (λ (i : ℕ). Spoilt (Office.seat i o)) (λ (i : ℕ). spoilt-exact (Office.seat i o)));
+      exact = or-exact (ltb 7 (o .last)) (some 8 (λ (i : ℕ). Office.spoilt (Office.seat i o))) (
+        ltb-true 7 (o .last),
+        lt-ltb 7 (o .last),
+      ) (some-is (λ (i : ℕ). Office.spoilt (Office.seat i o))
+          (λ (i : ℕ). Spoilt (Office.seat i o)) (λ (i : ℕ). spoilt-exact (Office.seat i o)));
     }
 
 -- 11: every seat is finished, an empty one too
@@ -56,14 +64,17 @@ allFinished o =
       number = 11;
       test = not (some 8 (λ (i : ℕ). Office.waiting (Office.seat i o)));
       cause = (i : ℕ) × (i < 8) × Waits (Office.seat i o) → ⊥;
-      exact = not-exact (some 8 (λ (i : ℕ). Office.waiting (Office.seat i o))) (some-is (λ (i : ℕ). Office.waiting (Office.seat i o)) (λ (i : ℕ). Waits (Office.seat i o)) (λ (i : ℕ). waits-exact (Office.seat i o)));
+      exact = not-exact (some 8 (λ (i : ℕ). Office.waiting (Office.seat i o)))
+          (some-is (λ (i : ℕ). Office.waiting (Office.seat i o)) (λ (i : ℕ). Waits (Office.seat i o))
+          (λ (i : ℕ). waits-exact (Office.seat i o)));
     }
 
 -- 10, 11
 abbrev pub tickReasons : Office.Office → List Reason
 tickReasons o = unsound o ∷ allFinished o ∷ []
 
-pub tick-first-cause : (o : Office.Office) (k : ℕ) → (k ≡ 0 → ⊥) → (Office.tickRefusal o ≡ k) ↔ FirstCause (tickReasons o) k
+pub tick-first-cause : (o : Office.Office) (k : ℕ) → (k ≡ 0 → ⊥) →
+    (Office.tickRefusal o ≡ k) ↔ FirstCause (tickReasons o) k
 unfolding Office.tickRefusal
 tick-first-cause o k h = first-cause (tickReasons o) k h
 

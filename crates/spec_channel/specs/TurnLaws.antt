@@ -14,7 +14,8 @@ use Rattle.spec_channel.specs.Turns.{seatAfter, distance, picked, Next}
 -- ---- the first number below n that passes
 
 -- one number more that does not
-pub one-more : (p : ℕ → Bool) (d : ℕ) → ((j : ℕ) → j < d → p j ≡ false) → p d ≡ false → (j : ℕ) → j < d + 1 → p j ≡ false
+pub one-more : (p : ℕ → Bool) (d : ℕ) → ((j : ℕ) → j < d → p j ≡ false) → p d ≡ false → (j : ℕ) → j < d + 1 →
+    p j ≡ false
 one-more p d h e j l = go (decLt j d)
   where
     go : Dec (j < d) → p j ≡ false
@@ -39,14 +40,17 @@ least-first : (n : ℕ) (p : ℕ → Bool) (d : ℕ) → First p n d → least n
 least-first n p d (h, t, none) = go (least-is n (λ (j : ℕ). cond (p j) j n) n)
   where
     low : least n (λ (j : ℕ). cond (p j) j n) n ≤ d
-    low = let q : least n (λ (j : ℕ). cond (p j) j n) n ≤ cond (p d) d n = least-le n (λ (j : ℕ). cond (p j) j n) n d h in rw t at q
+    low = let q : least n (λ (j : ℕ). cond (p j) j n) n ≤ cond (p d) d n =
+        least-le n (λ (j : ℕ). cond (p j) j n) n d h in rw t at q
 
-    go : (least n (λ (j : ℕ). cond (p j) j n) n ≡ n) ⊎ ((i : ℕ) × (i < n) × (least n (λ (j : ℕ). cond (p j) j n) n ≡ cond (p i) i n))
+    go : (least n (λ (j : ℕ). cond (p j) j n) n ≡ n)
+        ⊎ ((i : ℕ) × (i < n) × (least n (λ (j : ℕ). cond (p j) j n) n ≡ cond (p i) i n))
         → least n (λ (j : ℕ). cond (p j) j n) n ≡ d
     go (inl e) = absurd (omega (arith, low))
     go (inr (i, k, e)) = by (either (p i))
       where
-        same : least n (λ (j : ℕ). cond (p j) j n) n ≡ i → p i ≡ true → Dec (i < d) → least n (λ (j : ℕ). cond (p j) j n) n ≡ d
+        same : least n (λ (j : ℕ). cond (p j) j n) n ≡ i → p i ≡ true → Dec (i < d) →
+            least n (λ (j : ℕ). cond (p j) j n) n ≡ d
         same r q (yes l) = absurd (not-both (p i) q (none i l))
         same r q (no l) = omega (arith, low)
 
@@ -57,7 +61,8 @@ least-first n p d (h, t, none) = go (least-is n (λ (j : ℕ). cond (p j) j n) n
 least-none : (n : ℕ) (p : ℕ → Bool) → ((j : ℕ) → j < n → p j ≡ false) → least n (λ (j : ℕ). cond (p j) j n) n ≡ n
 least-none n p none = go (least-is n (λ (j : ℕ). cond (p j) j n) n)
   where
-    go : (least n (λ (j : ℕ). cond (p j) j n) n ≡ n) ⊎ ((i : ℕ) × (i < n) × (least n (λ (j : ℕ). cond (p j) j n) n ≡ cond (p i) i n))
+    go : (least n (λ (j : ℕ). cond (p j) j n) n ≡ n)
+        ⊎ ((i : ℕ) × (i < n) × (least n (λ (j : ℕ). cond (p j) j n) n ≡ cond (p i) i n))
         → least n (λ (j : ℕ). cond (p j) j n) n ≡ n
     go (inl e) = e
     go (inr (i, k, e)) = e ∙ rw (none i k) refl
@@ -65,17 +70,20 @@ least-none n p none = go (least-is n (λ (j : ℕ). cond (p j) j n) n)
 -- ---- the seat picked
 
 module _ (last : ℕ) (waits : ℕ → Bool) where
-  pub picked-found : (d : ℕ) → d < 8 → waits (seatAfter last d) ≡ true → ((j : ℕ) → j < d → waits (seatAfter last j) ≡ false)
+  pub picked-found : (d : ℕ) → d < 8 → waits (seatAfter last d) ≡ true →
+      ((j : ℕ) → j < d → waits (seatAfter last j) ≡ false)
       → seatAfter last d ≡ picked last waits
   unfolding picked distance
   picked-found d h t none =
-      let e : least 8 (λ (j : ℕ). cond (waits (seatAfter last j)) j 8) 8 ≡ d = least-first 8 (λ (j : ℕ). waits (seatAfter last j)) d (h, t, none) in
+      let e : least 8 (λ (j : ℕ). cond (waits (seatAfter last j)) j 8) 8 ≡ d =
+      least-first 8 (λ (j : ℕ). waits (seatAfter last j)) d (h, t, none) in
       rw (e, lt-ltb d 8 h) refl
 
   pub picked-none : ((j : ℕ) → j < 8 → waits (seatAfter last j) ≡ false) → 8 ≡ picked last waits
   unfolding picked distance
   picked-none none =
-      let e : least 8 (λ (j : ℕ). cond (waits (seatAfter last j)) j 8) 8 ≡ 8 = least-none 8 (λ (j : ℕ). waits (seatAfter last j)) none in
+      let e : least 8 (λ (j : ℕ). cond (waits (seatAfter last j)) j 8) 8 ≡ 8 =
+      least-none 8 (λ (j : ℕ). waits (seatAfter last j)) none in
       rw e refl
 
   -- every seat is looked at
@@ -83,20 +91,26 @@ module _ (last : ℕ) (waits : ℕ → Bool) where
   all-seats i h = (omega arith, omega arith)
 
   -- it is the next that waits, or none does
-  pub picked-either : Next last waits (picked last waits) ⊎ ((picked last waits ≡ 8) × ((i : ℕ) → i < 8 → waits i ≡ false))
+  pub picked-either : Next last waits (picked last waits)
+      ⊎ ((picked last waits ≡ 8) × ((i : ℕ) → i < 8 → waits i ≡ false))
   picked-either = go (first-below 8 (λ (j : ℕ). waits (seatAfter last j)))
     where
-      go : ((d : ℕ) × First (λ (j : ℕ). waits (seatAfter last j)) 8 d) ⊎ ((j : ℕ) → j < 8 → waits (seatAfter last j) ≡ false)
+      go : ((d : ℕ) × First (λ (j : ℕ). waits (seatAfter last j)) 8 d)
+          ⊎ ((j : ℕ) → j < 8 → waits (seatAfter last j) ≡ false)
           → Next last waits (picked last waits) ⊎ ((picked last waits ≡ 8) × ((i : ℕ) → i < 8 → waits i ≡ false))
       go (inl (d, (l, t, none))) =
           let q : seatAfter last d ≡ picked last waits = picked-found d l t none in
           inl (record { far = d; near = l; place = sym q; due = rw (sym q) t; none = none })
-      go (inr none) = inr (sym (picked-none none), λ i h. let (l, q) = all-seats i h in rw q at (none ((i + 7 - last % 8) % 8) l))
+      go (inr none) = inr (
+        sym (picked-none none),
+        λ i h. let (l, q) = all-seats i h in rw q at (none ((i + 7 - last % 8) % 8) l),
+      )
 
   pub picked-next : (i : ℕ) → i < 8 → waits i ≡ true → Next last waits (picked last waits)
   picked-next i h e = go picked-either
     where
-      go : Next last waits (picked last waits) ⊎ ((picked last waits ≡ 8) × ((j : ℕ) → j < 8 → waits j ≡ false)) → Next last waits (picked last waits)
+      go : Next last waits (picked last waits) ⊎ ((picked last waits ≡ 8) × ((j : ℕ) → j < 8 → waits j ≡ false)) →
+          Next last waits (picked last waits)
       go (inl n) = n
       go (inr none) = absurd (not-both (waits i) e (none .1 i h))
 
@@ -107,7 +121,8 @@ picked-same last p q h = go (first-below 8 (λ (j : ℕ). p (seatAfter last j)))
     at : (j : ℕ) (b : Bool) → p (seatAfter last j) ≡ b → q (seatAfter last j) ≡ b
     at j b e = sym (h (seatAfter last j) (omega arith)) ∙ e
 
-    go : ((d : ℕ) × First (λ (j : ℕ). p (seatAfter last j)) 8 d) ⊎ ((j : ℕ) → j < 8 → p (seatAfter last j) ≡ false) → picked last p ≡ picked last q
+    go : ((d : ℕ) × First (λ (j : ℕ). p (seatAfter last j)) 8 d) ⊎ ((j : ℕ) → j < 8 → p (seatAfter last j) ≡ false) →
+        picked last p ≡ picked last q
     go (inl (d, (l, t, none))) =
         sym (picked-found last p d l t none) ∙ picked-found last q d l (at d true t) (λ j k. at j false (none j k))
     go (inr none) = sym (picked-none last p none) ∙ picked-none last q (λ j k. at j false (none j k))

@@ -15,13 +15,17 @@ use Rattle.file_frames.specs.Bodies.{headBody}
 use Rattle.spec_state.specs.declared.reply.Reply.the-variants.{Done, Status, Unit, Link, Written}
 use Rattle.spec_machine.specs.State.{State, units, links, finished, FINISHED}
 use Rattle.spec_machine.specs.WellFormed.{wellFormed}
-use Rattle.spec_machine.specs.Load.{Input, linksIn, loadRefusal, storedLoadRefusal, tableOf, loaded, plannedLoadRefusal, plannedLoaded}
+use Rattle.spec_machine.specs.Load.{Input, linksIn, loadRefusal, storedLoadRefusal, tableOf, loaded, plannedLoadRefusal}
+use Rattle.spec_machine.specs.Load.{plannedLoaded}
 use Rattle.spec_machine.specs.LoadLaws.{load-accepted}
 use Rattle.spec_machine.specs.Step.{step, steps, countdown}
 use Rattle.spec_machine.specs.RunLaws.{total, total-least, total-countdown, ended-exact, steps-wellFormed}
-use Rattle.spec_machine.specs.Report.{unitColor, unitParent, unitPlace, unitSingle, linkLabel, linkLone, report, reportLength, headLine, unitLine, linkLine}
+use Rattle.spec_machine.specs.Report.{unitColor, unitParent, unitPlace, unitSingle, linkLabel, linkLone, report}
+use Rattle.spec_machine.specs.Report.{reportLength, headLine, unitLine, linkLine}
 use Rattle.spec_machine.specs.ReportLaws.{head-at, unit-at, link-at}
-use Rattle.spec_machine.specs.Calls.{Answer, numberOf, answered, loadAnswer, storedLoadAnswer, plannedLoadAnswer, statusAnswer, statusRefusal, questionRefusal, unitAnswer, unitRefusal, linkAnswer, linkRefusal, reportAnswer, reportRefusal, reported}
+use Rattle.spec_machine.specs.Calls.{Answer, numberOf, answered, loadAnswer, storedLoadAnswer, plannedLoadAnswer}
+use Rattle.spec_machine.specs.Calls.{statusAnswer, statusRefusal, questionRefusal, unitAnswer, unitRefusal, linkAnswer}
+use Rattle.spec_machine.specs.Calls.{linkRefusal, reportAnswer, reportRefusal, reported}
 use Rattle.theory_reach.specs.Started.{Started, loaded-started}
 use Rattle.theory_reach.specs.PlannedStart.{planned-started}
 use Rattle.theory_reach.specs.Reach.{survey-right, table-steps, rounds-steps}
@@ -33,7 +37,8 @@ use Rattle.spec_claim.specs.Claim.{Loaded, fresh, stored, planned, lineF
 -- ---- every load starts a survey
 
 -- an answer that was not refused is that of the call made
-answer-done : (k : ℕ) (given after s : State) → answered k given after Done ≡ record { state = s; reply = Done } → (k ≡ 0) × (s ≡ after)
+answer-done : (k : ℕ) (given after s : State) → answered k given after Done ≡ record { state = s; reply = Done } →
+    (k ≡ 0) × (s ≡ after)
 answer-done k given after s a = go (either (eqb k 0))
   where
     go : (eqb k 0 ≡ true) ⊎ (eqb k 0 ≡ false) → (k ≡ 0) × (s ≡ after)
@@ -75,7 +80,8 @@ module _ (input : Input) (s₀ : State) (S : Started input s₀) (calls : List C
     where
       go : Dec (total s₀ < used calls (play calls s₀ .replies)) → used calls (play calls s₀ .replies) ≤ total s₀
       go (yes l) =
-          absurd (not-both (finished (steps (total s₀) s₀)) (eq-eqb _ FINISHED (total-least s₀ w .ends)) (spent .going (total s₀) l))
+          absurd (not-both (finished (steps (total s₀) s₀)) (eq-eqb _ FINISHED (total-least s₀ w .ends))
+          (spent .going (total s₀) l))
       go (no l) = omega arith
 
   well : wellFormed e ≡ true
@@ -86,7 +92,10 @@ module _ (input : Input) (s₀ : State) (S : Started input s₀) (calls : List C
   unfolding e u
   rounds-used = rw (spent .state) (rounds-steps S (used calls (play calls s₀ .replies)) not-past)
 
-  status-said : statusAnswer e ≡ record { state = e; reply = Status (e .clock .stage) (countdown e) u (e .clock .requests) }
+  status-said : statusAnswer e ≡ record {
+    state = e;
+    reply = Status (e .clock .stage) (countdown e) u (e .clock .requests);
+  }
   unfolding statusAnswer statusRefusal
   status-said = rw (well, sym rounds-used) refl
 
@@ -94,7 +103,8 @@ module _ (input : Input) (s₀ : State) (S : Started input s₀) (calls : List C
   unfolding e u
   ended = (λ q. rw (spent .state) (x .1 (omega arith)), λ q. omega (arith, not-past, x .0 (rw (spent .state) at q)))
     where
-      x : (steps (used calls (play calls s₀ .replies)) s₀ .clock .stage ≡ FINISHED) ↔ (total s₀ ≤ used calls (play calls s₀ .replies))
+      x : (steps (used calls (play calls s₀ .replies)) s₀ .clock .stage ≡ FINISHED)
+          ↔ (total s₀ ≤ used calls (play calls s₀ .replies))
       x = ended-exact s₀ w (used calls (play calls s₀ .replies))
 
   asked-enough : countdown s₀ ≤ asked calls → u ≡ total s₀
@@ -122,27 +132,37 @@ module _ (input : Input) (s₀ : State) (S : Started input s₀) (calls : List C
     at-end : finished e ≡ true
     at-end = eq-eqb (e .clock .stage) FINISHED (ended .0 over)
 
-    unit-said : (v : ℕ) → v < input .units → unitAnswer v e ≡ record { state = e; reply = Unit v (unitColor e v) (unitParent e v) (unitPlace e v) (unitSingle e v) }
+    unit-said : (v : ℕ) → v < input .units →
+        unitAnswer v e ≡ record {
+          state = e;
+          reply = Unit v (unitColor e v) (unitParent e v) (unitPlace e v) (unitSingle e v);
+        }
     unfolding unitAnswer unitRefusal questionRefusal
     unit-said v l = let q : v < units e = rw site-units l in rw (well, at-end, lt-ltb v (units e) q) refl
 
-    link-said : (j : ℕ) → j < linksIn input → linkAnswer j e ≡ record { state = e; reply = Link j (linkLabel e j) (linkLone e j) }
+    link-said : (j : ℕ) → j < linksIn input →
+        linkAnswer j e ≡ record { state = e; reply = Link j (linkLabel e j) (linkLone e j) }
     unfolding linkAnswer linkRefusal questionRefusal
     link-said j l = let q : j < links e = rw site-links l in rw (well, at-end, lt-ltb j (links e) q) refl
 
     -- a slice that is long enough takes the report
-    refusal-none : (out : List ℕ) → reportLength (input .units) (linksIn input) ≤ length out → reportRefusal e (length out) ≡ 0
+    refusal-none : (out : List ℕ) → reportLength (input .units) (linksIn input) ≤ length out →
+        reportRefusal e (length out) ≡ 0
     unfolding reportRefusal
     refusal-none out l =
         let q : reportLength (units e) (links e) ≤ length out = rw (site-units, site-links) l in
         rw (well, at-end, le-ltb (length out) (reportLength (units e) (links e)) q) refl
 
     report-said : (out : List ℕ) → reportLength (input .units) (linksIn input) ≤ length out
-        → reportAnswer (length out) e ≡ record { state = e; reply = Written (reportLength (input .units) (linksIn input)) }
+        → reportAnswer (length out) e ≡ record {
+          state = e;
+          reply = Written (reportLength (input .units) (linksIn input));
+        }
     unfolding reportAnswer
     report-said out l = rw (refusal-none out l, site-units, site-links) refl
 
-    report-written : (out : List ℕ) → reportLength (input .units) (linksIn input) ≤ length out → reported e out ≡ report e ++ drop (length (report e)) out
+    report-written : (out : List ℕ) → reportLength (input .units) (linksIn input) ≤ length out →
+        reported e out ≡ report e ++ drop (length (report e)) out
     unfolding reported
     report-written out l = rw (refusal-none out l) refl
 
@@ -151,20 +171,24 @@ module _ (input : Input) (s₀ : State) (S : Started input s₀) (calls : List C
     unfolding headLine
     head-written out l = rw (report-written out l, head-at e (drop (length (report e)) out), rounds-used) refl
 
-    unit-written : (out : List ℕ) → reportLength (input .units) (linksIn input) ≤ length out → (v : ℕ) → v < input .units
+    unit-written : (out : List ℕ) → reportLength (input .units) (linksIn input) ≤ length out → (v : ℕ) →
+        v < input .units
         → take 23 (drop (13 + 23 * v) (reported e out)) ≡ lineFor (unitAnswer v e .reply)
     unfolding unitLine
     unit-written out l v h =
         let q : v < units e = rw site-units h in
         rw (report-written out l, unit-at e (drop (length (report e)) out) v q, unit-said v h) refl
 
-    link-written : (out : List ℕ) → reportLength (input .units) (linksIn input) ≤ length out → (j : ℕ) → j < linksIn input
+    link-written : (out : List ℕ) → reportLength (input .units) (linksIn input) ≤ length out → (j : ℕ) →
+        j < linksIn input
         → take 15 (drop (13 + 23 * (input .units) + 15 * j) (reported e out)) ≡ lineFor (linkAnswer j e .reply)
     unfolding linkLine
     link-written out l j h =
         let q : j < links e = rw site-links h in
-        let x : take 15 (drop (13 + 23 * (input .units) + 15 * j) (report e ++ drop (length (report e)) out)) ≡ linkLine e j =
-        ap (λ (k : ℕ). take 15 (drop (13 + 23 * k + 15 * j) (report e ++ drop (length (report e)) out))) (sym site-units) ∙ link-at e (drop (length (report e)) out) j q in
+        let x : take 15 (drop (13 + 23 * (input .units) + 15 * j) (report e ++ drop (length (report e)) out))
+        ≡ linkLine e j =
+        ap (λ (k : ℕ). take 15 (drop (13 + 23 * k + 15 * j) (report e ++ drop (length (report e)) out)))
+        (sym site-units) ∙ link-at e (drop (length (report e)) out) j q in
         rw (report-written out l, x, link-said j h) refl
 
     end-right : EndRight input e u

@@ -19,7 +19,8 @@ use Rattle.spec_machine.specs.Run.{ran}
 use Rattle.spec_machine.specs.RunLaws
 use Rattle.spec_machine.specs.RunLaws.{total, total-least, steps-add, steps-wellFormed, ended-exact, ran-made}
 use Rattle.spec_machine.specs.Report.{reportLength}
-use Rattle.spec_machine.specs.Calls.{roundAnswer, roundRefusal, runAnswer, questionRefusal, unitAnswer, unitRefusal, linkAnswer, linkRefusal, reportAnswer, reportRefusal, reported}
+use Rattle.spec_machine.specs.Calls.{roundAnswer, roundRefusal, runAnswer, questionRefusal, unitAnswer, unitRefusal}
+use Rattle.spec_machine.specs.Calls.{linkAnswer, linkRefusal, reportAnswer, reportRefusal, reported}
 use Rattle.theory_reach.specs.Started.{Started}
 use Rattle.theory_reach.specs.Reach.{table-steps}
 use Rattle.spec_claim.specs.Play.{Call, round, run, status, unit, link, report, answerTo, sliceAfter, play, used}
@@ -35,12 +36,15 @@ unfolding play
 replies-length [] s = refl
 replies-length (c ∷ cs) s = ap suc (replies-length cs (answerTo c s .state))
 
-replies-parted : (front back : List Call) (s : State) → play (front ++ back) s .replies ≡ play front s .replies ++ play back (play front s .last) .replies
+replies-parted : (front back : List Call) (s : State) →
+    play (front ++ back) s .replies ≡ play front s .replies ++ play back (play front s .last) .replies
 unfolding play
 replies-parted [] back s = refl
-replies-parted (c ∷ front) back s = ap (λ (l : List Reply). answerTo c s .reply ∷ l) (replies-parted front back (answerTo c s .state))
+replies-parted (c ∷ front) back s = ap (λ (l : List Reply). answerTo c s .reply ∷ l)
+    (replies-parted front back (answerTo c s .state))
 
-first-reply : (x : Call) (back : List Call) (e : State) → play (x ∷ back) e .replies ≡ answerTo x e .reply ∷ play back (answerTo x e .state) .replies
+first-reply : (x : Call) (back : List Call) (e : State) →
+    play (x ∷ back) e .replies ≡ answerTo x e .reply ∷ play back (answerTo x e .state) .replies
 unfolding play
 first-reply x back e = refl
 
@@ -51,12 +55,14 @@ not-past s w calls = go (decLt (total s) (used calls (play calls s .replies)))
     go : Dec (total s < used calls (play calls s .replies)) → used calls (play calls s .replies) ≤ total s
     go (yes l) =
         absurd
-        (not-both (finished (steps (total s) s)) (eq-eqb _ FINISHED (total-least s w .ends)) (play-spent calls s w .going (total s) l))
+        (not-both (finished (steps (total s) s)) (eq-eqb _ FINISHED (total-least s w .ends))
+        (play-spent calls s w .going (total s) l))
     go (no l) = omega arith
 
 -- ---- the answer on the state that the calls in front left
 
-module _ (input : Input) (s : State) (S : Started input s) (front : List Call) (e : State) (u : ℕ) (c : Claim input s front e u) where
+module _ (input : Input) (s : State) (S : Started input s) (front : List Call) (e : State) (u : ℕ)
+    (c : Claim input s front e u) where
   well : wellFormed e ≡ true
   well = rw (c .state) (steps-wellFormed u s (S .kept))
 
@@ -85,16 +91,20 @@ module _ (input : Input) (s : State) (S : Started input s) (front : List Call) (
                 last (no h) = omega arith
                 last (yes h) =
                     absurd
-                    (not-both (finished (steps i e)) (eq-eqb (steps i e .clock .stage) FINISHED (rw (there i) (ended-exact s (S .kept) (u + i) .1 h))) (m .going i (omega arith)))
+                    (not-both (finished (steps i e))
+                    (eq-eqb (steps i e .clock .stage) FINISHED
+                    (rw (there i) (ended-exact s (S .kept) (u + i) .1 h))) (m .going i (omega arith)))
 
             stop : (j ≡ budget) ⊎ (finished e′ ≡ true) → j ≡ min budget (total s - u)
             stop (inl q) = omega (arith, before-end j refl)
             stop (inr f) =
-                let q : steps (u + j) s .clock .stage ≡ FINISHED = rw (← (there j), ← (m .state)) (eqb-true (e′ .clock .stage) FINISHED f) in
+                let q : steps (u + j) s .clock .stage ≡ FINISHED =
+                rw (← (there j), ← (m .state)) (eqb-true (e′ .clock .stage) FINISHED f) in
                 omega (arith, before-end j refl, stage-end (u + j) q, m .within)
 
     told-before : (x : Call) → ToldBefore e u (total s - u) x (answerTo x e .reply) (sliceAfter x e)
-    unfolding roundAnswer roundRefusal runAnswer unitAnswer unitRefusal linkAnswer linkRefusal questionRefusal reportAnswer reportRefusal reported
+    unfolding roundAnswer roundRefusal runAnswer unitAnswer unitRefusal linkAnswer linkRefusal questionRefusal
+        reportAnswer reportRefusal reported
     told-before round = rw (well, unfinished) refl
     told-before (run budget) = rw (well, unfinished) (ap Made (made budget))
     told-before status = rw (c .status) refl
@@ -116,7 +126,8 @@ module _ (input : Input) (s : State) (S : Started input s) (front : List Call) (
     site-links = rw table-kept refl
 
     told-after : (x : Call) → ToldAfter input e u x (answerTo x e .reply) (sliceAfter x e)
-    unfolding roundAnswer roundRefusal runAnswer unitAnswer unitRefusal linkAnswer linkRefusal questionRefusal reportAnswer reportRefusal reported
+    unfolding roundAnswer roundRefusal runAnswer unitAnswer unitRefusal linkAnswer linkRefusal questionRefusal
+        reportAnswer reportRefusal reported
     told-after round = rw (well, ended) refl
     told-after (run budget) = rw (well, ended) refl
     told-after status = rw (c .status, c .end .0 over) refl
@@ -131,7 +142,10 @@ module _ (input : Input) (s : State) (S : Started input s) (front : List Call) (
     told-after (report out) = (
       λ h.
           let q : reportLength (units e) (links e) ≤ length out = rw (site-units, site-links) h in
-          rw (well, ended, le-ltb (length out) (reportLength (units e) (links e)) q) (rw (site-units, site-links) refl, refl),
+          rw (well, ended, le-ltb (length out) (reportLength (units e) (links e)) q) (
+            rw (site-units, site-links) refl,
+            refl,
+          ),
       λ h.
           let q : length out < reportLength (units e) (links e) = rw (site-units, site-links) h in
           rw (well, ended, lt-ltb (length out) (reportLength (units e) (links e)) q) (refl, refl),
@@ -144,7 +158,8 @@ answers-inside input s l front x back =
     let e = play front s .last in
     record {
       place = replies-length front s;
-      replies = replies-parted front (x ∷ back) s ∙ ap (λ (r : List Reply). play front s .replies ++ r) (first-reply x back e);
+      replies = replies-parted front (x ∷ back) s
+          ∙ ap (λ (r : List Reply). play front s .replies ++ r) (first-reply x back e);
       within = not-past s (S .kept) front;
       before = λ h. told-before input s S front e (used front (play front s .replies)) c h x;
       after = λ h. (c .right h, told-after input s S front e (used front (play front s .replies)) c h x);

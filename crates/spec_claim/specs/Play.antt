@@ -1,4 +1,5 @@
--- A list of calls, one after the other on the state that the last one left, by the definitions that the calls' contracts cite.
+-- A list of calls, one after the other on the state that the last one left, by the definitions that the calls'
+-- contracts cite.
 use mathlib.Core.Bool.{Bool, cond}
 use mathlib.Core.List.{List, [], _∷_}
 use Prim.Native.Nat.{ℕ, _+_}
@@ -8,7 +9,8 @@ use Rattle.spec_machine.specs.State.{State}
 use Rattle.spec_machine.specs.Calls.{Answer}
 use Rattle.spec_state.specs.declared.reply.Reply.{Reply}
 use Rattle.spec_state.specs.declared.reply.Reply.the-variants.{Refused, Done, Made, Status, Unit, Link, Read, Written}
-use Rattle.spec_machine.specs.Calls.{numberOf, roundAnswer, runAnswer, statusAnswer, unitAnswer, linkAnswer, reportAnswer, reported}
+use Rattle.spec_machine.specs.Calls.{numberOf, roundAnswer, runAnswer, statusAnswer, unitAnswer, linkAnswer}
+use Rattle.spec_machine.specs.Calls.{reportAnswer, reported}
 
 -- a call with any budget, number or slice
 pub data Call : Type 0 where

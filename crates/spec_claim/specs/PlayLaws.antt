@@ -1,4 +1,5 @@
--- What a list of calls does to a well-formed state: as many steps as it used, none past the end, and all that were asked for unless the end came.
+-- What a list of calls does to a well-formed state: as many steps as it used, none past the end, and all that were
+-- asked for unless the end came.
 use mathlib.Core.Path.{_≡_, refl, sym, ap, _∙_}
 use mathlib.Core.Bool.{Bool, true, false, cond, not}
 use mathlib.Core.Logic.{_⊎_, inl, inr, _↔_}
@@ -18,8 +19,11 @@ use Rattle.spec_machine.specs.Step.{step, steps}
 use Rattle.spec_machine.specs.Run.{ran}
 use Rattle.spec_machine.specs.RunLaws
 use Rattle.spec_machine.specs.RunLaws.{steps-add, steps-finished, steps-wellFormed, ran-made}
-use Rattle.spec_machine.specs.Calls.{numberOf, answered, roundRefusal, roundAnswer, runAnswer, statusAnswer, statusRefusal, unitAnswer, unitRefusal, linkAnswer, linkRefusal, reportAnswer, reportRefusal}
-use Rattle.spec_claim.specs.Play.{Call, round, run, status, unit, link, report, answerTo, Played, play, usedBy, used, askedBy, asked}
+use Rattle.spec_machine.specs.Calls.{numberOf, answered, roundRefusal, roundAnswer, runAnswer, statusAnswer}
+use Rattle.spec_machine.specs.Calls.{statusRefusal, unitAnswer, unitRefusal, linkAnswer, linkRefusal, reportAnswer}
+use Rattle.spec_machine.specs.Calls.{reportRefusal}
+use Rattle.spec_claim.specs.Play.{Call, round, run, status, unit, link, report, answerTo, Played, play, usedBy}
+use Rattle.spec_claim.specs.Play.{used, askedBy, asked}
 
 -- from s to s′ by u steps that were not past the end: all `wanted`, or up to the end
 pub record Spent (wanted : ℕ) (s s′ : State) (u : ℕ) : Type 0 where
@@ -60,7 +64,8 @@ round-spent : (s : State) → wellFormed s ≡ true → Spent 1 s (roundAnswer s
 unfolding roundAnswer roundRefusal
 round-spent s w = go (either (finished s))
   where
-    go : (finished s ≡ true) ⊎ (finished s ≡ false) → Spent 1 s (roundAnswer s .state) (usedBy round (roundAnswer s .reply))
+    go : (finished s ≡ true) ⊎ (finished s ≡ false) →
+        Spent 1 s (roundAnswer s .state) (usedBy round (roundAnswer s .reply))
     go (inl f) = rw (w, f) (over 1 s f)
     go (inr f) = rw (w, f) (single s f)
 
@@ -69,14 +74,16 @@ run-spent : (budget : ℕ) (s : State) → wellFormed s ≡ true
 unfolding runAnswer roundRefusal
 run-spent budget s w = go (either (finished s))
   where
-    go : (finished s ≡ true) ⊎ (finished s ≡ false) → Spent budget s (runAnswer budget s .state) (usedBy (run budget) (runAnswer budget s .reply))
+    go : (finished s ≡ true) ⊎ (finished s ≡ false) →
+        Spent budget s (runAnswer budget s .state) (usedBy (run budget) (runAnswer budget s .reply))
     go (inl f) = rw (w, f) (over budget s f)
     go (inr f) = rw (w, f) (record { state = m .state; going = m .going; stops = m .stops })
       where
         m : RunLaws.Made budget s (ran budget 0 s .0) (ran budget 0 s .1)
         m = ran-made budget s
 
-call-spent : (c : Call) (s : State) → wellFormed s ≡ true → Spent (askedBy c) s (answerTo c s .state) (usedBy c (answerTo c s .reply))
+call-spent : (c : Call) (s : State) → wellFormed s ≡ true →
+    Spent (askedBy c) s (answerTo c s .state) (usedBy c (answerTo c s .reply))
 unfolding statusAnswer unitAnswer linkAnswer reportAnswer
 call-spent round s w = round-spent s w
 call-spent (run budget) s w = run-spent budget s w
@@ -103,7 +110,8 @@ joined a b s s′ s″ u v p q =
     before i l (yes h) = p .going i h
     before i l (no h) =
         let e : i ≡ u + (i - u) = omega arith in
-        let g : steps i s ≡ steps (i - u) s′ = ap (λ (k : ℕ). steps k s) e ∙ steps-add u (i - u) s ∙ ap (steps (i - u)) (sym (p .state)) in
+        let g : steps i s ≡ steps (i - u) s′ =
+        ap (λ (k : ℕ). steps k s) e ∙ steps-add u (i - u) s ∙ ap (steps (i - u)) (sym (p .state)) in
         rw g (q .going (i - u) (omega arith))
 
     stop : (u ≡ a) ⊎ (finished s′ ≡ true) → (v ≡ b) ⊎ (finished s″ ≡ true) → (u + v ≡ a + b) ⊎ (finished s″ ≡ true)
@@ -111,11 +119,13 @@ joined a b s s′ s″ u v p q =
     stop (inl e) (inl g) = inl (omega arith)
     stop (inr f) (inl g) = inr (at-end f)
 
-pub play-spent : (calls : List Call) (s : State) → wellFormed s ≡ true → Spent (asked calls) s (play calls s .last) (used calls (play calls s .replies))
+pub play-spent : (calls : List Call) (s : State) → wellFormed s ≡ true →
+    Spent (asked calls) s (play calls s .last) (used calls (play calls s .replies))
 unfolding play used asked
 play-spent [] s w = idle s
 play-spent (c ∷ cs) s w =
-    joined (askedBy c) (asked cs) s (answerTo c s .state) (play cs (answerTo c s .state) .last) _ _ first (play-spent cs (answerTo c s .state) (rw (first .state) (steps-wellFormed _ s w)))
+    joined (askedBy c) (asked cs) s (answerTo c s .state) (play cs (answerTo c s .state) .last) _ _ first
+    (play-spent cs (answerTo c s .state) (rw (first .state) (steps-wellFormed _ s w)))
   where
     first : Spent (askedBy c) s (answerTo c s .state) (usedBy c (answerTo c s .reply))
     first = call-spent c s w

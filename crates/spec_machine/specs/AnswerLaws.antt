@@ -41,11 +41,15 @@ module _ (k : ℕ) (s after : State) (reply : Reply) where
 
 -- ---- status
 
-pub status-refused : (s : State) → wellFormed s ≡ false → _≡_ {A = Answer} (record { state = s; reply = Refused 10 }) (statusAnswer s)
+pub status-refused : (s : State) → wellFormed s ≡ false →
+    _≡_ {A = Answer} (record { state = s; reply = Refused 10 }) (statusAnswer s)
 unfolding statusAnswer statusRefusal
 status-refused s e = rw e refl
 
 pub status-made : (s : State) → wellFormed s ≡ true
-    → _≡_ {A = Answer} (record { state = s; reply = Status (s .clock .stage) (countdown s) (s .clock .rounds) (s .clock .requests) }) (statusAnswer s)
+    → _≡_ {A = Answer} (record {
+      state = s;
+      reply = Status (s .clock .stage) (countdown s) (s .clock .rounds) (s .clock .requests);
+    }) (statusAnswer s)
 unfolding statusAnswer statusRefusal
 status-made s e = rw e refl

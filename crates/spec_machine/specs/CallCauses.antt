@@ -1,5 +1,6 @@
--- Each call's refusals are bound to their causes, and only those: the reply is number k exactly when cause k holds and no earlier cause of that
--- call does; a call is refused exactly when some cause holds; and a refused call hands back the state as given.
+-- Each call's refusals are bound to their causes, and only those: the reply is number k exactly when cause k holds and
+-- no earlier cause of that call does; a call is refused exactly when some cause holds; and a refused call hands back
+-- the state as given.
 use mathlib.Core.Path.{_≡_, refl, sym, _∙_}
 use mathlib.Core.Bool.{Bool, true, false, cond, not}
 use mathlib.Core.Logic.{_⊎_, inl, inr, _↔_}
@@ -26,18 +27,29 @@ use Rattle.spec_machine.specs.State.{units, links, finished, FINISHED}
 use Rattle.spec_machine.specs.Kept.{Kept, kept-exact}
 use Rattle.spec_machine.specs.WellFormed.{wellFormed}
 use Rattle.spec_machine.specs.Report.{reportLength}
-use Rattle.spec_machine.specs.Load.{Input, linksIn, storedLoadRefusal, loadRefusal, parentsDiffer, parentsUnfit, plannedLoadRefusal}
+use Rattle.spec_machine.specs.Load.{Input, linksIn, storedLoadRefusal, loadRefusal, parentsDiffer, parentsUnfit}
+use Rattle.spec_machine.specs.Load.{plannedLoadRefusal}
 use Rattle.spec_machine.specs.Calls
 
 -- ---- the reasons
 
 -- 10: the state is not kept
 abbrev pub notKept : State → Reason
-notKept s = record { number = 10; test = not (wellFormed s); cause = Kept s → ⊥; exact = not-exact (wellFormed s) (kept-exact s) }
+notKept s = record {
+  number = 10;
+  test = not (wellFormed s);
+  cause = Kept s → ⊥;
+  exact = not-exact (wellFormed s) (kept-exact s);
+}
 
 -- 11: a round or run is wanted of a finished survey
 abbrev pub atEnd : State → Reason
-atEnd s = record { number = 11; test = finished s; cause = s .clock .stage ≡ FINISHED; exact = eq-exact (s .clock .stage) FINISHED }
+atEnd s = record {
+  number = 11;
+  test = finished s;
+  cause = s .clock .stage ≡ FINISHED;
+  exact = eq-exact (s .clock .stage) FINISHED;
+}
 
 -- 12: a question or report is wanted before the end
 abbrev pub beforeEnd : State → Reason
@@ -52,17 +64,28 @@ beforeEnd s =
 -- 13: a unit or position doesn't exist
 abbrev pub missing : ℕ → ℕ → Reason
 missing i k =
-    record { number = 13; test = not (ltb i k); cause = i < k → ⊥; exact = not-exact (ltb i k) (ltb-true i k, lt-ltb i k) }
+    record {
+      number = 13;
+      test = not (ltb i k);
+      cause = i < k → ⊥;
+      exact = not-exact (ltb i k) (ltb-true i k, lt-ltb i k);
+    }
 
 -- 14: the output slice is too short
 abbrev pub tooShort : ℕ → ℕ → Reason
 tooShort places needed =
-    record { number = 14; test = ltb places needed; cause = places < needed; exact = (ltb-true places needed, lt-ltb places needed) }
+    record {
+      number = 14;
+      test = ltb places needed;
+      cause = places < needed;
+      exact = (ltb-true places needed, lt-ltb places needed);
+    }
 
 -- ---- an answer and its number
 
 -- the number that comes back is the refusal's
-number-answered : (k : ℕ) (s after : State) (reply : Reply) → Calls.numberOf reply ≡ 0 → Calls.numberOf (Calls.answered k s after reply .reply) ≡ k
+number-answered : (k : ℕ) (s after : State) (reply : Reply) → Calls.numberOf reply ≡ 0 →
+    Calls.numberOf (Calls.answered k s after reply .reply) ≡ k
 number-answered k s after reply z = go (either (eqb k 0))
   where
     go : (eqb k 0 ≡ true) ⊎ (eqb k 0 ≡ false) → Calls.numberOf (Calls.answered k s after reply .reply) ≡ k
@@ -83,7 +106,8 @@ pub record Bound (reasons : List Reason) (s : State) (answer : Answer) : Type 0 
   pub refused : (Calls.numberOf (answer .reply) ≡ 0 → ⊥) ↔ SomeCause reasons
   pub unmoved : (Calls.numberOf (answer .reply) ≡ 0 → ⊥) → answer .state ≡ s
 
-bound : (reasons : List Reason) → Numbered reasons → (k : ℕ) → k ≡ firstOf (tests reasons) → (s after : State) (reply : Reply)
+bound : (reasons : List Reason) → Numbered reasons → (k : ℕ) → k ≡ firstOf (tests reasons) →
+    (s after : State) (reply : Reply)
     → Calls.numberOf reply ≡ 0 → Bound reasons s (Calls.answered k s after reply)
 bound reasons p k e s after reply z =
     record {
@@ -94,7 +118,8 @@ bound reasons p k e s after reply z =
 
 -- ---- the calls
 
-pub load-bound : (input : Input) (s : State) → Bound (freshReasons (input .units) (input .words) (input .levels)) s (Calls.loadAnswer input s)
+pub load-bound : (input : Input) (s : State) →
+    Bound (freshReasons (input .units) (input .words) (input .levels)) s (Calls.loadAnswer input s)
 unfolding Calls.loadAnswer freshReasons storedReasons
 load-bound input s =
     let n = input .units in
@@ -102,11 +127,14 @@ load-bound input s =
     let ls = input .levels in
     bound (freshReasons n t ls) (omega arith) (loadRefusal input) (freshRefusal-tests n t ls) s _ _ refl
 
-pub stored-load-bound : (input : Input) (s : State) → Bound (storedReasons (input .units) (input .words) (input .levels)) s (Calls.storedLoadAnswer input s)
+pub stored-load-bound : (input : Input) (s : State) →
+    Bound (storedReasons (input .units) (input .words) (input .levels)) s (Calls.storedLoadAnswer input s)
 unfolding Calls.storedLoadAnswer storedRefusal storedReasons
-stored-load-bound input s = bound (storedReasons (input .units) (input .words) (input .levels)) (omega arith) (storedLoadRefusal input) refl s _ _ refl
+stored-load-bound input s = bound (storedReasons (input .units) (input .words) (input .levels)) (omega arith)
+    (storedLoadRefusal input) refl s _ _ refl
 
--- with a planner's table of parents: 18 in the words of chains of parents; theory_reach/specs/PlanCause has it in those of document 02
+-- with a planner's table of parents: 18 in the words of chains of parents; theory_reach/specs/PlanCause has it in those
+-- of document 02
 abbrev pub planReasons : Input → List ℕ → List Reason
 planReasons input ps =
     record {
@@ -125,11 +153,14 @@ planReasons input ps =
 
 abbrev pub plannedReasons : Input → List ℕ → List Reason
 plannedReasons input ps =
-    storedReasons (input .units) (input .words) (input .levels) ++ (planReasons input ps ++ unitReasons (input .units) (input .words))
+    storedReasons (input .units) (input .words) (input .levels)
+    ++ (planReasons input ps ++ unitReasons (input .units) (input .words))
 
-pub planned-load-bound : (input : Input) (ps : List ℕ) (s : State) → Bound (plannedReasons input ps) s (Calls.plannedLoadAnswer input ps s)
+pub planned-load-bound : (input : Input) (ps : List ℕ) (s : State) →
+    Bound (plannedReasons input ps) s (Calls.plannedLoadAnswer input ps s)
 unfolding Calls.plannedLoadAnswer plannedLoadRefusal storedReasons
-planned-load-bound input ps s = bound (plannedReasons input ps) (omega arith) (plannedLoadRefusal input ps) refl s _ _ refl
+planned-load-bound input ps s = bound (plannedReasons input ps) (omega arith)
+    (plannedLoadRefusal input ps) refl s _ _ refl
 
 abbrev pub roundReasons : State → List Reason
 roundReasons s = notKept s ∷ atEnd s ∷ []
@@ -169,7 +200,8 @@ pub read-bound : (input : List ℕ) (places spaces : ℕ) (s : State)
     → Bound (readReasons (linesOf input) places spaces) s (Calls.readAnswer input places spaces s)
 unfolding Calls.readAnswer readReasons
 read-bound input places spaces s =
-    bound (readReasons (linesOf input) places spaces) (omega arith) (readRefusal (linesOf input) places spaces) (readRefusal-tests (linesOf input) places spaces) s _ _ refl
+    bound (readReasons (linesOf input) places spaces) (omega arith) (readRefusal (linesOf input) places spaces)
+    (readRefusal-tests (linesOf input) places spaces) s _ _ refl
 
 pub write-bound : (input : Input) (places : ℕ) (s : State)
     → Bound (writeReasons (input .units) (input .words) (input .levels) places) s (Calls.writeAnswer input places s)
@@ -178,4 +210,5 @@ write-bound input places s =
     let n = input .units in
     let t = input .words in
     let ls = input .levels in
-    bound (writeReasons n t ls places) (omega arith) (writeRefusal n t ls places) (writeRefusal-tests n t ls places) s _ _ refl
+    bound (writeReasons n t ls places) (omega arith) (writeRefusal n t ls places)
+    (writeRefusal-tests n t ls places) s _ _ refl

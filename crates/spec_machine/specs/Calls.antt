@@ -1,4 +1,5 @@
--- Each call's answer: the state handed back and the reply. A refusal gives only its number, with the state as given and nothing written.
+-- Each call's answer: the state handed back and the reply. A refusal gives only its number, with the state as given and
+-- nothing written.
 use mathlib.Core.Bool.{Bool, cond, not}
 use mathlib.Core.List.{List, [], _∷_}
 use Prim.Native.Nat.{ℕ}
@@ -10,11 +11,13 @@ use Rattle.spec_machine.specs.State.{State}
 use Rattle.spec_state.specs.declared.reply.Reply.{Reply}
 use Rattle.spec_state.specs.declared.reply.Reply.the-variants.{Refused, Done, Made, Status, Unit, Link, Read, Written}
 use Rattle.spec_machine.specs.State.{units, links, finished}
-use Rattle.spec_machine.specs.Load.{Input, linksIn, storedLoadRefusal, loadRefusal, loaded, plannedLoadRefusal, plannedLoaded}
+use Rattle.spec_machine.specs.Load.{Input, linksIn, storedLoadRefusal, loadRefusal, loaded, plannedLoadRefusal}
+use Rattle.spec_machine.specs.Load.{plannedLoaded}
 use Rattle.spec_machine.specs.WellFormed.{wellFormed}
 use Rattle.spec_machine.specs.Step.{step, countdown}
 use Rattle.spec_machine.specs.Run.{ran}
-use Rattle.spec_machine.specs.Report.{flag, unitColor, unitParent, unitPlace, unitSingle, linkLabel, linkLone, report, reportLength}
+use Rattle.spec_machine.specs.Report.{flag, unitColor, unitParent, unitPlace, unitSingle, linkLabel, linkLone}
+use Rattle.spec_machine.specs.Report.{report, reportLength}
 
 -- what a call hands back: the state, and its reply
 pub record Answer : Type 0 where
@@ -34,7 +37,8 @@ numberOf (Written k) = 0
 
 -- the answer where refusal k came up, or the call was made (k = 0): the state after it and its reply
 abbrev pub answered : ℕ → State → State → Reply → Answer
-answered k s after reply = cond (eqb k 0) (record { state = after; reply = reply }) (record { state = s; reply = Refused k })
+answered k s after reply = cond (eqb k 0) (record { state = after; reply = reply })
+    (record { state = s; reply = Refused k })
 
 -- the values of a reply, in document 01's order
 abbrev pub valuesOf : Reply → List ℕ
@@ -76,7 +80,8 @@ unfoldable pub statusRefusal : State → ℕ
 statusRefusal s = firstOf ((10, not (wellFormed s)) ∷ [])
 
 unfoldable pub statusAnswer : State → Answer
-statusAnswer s = answered (statusRefusal s) s s (Status (s .clock .stage) (countdown s) (s .clock .rounds) (s .clock .requests))
+statusAnswer s = answered (statusRefusal s) s s
+    (Status (s .clock .stage) (countdown s) (s .clock .rounds) (s .clock .requests))
 
 -- ---- questions: 10, 12, 13
 
@@ -87,7 +92,8 @@ unfoldable pub unitRefusal : ℕ → State → ℕ
 unitRefusal v s = questionRefusal s (ltb v (units s))
 
 unfoldable pub unitAnswer : ℕ → State → Answer
-unitAnswer v s = answered (unitRefusal v s) s s (Unit v (unitColor s v) (unitParent s v) (unitPlace s v) (unitSingle s v))
+unitAnswer v s = answered (unitRefusal v s) s s
+    (Unit v (unitColor s v) (unitParent s v) (unitPlace s v) (unitSingle s v))
 
 unfoldable pub linkRefusal : ℕ → State → ℕ
 linkRefusal j s = questionRefusal s (ltb j (links s))
@@ -114,9 +120,11 @@ reported s out = written (reportRefusal s (length out)) (report s) out
 -- reading a file into words and levels: 1, 2, 3, 6, 16, 14
 unfoldable pub readAnswer : List ℕ → ℕ → ℕ → State → Answer
 readAnswer input places spaces s =
-    answered (readRefusal (linesOf input) places spaces) s s (Read (unitsIn (linesOf input)) (linkFrames (linesOf input)))
+    answered (readRefusal (linesOf input) places spaces) s s
+    (Read (unitsIn (linesOf input)) (linkFrames (linesOf input)))
 
 -- writing a file from words and levels: 4 to 6, 15, 16, 7 to 9, 22, 14
 unfoldable pub writeAnswer : Input → ℕ → State → Answer
 writeAnswer input places s =
-    answered (writeRefusal (input .units) (input .words) (input .levels) places) s s (Written (fileLength (linksIn input)))
+    answered (writeRefusal (input .units) (input .words) (input .levels) places) s s
+    (Written (fileLength (linksIn input)))

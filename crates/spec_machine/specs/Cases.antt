@@ -1,5 +1,5 @@
--- The proved cases A to K of document 01 and those of document 02's T-05 and T-10: rows of one table, held by one theorem. Every figure stands here once, and is compared with what the
--- definitions compute.
+-- The proved cases A to K of document 01 and those of document 02's T-05 and T-10: rows of one table, held by one
+-- theorem. Every figure stands here once, and is compared with what the definitions compute.
 use mathlib.Core.Path.{_≡_, refl, ap₂}
 use mathlib.Core.Bool.{Bool, true, false, cond, _&&_, false≢true}
 use mathlib.Core.List.{List, [], _∷_, _++_}
@@ -10,7 +10,8 @@ use borrow.Author.Tests.{eqb-true}
 use Rattle.base_lists.specs.Tests.{and-left, and-right}
 use Rattle.base_lists.specs.Text.{characters}
 use Rattle.table_levels.specs.Level.{inRange}
-use Rattle.table.specs.Table.{storedRefusal, freshRefusal, endMissing, equalEnds, joinedIn, repeatedLink, isEnd, unlinkedBelow}
+use Rattle.table.specs.Table.{storedRefusal, freshRefusal, endMissing, equalEnds, joinedIn, repeatedLink, isEnd}
+use Rattle.table.specs.Table.{unlinkedBelow}
 use Rattle.base_log2.specs.Lg.{lg, lgFrom}
 use Rattle.file_frames.specs.Frame.{lineOf, hexesOf, sumOf, checkByte}
 use Rattle.file_spec.specs.Example.{caseB}
@@ -19,17 +20,20 @@ use Rattle.spec_rules.specs.Ceilings
 use Rattle.spec_rules.specs.Components.{leastHeard, colorRound, colorEnds}
 use Rattle.spec_rules.specs.Tree.{better, prefer, bestNeighbor, chosenParent, visits, parentRound, distRound, treeEnds}
 use Rattle.spec_rules.specs.Planned.{plannedParents, plannedDists, planUnfit}
-use Rattle.spec_rules.specs.Tour.{leastNeighbor, greaterNeighbor, neighborAfter, follower, isStart, predecessor, nextRound, predRound, firstSums, firstJumps}
+use Rattle.spec_rules.specs.Tour.{leastNeighbor, greaterNeighbor, neighborAfter, follower, isStart, predecessor}
+use Rattle.spec_rules.specs.Tour.{nextRound, predRound, firstSums, firstJumps}
 use Rattle.spec_rules.specs.Ranking.{sumRound, jumpRound, requestsOf, rankingEnds}
 use Rattle.spec_rules.specs.Order.{forwardRound, descendants, ndRound, secondSums, secondJumps, placeOf, preRound}
 use Rattle.spec_rules.specs.Range
-use Rattle.spec_rules.specs.Range.{localOf, unitAt, localAt, globalFirst, rangeFirst, littleFirst, bigFirst, withLittle, withBig, rangeLater, littleLater, bigLater, globalLater, rangeEnds}
+use Rattle.spec_rules.specs.Range.{localOf, unitAt, localAt, globalFirst, rangeFirst, littleFirst, bigFirst, withLittle}
+use Rattle.spec_rules.specs.Range.{withBig, rangeLater, littleLater, bigLater, globalLater, rangeEnds}
 use Rattle.spec_rules.specs.Aux.{linkJoinsRound, joinsParent, parentJoinsRound, leastJoined, auxRound, auxEnds}
 use Rattle.spec_rules.specs.Labels.{namingUnit, classRound, labelOf, labelRound, lone, single}
 use Rattle.spec_machine.specs.Parts.{parts, groups}
 use Rattle.spec_machine.specs.State.{State}
 use Rattle.spec_machine.specs.State.{units, links, finished}
-use Rattle.spec_machine.specs.Load.{Input, bare, storedLoadRefusal, loadRefusal, loaded, begun, absents, zeros, silences, plannedLoadRefusal, plannedLoaded}
+use Rattle.spec_machine.specs.Load.{Input, bare, storedLoadRefusal, loadRefusal, loaded, begun, absents, zeros}
+use Rattle.spec_machine.specs.Load.{silences, plannedLoadRefusal, plannedLoaded}
 use Rattle.spec_machine.specs.Step
 use Rattle.spec_machine.specs.Run.{ran}
 use Rattle.spec_machine.specs.Report.{unitSingle, linkLone, report, headLine, unitLine, linkLine, tailLine}
@@ -56,7 +60,8 @@ pub data Case : Type 0 where
   checks : ℕ → List ℕ → ℕ → ℕ → Case
   -- a table that the load of a stored table accepts, and the countdown first shown
   opens : ℕ → List ℕ → ℕ → Case
-  -- a site with a table of parents drawn by the planner (document 02, T-05), and its figures; and the number that its load gives
+  -- a site with a table of parents drawn by the planner (document 02, T-05), and its figures; and the number that its
+  -- load gives
   plans : ℕ → List ℕ → List ℕ → List Figure → Case
   draws : ℕ → List ℕ → List ℕ → ℕ → Case
   -- a list of objects to rank, and its rounds and requests
@@ -83,7 +88,8 @@ shows s e rounds (Labels l) = equal (take (links e) (e .labels .label)) l
 shows s e rounds (Places l) = equal (take (units e) (e .order .pre)) l
 shows s e rounds (Lone l) = equal (passing (links e) (linkLone e)) l
 shows s e rounds (Singles l) = equal (passing (units e) (unitSingle e)) l
-shows s e rounds (Parts k g) = eqb (parts (units e) (links e) (e .table .ends) (e .labels .label)) k && eqb (groups (units e) (e .components .color)) g
+shows s e rounds (Parts k g) = eqb (parts (units e) (links e) (e .table .ends) (e .labels .label)) k
+    && eqb (groups (units e) (e .components .color)) g
 shows s e rounds (Report l) = equal (report e) l
 
 abbrev showsAll : State → State → ℕ → List Figure → Bool
@@ -185,17 +191,22 @@ cases =
     ∷ checks 3 (2 ∷ 0 ∷ []) 0 22
     ∷ checks 3 (0 ∷ 1 ∷ 1 ∷ 0 ∷ []) 9 9
     -- T-05: a plan with a link off it between ancestor and descendant; A, B with each of its trees and C with a plan
-    ∷ plans 4 (3 ∷ 2 ∷ 3 ∷ 1 ∷ 0 ∷ 3 ∷ 1 ∷ 2 ∷ []) (ABSENT ∷ 2 ∷ 3 ∷ 0 ∷ []) (Labels (0 ∷ 0 ∷ 2 ∷ 0 ∷ []) ∷ Lone (2 ∷ []) ∷ Singles (3 ∷ []) ∷ [])
+    ∷ plans 4 (3 ∷ 2 ∷ 3 ∷ 1 ∷ 0 ∷ 3 ∷ 1 ∷ 2 ∷ []) (ABSENT ∷ 2 ∷ 3 ∷ 0 ∷ [])
+    (Labels (0 ∷ 0 ∷ 2 ∷ 0 ∷ []) ∷ Lone (2 ∷ []) ∷ Singles (3 ∷ []) ∷ [])
     ∷ plans 1 [] (ABSENT ∷ []) (Rounds 15 ∷ Countdown 16 ∷ [])
-    ∷ plans 4 caseB (ABSENT ∷ 0 ∷ 1 ∷ 2 ∷ []) (Rounds 24 ∷ Countdown 30 ∷ Labels (0 ∷ 0 ∷ 0 ∷ 3 ∷ []) ∷ Lone (3 ∷ []) ∷ Singles (2 ∷ []) ∷ [])
-    ∷ plans 4 caseB (ABSENT ∷ 0 ∷ 0 ∷ 2 ∷ []) (Rounds 24 ∷ Countdown 30 ∷ Labels (0 ∷ 0 ∷ 0 ∷ 3 ∷ []) ∷ Lone (3 ∷ []) ∷ Singles (2 ∷ []) ∷ [])
-    ∷ plans 4 caseB (ABSENT ∷ 2 ∷ 0 ∷ 2 ∷ []) (Rounds 24 ∷ Countdown 30 ∷ Labels (0 ∷ 0 ∷ 0 ∷ 3 ∷ []) ∷ Lone (3 ∷ []) ∷ Singles (2 ∷ []) ∷ [])
+    ∷ plans 4 caseB (ABSENT ∷ 0 ∷ 1 ∷ 2 ∷ [])
+    (Rounds 24 ∷ Countdown 30 ∷ Labels (0 ∷ 0 ∷ 0 ∷ 3 ∷ []) ∷ Lone (3 ∷ []) ∷ Singles (2 ∷ []) ∷ [])
+    ∷ plans 4 caseB (ABSENT ∷ 0 ∷ 0 ∷ 2 ∷ [])
+    (Rounds 24 ∷ Countdown 30 ∷ Labels (0 ∷ 0 ∷ 0 ∷ 3 ∷ []) ∷ Lone (3 ∷ []) ∷ Singles (2 ∷ []) ∷ [])
+    ∷ plans 4 caseB (ABSENT ∷ 2 ∷ 0 ∷ 2 ∷ [])
+    (Rounds 24 ∷ Countdown 30 ∷ Labels (0 ∷ 0 ∷ 0 ∷ 3 ∷ []) ∷ Lone (3 ∷ []) ∷ Singles (2 ∷ []) ∷ [])
     ∷ plans 2 (0 ∷ 1 ∷ []) (ABSENT ∷ 0 ∷ []) (Rounds 18 ∷ Lone (0 ∷ []) ∷ Singles [] ∷ [])
     -- 17: a parent too few or too many, whatever they are; 9 comes before it
     ∷ draws 2 (0 ∷ 1 ∷ []) (1 ∷ []) 17
     ∷ draws 2 (0 ∷ 1 ∷ []) (ABSENT ∷ 0 ∷ 0 ∷ []) 17
     ∷ draws 2 (0 ∷ 1 ∷ 1 ∷ 0 ∷ []) [] 9
-    -- 18: a colour unit with a parent, also in a circle; another without one; a parent that is no neighbour, or no unit; a circle
+    -- 18: a colour unit with a parent, also in a circle; another without one; a parent that is no neighbour, or no
+    -- unit; a circle
     ∷ draws 2 (0 ∷ 1 ∷ []) (1 ∷ ABSENT ∷ []) 18
     ∷ draws 2 (0 ∷ 1 ∷ []) (1 ∷ 0 ∷ []) 18
     ∷ draws 2 (0 ∷ 1 ∷ []) (ABSENT ∷ ABSENT ∷ []) 18
@@ -208,7 +219,18 @@ cases =
     ∷ []
 
 pub cases-hold : holdAll cases ≡ true
-unfolding caseB inRange storedRefusal freshRefusal endMissing equalEnds joinedIn repeatedLink isEnd unlinkedBelow lg lgFrom lineOf hexesOf sumOf checkByte Ceilings.countdown leastHeard colorRound colorEnds better prefer bestNeighbor chosenParent visits parentRound distRound treeEnds leastNeighbor greaterNeighbor neighborAfter follower isStart predecessor nextRound predRound firstSums firstJumps sumRound jumpRound requestsOf rankingEnds forwardRound descendants ndRound secondSums secondJumps placeOf preRound localOf unitAt localAt globalFirst rangeFirst littleFirst bigFirst withLittle withBig rangeLater littleLater bigLater globalLater rangeEnds linkJoinsRound joinsParent parentJoinsRound leastJoined auxRound auxEnds namingUnit classRound labelOf labelRound lone single parts groups loaded begun absents zeros silences planUnfit plannedLoadRefusal plannedLoaded plannedParents plannedDists Step.components Step.treeSearched Step.treePlanned Step.tree Step.tourNext Step.tourPred Step.tour Step.ranking Step.marksForward Step.marksDescendants Step.marks Step.places Step.rangeBegun Step.rangeDoubled Step.range Step.auxEdges Step.auxComponents Step.labelClasses Step.labelPositions Step.labels Step.ruleEnds Step.lastRound Step.roundTables Step.roundRequests Step.nextClock Step.step ran report headLine unitLine linkLine tailLine
+unfolding caseB inRange storedRefusal freshRefusal endMissing equalEnds joinedIn repeatedLink isEnd unlinkedBelow lg
+    lgFrom lineOf hexesOf sumOf checkByte Ceilings.countdown leastHeard colorRound colorEnds better prefer bestNeighbor
+    chosenParent visits parentRound distRound treeEnds leastNeighbor greaterNeighbor neighborAfter follower isStart
+    predecessor nextRound predRound firstSums firstJumps sumRound jumpRound requestsOf rankingEnds forwardRound
+    descendants ndRound secondSums secondJumps placeOf preRound localOf unitAt localAt globalFirst rangeFirst
+    littleFirst bigFirst withLittle withBig rangeLater littleLater bigLater globalLater rangeEnds linkJoinsRound
+    joinsParent parentJoinsRound leastJoined auxRound auxEnds namingUnit classRound labelOf labelRound lone single parts
+    groups loaded begun absents zeros silences planUnfit plannedLoadRefusal plannedLoaded plannedParents plannedDists
+    Step.components Step.treeSearched Step.treePlanned Step.tree Step.tourNext Step.tourPred Step.tour Step.ranking
+    Step.marksForward Step.marksDescendants Step.marks Step.places Step.rangeBegun Step.rangeDoubled Step.range
+    Step.auxEdges Step.auxComponents Step.labelClasses Step.labelPositions Step.labels Step.ruleEnds Step.lastRound
+    Step.roundTables Step.roundRequests Step.nextClock Step.step ran report headLine unitLine linkLine tailLine
 cases-hold = refl
 
 -- ---- a row out of the table
@@ -218,15 +240,18 @@ equal-exact [] [] e = refl
 equal-exact [] (y ∷ t) e = absurd (false≢true e)
 equal-exact (x ∷ s) [] e = absurd (false≢true e)
 equal-exact (x ∷ s) (y ∷ t) e =
-    ap₂ (λ (z : ℕ) (l : List ℕ). z ∷ l) (eqb-true x y (and-left (eqb x y) (equal s t) e)) (equal-exact s t (and-right (eqb x y) (equal s t) e))
+    ap₂ (λ (z : ℕ) (l : List ℕ). z ∷ l) (eqb-true x y (and-left (eqb x y) (equal s t) e))
+    (equal-exact s t (and-right (eqb x y) (equal s t) e))
 
 row-holds : (front : List Case) (c : Case) (back : List Case) → holdAll (front ++ c ∷ back) ≡ true → holds c ≡ true
 row-holds [] c back h = and-left (holds c) (holdAll back) h
 row-holds (f ∷ front) c back h = row-holds front c back (and-right (holds f) (holdAll (front ++ c ∷ back)) h)
 
-figure-shown : (s e : State) (k : ℕ) (front : List Figure) (f : Figure) (back : List Figure) → showsAll s e k (front ++ f ∷ back) ≡ true → shows s e k f ≡ true
+figure-shown : (s e : State) (k : ℕ) (front : List Figure) (f : Figure) (back : List Figure) →
+    showsAll s e k (front ++ f ∷ back) ≡ true → shows s e k f ≡ true
 figure-shown s e k [] f back h = and-left (shows s e k f) (showsAll s e k back) h
-figure-shown s e k (g ∷ front) f back h = figure-shown s e k front f back (and-right (shows s e k g) (showsAll s e k (front ++ f ∷ back)) h)
+figure-shown s e k (g ∷ front) f back h =
+    figure-shown s e k front f back (and-right (shows s e k g) (showsAll s e k (front ++ f ∷ back)) h)
 
 -- case B: its table passes, and what the definitions report of it, run with the first countdown as its budget
 parts-B : (storedLoadRefusal siteB ≡ 0) × (report (ran (Step.countdown (loaded siteB)) 0 (loaded siteB) .0) ≡ reportB)
@@ -238,7 +263,8 @@ parts-B =
     let passes = eqb (storedLoadRefusal siteB) 0 in
     let row : holds rowB ≡ true = row-holds (take 1 cases) rowB (drop 2 cases) cases-hold in
     let all : showsAll s e k figures ≡ true = and-right (passes && finished e) (showsAll s e k figures) row in (
-      eqb-true (storedLoadRefusal siteB) 0 (and-left passes (finished e) (and-left (passes && finished e) (showsAll s e k figures) row)),
+      eqb-true (storedLoadRefusal siteB) 0
+          (and-left passes (finished e) (and-left (passes && finished e) (showsAll s e k figures) row)),
       equal-exact (report e) reportB (figure-shown s e k (Rounds 27 ∷ Countdown 30 ∷ []) (Report reportB) [] all),
     )
 

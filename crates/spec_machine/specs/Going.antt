@@ -29,14 +29,16 @@ ran-more : (b k : ℕ) (s : State) → finished s ≡ false → ran (suc b) k s 
 unfolding ran
 ran-more b k s f = rw f refl
 
-pub goes-on : (budget : ℕ) (s₀ : State) (made : ℕ) (s s′ : State) → Going budget s₀ made s → made < budget → (s .clock .stage ≡ FINISHED → ⊥) → s′ ≡ step s
+pub goes-on : (budget : ℕ) (s₀ : State) (made : ℕ) (s s′ : State) → Going budget s₀ made s → made < budget →
+    (s .clock .stage ≡ FINISHED → ⊥) → s′ ≡ step s
     → Going budget s₀ (made + 1) s′
 goes-on budget s₀ made s s′ g l h e =
     let f : finished s ≡ false = ne-eqb (s .clock .stage) FINISHED h in
     let more : budget - made ≡ suc (budget - (made + 1)) = omega arith in
     let one : made + 1 ≡ suc made = add-one made in
     let after : ran (budget - made) made s ≡ ran (budget - (made + 1)) (made + 1) (step s) =
-    ap (λ (b : ℕ). ran b made s) more ∙ ran-more (budget - (made + 1)) made s f ∙ ap (λ (k : ℕ). ran (budget - (made + 1)) k (step s)) (sym one) in
+    ap (λ (b : ℕ). ran b made s) more ∙ ran-more (budget - (made + 1)) made s f
+    ∙ ap (λ (k : ℕ). ran (budget - (made + 1)) k (step s)) (sym one) in
     record {
       well = rw e (step-wellFormed s (g .well) f);
       within = omega arith;
@@ -54,13 +56,15 @@ unfolding ran
 ran-finished zero k s f = refl
 ran-finished (suc b) k s f = rw f refl
 
-pub spent : (budget : ℕ) (s₀ : State) (made : ℕ) (s : State) → Going budget s₀ made s → budget ≤ made → ran budget 0 s₀ ≡ (s, made)
+pub spent : (budget : ℕ) (s₀ : State) (made : ℕ) (s : State) → Going budget s₀ made s → budget ≤ made →
+    ran budget 0 s₀ ≡ (s, made)
 spent budget s₀ made s g l =
     let none : budget - made ≡ 0 = omega arith in
     g .left ∙ ap (λ (b : ℕ). ran b made s) none ∙ ran-none made s
 
 -- a stage past the tenth is the end
-pub ended : (budget : ℕ) (s₀ : State) (made : ℕ) (s : State) → Going budget s₀ made s → 10 < s .clock .stage → ran budget 0 s₀ ≡ (s, made)
+pub ended : (budget : ℕ) (s₀ : State) (made : ℕ) (s : State) → Going budget s₀ made s → 10 < s .clock .stage →
+    ran budget 0 s₀ ≡ (s, made)
 ended budget s₀ made s g h =
     let k : Kept s = kept-exact s .0 (g .well) in
     let e : s .clock .stage ≡ FINISHED = omega (arith, k .to) in

@@ -45,7 +45,8 @@ lastAt n ends c = ends || leb (ceiling n (c .stage)) (c .made + 1)
 
 -- the clock stands in stage k, one of the ten, with room for a round
 unfoldable pub inStage : ℕ → ℕ → Clock → Bool
-inStage n k c = (leb n 256 && (leb k 10 && eqb (c .stage) k)) && (leb (c .made) 256 && (leb (c .rounds) MAX-ROUNDS && leb (c .requests) MAX-REQUESTS))
+inStage n k c = (leb n 256 && (leb k 10 && eqb (c .stage) k))
+    && (leb (c .made) 256 && (leb (c .rounds) MAX-ROUNDS && leb (c .requests) MAX-REQUESTS))
 
 pub stands : (n k : ℕ) (c : Clock) → inStage n k c ≡ true → c .stage ≡ k
 unfolding inStage
@@ -77,17 +78,26 @@ unfolding inStage
 in-stage n k c r e =
     let to : k ≤ 10 = omega (arith, r .to, e) in
     and-true _ _ (and-true _ _ (le-leb n 256 (r .few)) (and-true _ _ (le-leb k 10 to) (eq-eqb (c .stage) k e)))
-    (and-true _ _ (le-leb (c .made) 256 (r .made)) (and-true _ _ (le-leb (c .rounds) MAX-ROUNDS (r .rounds)) (le-leb (c .requests) MAX-REQUESTS (r .requests))))
+    (and-true _ _ (le-leb (c .made) 256 (r .made))
+    (and-true _ _ (le-leb (c .rounds) MAX-ROUNDS (r .rounds)) (le-leb (c .requests) MAX-REQUESTS (r .requests))))
 
 -- what the clock's own code needs, of any stage
-pub may-tick : (n k : ℕ) (c : Clock) → inStage n k c ≡ true → (n ≤ 256) × ((c .stage ≤ 10) × ((c .made ≤ 256) × (c .rounds ≤ MAX-ROUNDS)))
+pub may-tick : (n k : ℕ) (c : Clock) → inStage n k c ≡ true →
+    (n ≤ 256) × ((c .stage ≤ 10) × ((c .made ≤ 256) × (c .rounds ≤ MAX-ROUNDS)))
 unfolding inStage
 may-tick n k c h =
     let front = and-left (leb n 256 && (leb k 10 && eqb (c .stage) k)) _ h in
     let room = and-right (leb n 256 && (leb k 10 && eqb (c .stage) k)) _ h in
     let to : k ≤ 10 = leb-true k 10 (and-left (leb k 10) _ (and-right (leb n 256) _ front)) in (
       leb-true n 256 (and-left (leb n 256) _ front),
-      (omega (arith, to, stands n k c h), (leb-true (c .made) 256 (and-left (leb (c .made) 256) _ room), leb-true (c .rounds) MAX-ROUNDS (and-left (leb (c .rounds) MAX-ROUNDS) _ (and-right (leb (c .made) 256) _ room)))),
+      (
+        omega (arith, to, stands n k c h),
+        (
+          leb-true (c .made) 256 (and-left (leb (c .made) 256) _ room),
+          leb-true (c .rounds) MAX-ROUNDS
+              (and-left (leb (c .rounds) MAX-ROUNDS) _ (and-right (leb (c .made) 256) _ room)),
+        ),
+      ),
     )
 
 -- what the test of a stage's loop says where it makes a round
@@ -98,7 +108,8 @@ pub record Goes (n k made budget : ℕ) (fits : Bool) (c : Clock) : Type 0 where
   pub inside : inStage n k c ≡ true
   pub few : n ≤ 256
 
-pub goes : (n k made budget : ℕ) (fits : Bool) (c : Clock) → (ltb made budget && (fits && inStage n k c)) ≡ true → Goes n k made budget fits c
+pub goes : (n k made budget : ℕ) (fits : Bool) (c : Clock) → (ltb made budget && (fits && inStage n k c)) ≡ true →
+    Goes n k made budget fits c
 goes n k made budget fits c g =
     let on = and-right (ltb made budget) (fits && inStage n k c) g in
     record {

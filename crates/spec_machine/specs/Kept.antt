@@ -13,11 +13,13 @@ use Rattle.table_levels.specs.Level.{inRange}
 use Rattle.table_levels.specs.LevelLaws.{InRange, range-exact}
 use Rattle.table.specs.Table.{maxLinks, bareRefusal}
 use Rattle.spec_rules.specs.Bounds.{nameOk, numberOk, distOk}
-use Rattle.spec_rules.specs.BoundLaws.{Names, Number, Distance, le-exact, eq-exact, name-exact, number-exact, distance-exact}
+use Rattle.spec_rules.specs.BoundLaws.{Names, Number, Distance, le-exact, eq-exact, name-exact, number-exact}
+use Rattle.spec_rules.specs.BoundLaws.{distance-exact}
 use Rattle.spec_rules.specs.Ceilings.{ceiling}
 use Rattle.spec_machine.specs.State.{State}
 use Rattle.spec_machine.specs.State.{units, links, words, FINISHED, MAX-ROUNDS, MAX-REQUESTS}
-use Rattle.spec_machine.specs.WellFormed.{unitTables, arcTables, linkTables, distTables, numberTables, tableOk, madeOk, clockOk, entriesOk, wellFormed}
+use Rattle.spec_machine.specs.WellFormed.{unitTables, arcTables, linkTables, distTables, numberTables, tableOk}
+use Rattle.spec_machine.specs.WellFormed.{madeOk, clockOk, entriesOk, wellFormed}
 
 -- the rounds of the stage are below its ceiling, zero at stage 11
 abbrev pub MadeOk : State → Type 0
@@ -46,17 +48,22 @@ pub record Kept (s : State) : Type 0 where
 made-exact : (s : State) → (madeOk (units s) (s .clock) ≡ true) ↔ MadeOk s
 unfolding madeOk
 made-exact s =
-    cond-exact (eqb (s .clock .stage) FINISHED) (eqb (s .clock .made) 0) (ltb (s .clock .made) (ceiling (units s) (s .clock .stage)))
-    (eq-exact (s .clock .stage) FINISHED) (eq-exact (s .clock .made) 0)
-    (ltb-true (s .clock .made) (ceiling (units s) (s .clock .stage)), lt-ltb (s .clock .made) (ceiling (units s) (s .clock .stage)))
+    cond-exact (eqb (s .clock .stage) FINISHED) (eqb (s .clock .made) 0)
+    (ltb (s .clock .made) (ceiling (units s) (s .clock .stage)))
+    (eq-exact (s .clock .stage) FINISHED) (eq-exact (s .clock .made) 0) (
+      ltb-true (s .clock .made) (ceiling (units s) (s .clock .stage)),
+      lt-ltb (s .clock .made) (ceiling (units s) (s .clock .stage)),
+    )
 
-table-exact : (s : State) → (tableOk (units s) (links s) (s .table .ends) ≡ true) ↔ ((links s ≤ maxLinks) × (bareRefusal (units s) (words s) ≡ 0))
+table-exact : (s : State) → (tableOk (units s) (links s) (s .table .ends) ≡ true)
+    ↔ ((links s ≤ maxLinks) × (bareRefusal (units s) (words s) ≡ 0))
 unfolding tableOk
 table-exact s = and-exact _ _ (le-exact (links s) maxLinks) (eq-exact (bareRefusal (units s) (words s)) 0)
 
 clock-exact : (s : State)
     → (clockOk (units s) (s .clock) ≡ true)
-    ↔ (((((1 ≤ s .clock .stage) × (s .clock .stage ≤ FINISHED)) × MadeOk s) × (s .clock .rounds ≤ MAX-ROUNDS)) × (s .clock .requests ≤ MAX-REQUESTS))
+    ↔ (((((1 ≤ s .clock .stage) × (s .clock .stage ≤ FINISHED)) × MadeOk s) × (s .clock .rounds ≤ MAX-ROUNDS))
+    × (s .clock .requests ≤ MAX-REQUESTS))
 unfolding clockOk
 clock-exact s =
     and-exact _ _
@@ -65,7 +72,8 @@ clock-exact s =
     (le-exact (s .clock .rounds) MAX-ROUNDS))
     (le-exact (s .clock .requests) MAX-REQUESTS)
 
-tables-exact : (p : ℕ → Bool) (P : ℕ → Type 0) → ((x : ℕ) → (p x ≡ true) ↔ P x) → (ts : List (List ℕ)) → (every (every p) ts ≡ true) ↔ All (All P) ts
+tables-exact : (p : ℕ → Bool) (P : ℕ → Type 0) → ((x : ℕ) → (p x ≡ true) ↔ P x) → (ts : List (List ℕ)) →
+    (every (every p) ts ≡ true) ↔ All (All P) ts
 tables-exact p P h ts = every-exact (every p) (All P) (every-exact p P h) ts
 
 entries-exact : (s : State)
@@ -100,7 +108,8 @@ kept-exact s = (λ (e : wellFormed s ≡ true). words-of (whole .0 e), λ (k : K
     Parts : Type 0
     Parts =
         (((links s ≤ maxLinks) × (bareRefusal (units s) (words s) ≡ 0))
-        × (((((1 ≤ s .clock .stage) × (s .clock .stage ≤ FINISHED)) × MadeOk s) × (s .clock .rounds ≤ MAX-ROUNDS)) × (s .clock .requests ≤ MAX-REQUESTS)))
+        × (((((1 ≤ s .clock .stage) × (s .clock .stage ≤ FINISHED)) × MadeOk s) × (s .clock .rounds ≤ MAX-ROUNDS))
+        × (s .clock .requests ≤ MAX-REQUESTS)))
         × ((((((All (All (Names (units s))) (unitTables s) × All (All (Names (2 * units s))) (arcTables s))
         × All (All (Names (links s))) (linkTables s))
         × All (All Distance) (distTables s))

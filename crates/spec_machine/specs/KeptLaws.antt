@@ -19,7 +19,8 @@ use Rattle.spec_machine.specs.WellFormed.{arcTables, numberTables, table
 use Rattle.spec_machine.specs.Kept.{Kept, kept-exact}
 
 -- a well-formed state has at most 256 units, so that its countdown is what the code counts
-pub kept-countdown : (s : State) → wellFormed s ≡ true → Ceilings.countdown (min (units s) 256) (s .clock .stage) (s .clock .made) ≡ countdown s
+pub kept-countdown : (s : State) → wellFormed s ≡ true →
+    Ceilings.countdown (min (units s) 256) (s .clock .stage) (s .clock .made) ≡ countdown s
 kept-countdown s w =
     let few : units s ≤ 256 = passes (units s) (words s) (kept-exact s .0 w .passes) .fewUnits in
     let all : min (units s) 256 ≡ units s = omega (arith, few) in
@@ -40,10 +41,12 @@ joinTables s = s .global .low ∷ s .global .high ∷ s .aux .parents ∷ s .aux
 
 numbers-parts : (s : State)
     → every (every numberOk) (numberTables s)
-    ≡ (every (every numberOk) (sumTables s) && (every (every numberOk) (rangeTables s) && every (every numberOk) (joinTables s)))
+    ≡ (every (every numberOk) (sumTables s)
+    && (every (every numberOk) (rangeTables s) && every (every numberOk) (joinTables s)))
 numbers-parts s =
     every-append (every numberOk) (sumTables s) (rangeTables s ++ joinTables s)
-    ∙ ap (λ (b : Bool). every (every numberOk) (sumTables s) && b) (every-append (every numberOk) (rangeTables s) (joinTables s))
+    ∙ ap (λ (b : Bool). every (every numberOk) (sumTables s) && b)
+    (every-append (every numberOk) (rangeTables s) (joinTables s))
 
 entries-parts : (s : State)
     → (every (nameOk (units s)) (s .table .ends)
@@ -51,13 +54,18 @@ entries-parts : (s : State)
     && every (every (nameOk (2 * units s))) (arcTables s)
     && every (nameOk (links s)) (s .labels .label)
     && every distOk (s .tree .dist)
-    && (every (every numberOk) (sumTables s) && (every (every numberOk) (rangeTables s) && every (every numberOk) (joinTables s)))
+    && (every (every numberOk) (sumTables s)
+    && (every (every numberOk) (rangeTables s) && every (every numberOk) (joinTables s)))
     && every inRange (s .table .levels)
     && numberOk (s .plan .given))
     ≡ entriesOk s
 unfolding entriesOk
 entries-parts s =
-    rw (numbers-parts s, and-true (every (nameOk (links s)) (s .labels .label)), and-true (every distOk (s .tree .dist))) refl
+    rw (
+      numbers-parts s,
+      and-true (every (nameOk (links s)) (s .labels .label)),
+      and-true (every distOk (s .tree .dist)),
+    ) refl
 
 -- the links of a well-formed state fit
 pub links-fit : (s : State) → wellFormed s ≡ true → linksFit (units s) (links s) (s .table .ends) ≡ true
@@ -72,12 +80,14 @@ parents-fit s w =
     every-exact (nameOk (units s)) (Names (units s)) (name-exact (units s)) (s .tree .parent) .1 (k .unitNames .1 .1 .0)
 
 -- the whole test, part by part: a front that fails,
-pub kept-front : (s : State) → (tableOk (units s) (links s) (s .table .ends) && clockOk (units s) (s .clock)) ≡ false → wellFormed s ≡ false
+pub kept-front : (s : State) → (tableOk (units s) (links s) (s .table .ends) && clockOk (units s) (s .clock)) ≡ false →
+    wellFormed s ≡ false
 unfolding wellFormed
 kept-front s e = rw e refl
 
 -- and one that passes, with the entries by what they are
-pub kept-parts : (s : State) (e f a l d n1 n2 n3 v g x1 x2 x3 x4 x5 x6 x7 x8 r : Bool) → (tableOk (units s) (links s) (s .table .ends) && clockOk (units s) (s .clock)) ≡ true
+pub kept-parts : (s : State) (e f a l d n1 n2 n3 v g x1 x2 x3 x4 x5 x6 x7 x8 r : Bool) →
+    (tableOk (units s) (links s) (s .table .ends) && clockOk (units s) (s .clock)) ≡ true
     → e ≡ every (nameOk (units s)) (s .table .ends)
     → f ≡ every (every (nameOk (units s))) (otherUnitTables s)
     → a ≡ every (every (nameOk (2 * units s))) (arcTables s)
@@ -88,8 +98,10 @@ pub kept-parts : (s : State) (e f a l d n1 n2 n3 v g x1 x2 x3 x4 x5 x6 x7 x8 r :
     → n3 ≡ every (every numberOk) (joinTables s)
     → v ≡ every inRange (s .table .levels)
     → g ≡ numberOk (s .plan .given)
-    → x1 ≡ (e && f) → x2 ≡ (x1 && a) → x3 ≡ (x2 && l) → x4 ≡ (x3 && d) → x5 ≡ (n2 && n3) → x6 ≡ (n1 && x5) → x7 ≡ (x4 && x6) → x8 ≡ (x7 && v) → r ≡ (x8 && g)
+    → x1 ≡ (e && f) → x2 ≡ (x1 && a) → x3 ≡ (x2 && l) → x4 ≡ (x3 && d) → x5 ≡ (n2 && n3) → x6 ≡ (n1 && x5) →
+    x7 ≡ (x4 && x6) → x8 ≡ (x7 && v) → r ≡ (x8 && g)
     → r ≡ wellFormed s
 unfolding wellFormed
-kept-parts s e f a l d n1 n2 n3 v g x1 x2 x3 x4 x5 x6 x7 x8 r front he hf ha hl hd h1 h2 h3 hv hg y1 y2 y3 y4 y5 y6 y7 y8 y9 =
+kept-parts s e f a l d n1 n2 n3 v g x1 x2 x3 x4 x5 x6 x7 x8 r front he hf ha hl hd h1 h2 h3 hv hg y1 y2 y3 y4 y5 y6 y7
+    y8 y9 =
     rw (y9, y8, y7, y6, y5, y4, y3, y2, y1) (rw (he, hf, ha, hl, hd, h1, h2, h3, hv, hg) (rw front (entries-parts s)))

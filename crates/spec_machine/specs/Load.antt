@@ -119,7 +119,12 @@ loadRefusal input = freshRefusal (input .units) (input .words) (input .levels)
 
 -- the table of links that a load makes
 abbrev pub tableOf : Input → Table
-tableOf input = record { units = input .units; links = linksIn input; ends = endsOf (input .words); levels = levelsOf (input .levels) }
+tableOf input = record {
+  units = input .units;
+  links = linksIn input;
+  ends = endsOf (input .words);
+  levels = levelsOf (input .levels);
+}
 
 -- the state that a load makes
 unfoldable pub loaded : Input → State
@@ -152,7 +157,8 @@ planTests input ps = (17, parentsDiffer input ps) ∷ (18, parentsUnfit input ps
 -- its checks: 4 to 6, 15, 16, 7 to 9, then 17 and 18, last 22
 unfoldable pub plannedLoadRefusal : Input → List ℕ → ℕ
 plannedLoadRefusal input ps =
-    firstOf (storedTests (input .units) (input .words) (input .levels) ++ (planTests input ps ++ unitTests (input .units) (input .words)))
+    firstOf (storedTests (input .units) (input .words) (input .levels)
+    ++ (planTests input ps ++ unitTests (input .units) (input .words)))
 
 -- the state that it makes
 unfoldable pub plannedLoaded : Input → List ℕ → State

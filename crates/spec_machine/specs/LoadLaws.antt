@@ -24,7 +24,8 @@ module _ {A : Type 0} where
   pub copy-one : (w old : List A) (i : ℕ) (d : A) → i < length w → length w ≤ length old
       → set (take i w ++ drop i old) i (getD w i d) ≡ take (i + 1) w ++ drop (i + 1) old
   copy-one w old i d h l =
-      put-one (take i w) old i (getD w i d) (length-take-le i w (omega arith)) (omega arith) ∙ rw (add-one i, take-suc w i d h) refl
+      put-one (take i w) old i (getD w i d) (length-take-le i w (omega arith)) (omega arith)
+      ∙ rw (add-one i, take-suc w i d h) refl
 
   -- as many entries as an array holds
   pub held-words : (size count : ℕ) (t : List A) → count ≡ min size (length t) → take count t ≡ take size t

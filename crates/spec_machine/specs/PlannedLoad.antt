@@ -1,4 +1,5 @@
--- Laws of the load with a planner's table of parents (document 02, T-05): the checks one after the other, as code makes them, and that the state is kept.
+-- Laws of the load with a planner's table of parents (document 02, T-05): the checks one after the other, as code makes
+-- them, and that the state is kept.
 use mathlib.Core.Path.{_≡_, refl, sym, _∙_}
 use mathlib.Core.Bool.{Bool, true, false, not, cond}
 use mathlib.Core.Logic.{_⊎_, inl, inr, _≢_}
@@ -21,7 +22,8 @@ use Rattle.spec_rules.specs.BoundLaws.{Names}
 use Rattle.spec_rules.specs.Planned.{parentLink, planUnfit}
 use Rattle.spec_rules.specs.PlannedLaws.{ParentLink, PlanUnfit, parent-linked, unfit-exact}
 use Rattle.spec_machine.specs.State.{State, units, withPlan}
-use Rattle.spec_machine.specs.Load.{Input, linksIn, storedLoadRefusal, absents, begun, loaded, parentsOf, planOf, parentsDiffer, parentsUnfit, planTests, plannedLoadRefusal, plannedLoaded}
+use Rattle.spec_machine.specs.Load.{Input, linksIn, storedLoadRefusal, absents, begun, loaded, parentsOf, planOf}
+use Rattle.spec_machine.specs.Load.{parentsDiffer, parentsUnfit, planTests, plannedLoadRefusal, plannedLoaded}
 use Rattle.spec_machine.specs.WellFormed.{wellFormed}
 use Rattle.spec_machine.specs.Kept.{Kept, kept-exact}
 use Rattle.spec_machine.specs.Step.{countdown}
@@ -46,14 +48,16 @@ module _ (input : Input) (ps : List ℕ) where
   pub planned-17 : storedLoadRefusal input ≡ 0 → parentsDiffer input ps ≡ true → 17 ≡ plannedLoadRefusal input ps
   planned-17 e d = sym (planned-later e ∙ rw d refl)
 
-  pub planned-18 : storedLoadRefusal input ≡ 0 → parentsDiffer input ps ≡ false → parentsUnfit input ps ≡ true → 18 ≡ plannedLoadRefusal input ps
+  pub planned-18 : storedLoadRefusal input ≡ 0 → parentsDiffer input ps ≡ false → parentsUnfit input ps ≡ true →
+      18 ≡ plannedLoadRefusal input ps
   planned-18 e d u = sym (planned-later e ∙ rw (d, u) refl)
 
   pub planned-last : storedLoadRefusal input ≡ 0 → parentsDiffer input ps ≡ false → parentsUnfit input ps ≡ false
       → freshRefusal (input .units) (input .words) (input .levels) ≡ plannedLoadRefusal input ps
   unfolding storedRefusal freshRefusal
   planned-last e d u =
-      first-none (storedTests (input .units) (input .words) (input .levels)) (unitTests (input .units) (input .words)) (omega arith) e
+      first-none (storedTests (input .units) (input .words) (input .levels)) (unitTests (input .units) (input .words))
+      (omega arith) e
       ∙ sym (planned-later e ∙ rw (d, u) refl)
 
 -- ---- an accepted one
@@ -64,7 +68,11 @@ pub record PlanAccepted (input : Input) (ps : List ℕ) : Type 0 where
   pub fits : parentsUnfit input ps ≡ false
 
 pub plan-accepted : (input : Input) (ps : List ℕ) → plannedLoadRefusal input ps ≡ 0 → PlanAccepted input ps
-plan-accepted input ps e = record { stored = stored; long = long (either (parentsDiffer input ps)); fits = fits (either (parentsUnfit input ps)) }
+plan-accepted input ps e = record {
+  stored = stored;
+  long = long (either (parentsDiffer input ps));
+  fits = fits (either (parentsUnfit input ps));
+}
   where
     stored : storedLoadRefusal input ≡ 0
     stored = go (ℕ-discrete (storedLoadRefusal input) 0)
@@ -100,10 +108,12 @@ module _ (input : Input) (ps : List ℕ) (a : PlanAccepted input ps) where
   pub parent-names : (v : ℕ) → v < input .units → Names (input .units) (at ps v)
   parent-names v l = go (ℕ-discrete (at ps v) ABSENT) (either (some (linksIn input) (parentLink (input .words) ps v)))
     where
-      go : Dec (at ps v ≡ ABSENT) → (some (linksIn input) (parentLink (input .words) ps v) ≡ true) ⊎ (some (linksIn input) (parentLink (input .words) ps v) ≡ false)
+      go : Dec (at ps v ≡ ABSENT) → (some (linksIn input) (parentLink (input .words) ps v) ≡ true)
+          ⊎ (some (linksIn input) (parentLink (input .words) ps v) ≡ false)
           → Names (input .units) (at ps v)
       go (yes e) r = inr e
-      go (no h) (inl t) = let (j, l, q) = parent-linked (linksIn input) (input .words) ps v .0 t in inl (end-below v j l q)
+      go (no h) (inl t) = let (j, l, q) =
+          parent-linked (linksIn input) (input .words) ps v .0 t in inl (end-below v j l q)
       go (no h) (inr f) =
           absurd
           (not-both (parentsUnfit input ps)
@@ -112,7 +122,8 @@ module _ (input : Input) (ps : List ℕ) (a : PlanAccepted input ps) where
 
   plan-names : All (Names (input .units)) (parentsOf ps)
   plan-names =
-      all-append (Names (input .units)) ps _ (all-of (Names (input .units)) ps 0 (λ i l. parent-names i (omega (arith, a .long))))
+      all-append (Names (input .units)) ps _
+      (all-of (Names (input .units)) ps 0 (λ i l. parent-names i (omega (arith, a .long))))
       (all-drop (Names (input .units)) (length ps) (absents 256) (absent-names (input .units) 256))
 
   pub planned-kept : Kept (plannedLoaded input ps)
@@ -127,7 +138,13 @@ module _ (input : Input) (ps : List ℕ) (a : PlanAccepted input ps) where
         made = k .made;
         rounds = k .rounds;
         requests = k .requests;
-        unitNames = (k .unitNames .0, (k .unitNames .1 .0, (k .unitNames .1 .1 .0, (k .unitNames .1 .1 .1 .0, (k .unitNames .1 .1 .1 .1 .0, (plan-names, tt))))));
+        unitNames = (
+          k .unitNames .0,
+          (
+            k .unitNames .1 .0,
+            (k .unitNames .1 .1 .0, (k .unitNames .1 .1 .1 .0, (k .unitNames .1 .1 .1 .1 .0, (plan-names, tt)))),
+          ),
+        );
         arcNames = k .arcNames;
         linkNames = k .linkNames;
         distances = k .distances;

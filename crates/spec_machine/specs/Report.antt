@@ -1,5 +1,5 @@
--- What a finished survey says of each unit and link, and its report: 11 all rounds, requests; 12 per unit; 13 per link; 1F the numbers of
--- single points and lone links.
+-- What a finished survey says of each unit and link, and its report: 11 all rounds, requests; 12 per unit; 13 per link;
+-- 1F the numbers of single points and lone links.
 use mathlib.Core.Bool.{Bool, cond, _&&_}
 use mathlib.Core.List.{List, _++_}
 use Prim.Native.Nat.{ℕ, zero, suc, _+_, _*_}
@@ -59,7 +59,8 @@ report s = headLine s ++ gathered (units s) (unitLine s) ++ gathered (links s) (
 abbrev pub reportLength : ℕ → ℕ → ℕ
 reportLength n m = 26 + 23 * n + 15 * m
 
--- a slice after the report was written at its front; as it was where the report does not fit, or a count is past its table, as in no well-formed state
+-- a slice after the report was written at its front; as it was where the report does not fit, or a count is past its
+-- table, as in no well-formed state
 unfoldable pub reportOver : State → List ℕ → List ℕ
 reportOver s out =
     cond (leb (units s) maxUnits && leb (links s) maxLinks && leb (reportLength (units s) (links s)) (length out))

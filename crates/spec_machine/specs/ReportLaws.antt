@@ -43,22 +43,30 @@ pub head-at : (s : State) (rest : List ℕ) → take 13 (report s ++ rest) ≡ h
 unfolding report
 head-at s rest = simp append-assoc (take-at (headLine s) _ 13 (length-head s))
 
-pub unit-at : (s : State) (rest : List ℕ) (v : ℕ) → v < units s → take 23 (drop (13 + 23 * v) (report s ++ rest)) ≡ unitLine s v
+pub unit-at : (s : State) (rest : List ℕ) (v : ℕ) → v < units s →
+    take 23 (drop (13 + 23 * v) (report s ++ rest)) ≡ unitLine s v
 unfolding report
 unit-at s rest v l =
     rw (sym (drop-drop (23 * v) 13 (report s ++ rest)))
     (simp append-assoc
-    (rw (drop-at (headLine s) (gathered (units s) (unitLine s) ++ (gathered (links s) (linkLine s) ++ (tailLine s ++ rest))) 13 (length-head s))
-    (gathered-at (units s) 23 (unitLine s) (gathered (links s) (linkLine s) ++ (tailLine s ++ rest)) (λ u q. length-unit s u) v l)))
+    (rw (drop-at (headLine s) (gathered (units s) (unitLine s)
+    ++ (gathered (links s) (linkLine s) ++ (tailLine s ++ rest))) 13 (length-head s))
+    (gathered-at (units s) 23 (unitLine s) (gathered (links s) (linkLine s) ++ (tailLine s ++ rest))
+    (λ u q. length-unit s u) v l)))
 
 pub link-at : (s : State) (rest : List ℕ) (j : ℕ) → j < links s
     → take 15 (drop (13 + 23 * units s + 15 * j) (report s ++ rest)) ≡ linkLine s j
 unfolding report
 link-at s rest j l =
-    rw (sym (drop-drop (15 * j) (13 + 23 * units s) (report s ++ rest)), sym (drop-drop (23 * units s) 13 (report s ++ rest)))
+    rw (
+      sym (drop-drop (15 * j) (13 + 23 * units s) (report s ++ rest)),
+      sym (drop-drop (23 * units s) 13 (report s ++ rest)),
+    )
     (simp append-assoc
     (rw (
-      drop-at (headLine s) (gathered (units s) (unitLine s) ++ (gathered (links s) (linkLine s) ++ (tailLine s ++ rest))) 13 (length-head s),
-      drop-at (gathered (units s) (unitLine s)) (gathered (links s) (linkLine s) ++ (tailLine s ++ rest)) (23 * units s) (units-long s),
+      drop-at (headLine s) (gathered (units s) (unitLine s)
+          ++ (gathered (links s) (linkLine s) ++ (tailLine s ++ rest))) 13 (length-head s),
+      drop-at (gathered (units s) (unitLine s)) (gathered (links s) (linkLine s) ++ (tailLine s ++ rest)) (23 * units s)
+          (units-long s),
     )
     (gathered-at (links s) 15 (linkLine s) (tailLine s ++ rest) (λ u q. length-link s u) j l)))

@@ -26,7 +26,8 @@ unfolding roundRefusal
 refusal-going s w f = rw (w, f) refl
 
 -- the refusal, from whether the state is well formed and its stage
-pub refusal-told : (s : State) (well : Bool) (k : ℕ) → well ≡ wellFormed s → k ≡ firstOf ((10, not well) ∷ (11, eqb (s .clock .stage) FINISHED) ∷ [])
+pub refusal-told : (s : State) (well : Bool) (k : ℕ) → well ≡ wellFormed s →
+    k ≡ firstOf ((10, not well) ∷ (11, eqb (s .clock .stage) FINISHED) ∷ [])
     → k ≡ roundRefusal s
 unfolding roundRefusal
 refusal-told s well k e told = rw (told, e)
@@ -35,7 +36,8 @@ refusal-told s well k e told = rw (told, e)
 pub accepted : (s : State) → roundRefusal s ≡ 0 → (wellFormed s ≡ true) × (finished s ≡ false)
 accepted s e = go (either (wellFormed s)) (either (finished s))
   where
-    go : (wellFormed s ≡ true) ⊎ (wellFormed s ≡ false) → (finished s ≡ true) ⊎ (finished s ≡ false) → (wellFormed s ≡ true) × (finished s ≡ false)
+    go : (wellFormed s ≡ true) ⊎ (wellFormed s ≡ false) → (finished s ≡ true) ⊎ (finished s ≡ false) →
+        (wellFormed s ≡ true) × (finished s ≡ false)
     go (inl w) (inr f) = (w, f)
     go (inl w) (inl f) = let z : _≡_ {A = ℕ} 11 0 = refusal-finished s w f ∙ e in absurd (omega arith)
     go (inr w) f = let z : _≡_ {A = ℕ} 10 0 = refusal-malformed s w ∙ e in absurd (omega arith)

@@ -1,5 +1,5 @@
--- Laws of steps and runs: a run makes as many steps as it says, stops at its budget or at the end and not before, and from a well-formed state as
--- many rounds as the countdown shows come to the end.
+-- Laws of steps and runs: a run makes as many steps as it says, stops at its budget or at the end and not before, and
+-- from a well-formed state as many rounds as the countdown shows come to the end.
 use mathlib.Core.Path.{_≡_, refl, sym, ap, _∙_}
 use mathlib.Core.Bool.{Bool, true, false, cond}
 use mathlib.Core.Logic.{_⊎_, inl, inr, _↔_}
@@ -47,7 +47,8 @@ unfolding steps
 steps-wellFormed zero s w = w
 steps-wellFormed (suc k) s w = go (either (finished s)) (steps-wellFormed k)
   where
-    go : (finished s ≡ true) ⊎ (finished s ≡ false) → ((s′ : State) → wellFormed s′ ≡ true → wellFormed (steps k s′) ≡ true) → wellFormed (steps k (step s)) ≡ true
+    go : (finished s ≡ true) ⊎ (finished s ≡ false) →
+        ((s′ : State) → wellFormed s′ ≡ true → wellFormed (steps k s′) ≡ true) → wellFormed (steps k (step s)) ≡ true
     go (inl f) later = rw (step-finished s f) (later s w)
     go (inr f) later = later (step s) (step-wellFormed s w f)
 
@@ -61,30 +62,45 @@ pub record Made (budget : ℕ) (s s′ : State) (j : ℕ) : Type 0 where
   pub going : (i : ℕ) → i < j → finished (steps i s) ≡ false
 
 -- the rounds that came before are added
-ran-before : (budget k : ℕ) (s : State) → (ran budget k s .0 ≡ ran budget 0 s .0) × (ran budget k s .1 ≡ ran budget 0 s .1 + k)
+ran-before : (budget k : ℕ) (s : State) →
+    (ran budget k s .0 ≡ ran budget 0 s .0) × (ran budget k s .1 ≡ ran budget 0 s .1 + k)
 unfolding ran
 ran-before zero k s = (refl, sym (zero-add k))
 ran-before (suc budget) k s = go (either (finished s)) (λ i. ran-before budget i (step s))
   where
     go : (finished s ≡ true) ⊎ (finished s ≡ false)
-        → ((i : ℕ) → (ran budget i (step s) .0 ≡ ran budget 0 (step s) .0) × (ran budget i (step s) .1 ≡ ran budget 0 (step s) .1 + i))
+        → ((i : ℕ) → (ran budget i (step s) .0 ≡ ran budget 0 (step s) .0)
+        × (ran budget i (step s) .1 ≡ ran budget 0 (step s) .1 + i))
         → (ran (suc budget) k s .0 ≡ ran (suc budget) 0 s .0) × (ran (suc budget) k s .1 ≡ ran (suc budget) 0 s .1 + k)
     go (inl f) later = rw f (refl, sym (zero-add k))
     go (inr f) later = rw f (later (suc k) .0 ∙ sym (later 1 .0), omega (arith, later (suc k) .1, later 1 .1))
 
 pub ran-made : (budget : ℕ) (s : State) → Made budget s (ran budget 0 s .0) (ran budget 0 s .1)
 unfolding ran steps
-ran-made zero s = record { state = refl; within = omega arith; stops = inl refl; going = λ i l. absurd (not-suc-le-zero l) }
+ran-made zero s = record {
+  state = refl;
+  within = omega arith;
+  stops = inl refl;
+  going = λ i l. absurd (not-suc-le-zero l);
+}
 ran-made (suc budget) s = go (either (finished s)) (ran-made budget (step s)) (ran-before budget 1 (step s))
   where
-    first : finished s ≡ false → ((i : ℕ) → i < ran budget 0 (step s) .1 → finished (steps i (step s)) ≡ false) → (i : ℕ) → i < ran budget 0 (step s) .1 + 1 → finished (steps i s) ≡ false
+    first : finished s ≡ false → ((i : ℕ) → i < ran budget 0 (step s) .1 → finished (steps i (step s)) ≡ false) →
+        (i : ℕ) → i < ran budget 0 (step s) .1 + 1 → finished (steps i s) ≡ false
     first f later zero l = f
     first f later (suc i) l = later i (omega arith)
 
-    go : (finished s ≡ true) ⊎ (finished s ≡ false) → Made budget (step s) (ran budget 0 (step s) .0) (ran budget 0 (step s) .1)
-        → (ran budget 1 (step s) .0 ≡ ran budget 0 (step s) .0) × (ran budget 1 (step s) .1 ≡ ran budget 0 (step s) .1 + 1)
+    go : (finished s ≡ true) ⊎ (finished s ≡ false) →
+        Made budget (step s) (ran budget 0 (step s) .0) (ran budget 0 (step s) .1)
+        → (ran budget 1 (step s) .0 ≡ ran budget 0 (step s) .0)
+        × (ran budget 1 (step s) .1 ≡ ran budget 0 (step s) .1 + 1)
         → Made (suc budget) s (ran (suc budget) 0 s .0) (ran (suc budget) 0 s .1)
-    go (inl f) m b = rw f (record { state = refl; within = omega arith; stops = inr f; going = λ i l. absurd (not-suc-le-zero l) })
+    go (inl f) m b = rw f (record {
+      state = refl;
+      within = omega arith;
+      stops = inr f;
+      going = λ i l. absurd (not-suc-le-zero l);
+    })
     go (inr f) m b =
         rw (f, b .0, b .1)
         (record {
@@ -111,12 +127,14 @@ unfoldable pub total : State → ℕ
 total s = ran (countdown s) 0 s .1
 
 -- rounds made and countdown left never exceed the first countdown
-pub countdown-steps : (k : ℕ) (s : State) → wellFormed s ≡ true → ((i : ℕ) → i < k → finished (steps i s) ≡ false) → countdown (steps k s) + k ≤ countdown s
+pub countdown-steps : (k : ℕ) (s : State) → wellFormed s ≡ true → ((i : ℕ) → i < k → finished (steps i s) ≡ false) →
+    countdown (steps k s) + k ≤ countdown s
 unfolding steps
 countdown-steps zero s w h = omega arith
 countdown-steps (suc k) s w h =
     let f : finished s ≡ false = h 0 (omega arith) in
-    let later : countdown (steps k (step s)) + k ≤ countdown (step s) = countdown-steps k (step s) (step-wellFormed s w f) (λ i l. h (suc i) (omega arith)) in
+    let later : countdown (steps k (step s)) + k ≤ countdown (step s) =
+    countdown-steps k (step s) (step-wellFormed s w f) (λ i l. h (suc i) (omega arith)) in
     let falls : countdown (step s) < countdown s = step-countdown s w f in
     omega arith
 
@@ -131,7 +149,8 @@ total-least s w =
     m : Made (countdown s) s (ran (countdown s) 0 s .0) (ran (countdown s) 0 s .1)
     m = ran-made (countdown s) s
 
-    ended : (ran (countdown s) 0 s .1 ≡ countdown s) ⊎ (finished (ran (countdown s) 0 s .0) ≡ true) → steps (ran (countdown s) 0 s .1) s .clock .stage ≡ FINISHED
+    ended : (ran (countdown s) 0 s .1 ≡ countdown s) ⊎ (finished (ran (countdown s) 0 s .0) ≡ true) →
+        steps (ran (countdown s) 0 s .1) s .clock .stage ≡ FINISHED
     ended (inr f) = rw (← (m .state)) (eqb-true (ran (countdown s) 0 s .0 .clock .stage) FINISHED f)
     ended (inl e) =
         countdown-zero (steps (ran (countdown s) 0 s .1) s) (steps-wellFormed (ran (countdown s) 0 s .1) s w) .0
@@ -152,5 +171,10 @@ ended-exact s w k = (λ e. late e (decLt k (total s)), after)
     after : total s ≤ k → steps k s .clock .stage ≡ FINISHED
     after l =
         let j : k ≡ total s + (k - total s) = omega arith in
-        let f : finished (steps (total s) s) ≡ true = eq-eqb (steps (total s) s .clock .stage) FINISHED (total-least s w .ends) in
-        rw (j, steps-add (total s) (k - total s) s, steps-finished (k - total s) (steps (total s) s) f) (total-least s w .ends)
+        let f : finished (steps (total s) s) ≡ true =
+        eq-eqb (steps (total s) s .clock .stage) FINISHED (total-least s w .ends) in
+        rw (
+          j,
+          steps-add (total s) (k - total s) s,
+          steps-finished (k - total s) (steps (total s) s) f,
+        ) (total-least s w .ends)

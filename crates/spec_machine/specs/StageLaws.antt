@@ -20,7 +20,8 @@ unfolding Step.step
 step-going s h = rw (ne-eqb (s .clock .stage) FINISHED h) refl
 
 -- at stage k: the tables, the end rule and the requests
-pub step-at : (k : ℕ) → T (ltb k FINISHED) → (s : State) → s .clock .stage ≡ k → Step.step s ≡ ticked s (Step.tablesAt k s)
+pub step-at : (k : ℕ) → T (ltb k FINISHED) → (s : State) → s .clock .stage ≡ k →
+    Step.step s ≡ ticked s (Step.tablesAt k s)
 unfolding Step.roundTables
 step-at k l s e = step-going s (omega (arith, ltb→lt k FINISHED l)) ∙ ap (λ (k : ℕ). ticked s (Step.tablesAt k s)) e
 
@@ -62,7 +63,8 @@ each-round P s r =
     (choose (eqb (s .clock .stage) 4) (r .ranking)
     (choose (eqb (s .clock .stage) 5) (choose (eqb (s .clock .made) 0) (r .marksForward) (r .marksDescendants))
     (choose (eqb (s .clock .stage) 6) (choose (Step.lastRound s) (r .places) (r .ranking))
-    (choose (eqb (s .clock .stage) 7) (choose (eqb (s .clock .made) 0) (r .rangeBegun) (r .rangeDoubled (s .clock .made - 1)))
+    (choose (eqb (s .clock .stage) 7) (choose (eqb (s .clock .made) 0) (r .rangeBegun)
+    (r .rangeDoubled (s .clock .made - 1)))
     (choose (eqb (s .clock .stage) 8) (r .auxEdges)
     (choose (eqb (s .clock .stage) 9) (r .auxComponents)
     (choose (eqb (s .clock .made) 0) (r .labelClasses) (r .labelPositions))))))))))
@@ -72,7 +74,9 @@ each-round P s r =
 
 -- no round touches the table of links
 kept-table : (s : State) → Step.roundTables s .table ≡ s .table
-unfolding Step.components Step.treeSearched Step.treePlanned Step.tourNext Step.tourPred Step.ranking Step.marksForward Step.marksDescendants Step.places Step.rangeBegun Step.rangeDoubled Step.auxEdges Step.auxComponents Step.labelClasses Step.labelPositions
+unfolding Step.components Step.treeSearched Step.treePlanned Step.tourNext Step.tourPred Step.ranking Step.marksForward
+    Step.marksDescendants Step.places Step.rangeBegun Step.rangeDoubled Step.auxEdges Step.auxComponents
+    Step.labelClasses Step.labelPositions
 kept-table s =
     each-round (λ (x : State). x .table ≡ s .table) s
     (record {
@@ -99,7 +103,9 @@ step-table s = cond-keeps (λ (z : State). z .table ≡ s .table) (finished s) s
 
 -- nor the planner's tree
 kept-plan : (s : State) → Step.roundTables s .plan ≡ s .plan
-unfolding Step.components Step.treeSearched Step.treePlanned Step.tourNext Step.tourPred Step.ranking Step.marksForward Step.marksDescendants Step.places Step.rangeBegun Step.rangeDoubled Step.auxEdges Step.auxComponents Step.labelClasses Step.labelPositions
+unfolding Step.components Step.treeSearched Step.treePlanned Step.tourNext Step.tourPred Step.ranking Step.marksForward
+    Step.marksDescendants Step.places Step.rangeBegun Step.rangeDoubled Step.auxEdges Step.auxComponents
+    Step.labelClasses Step.labelPositions
 kept-plan s =
     each-round (λ (x : State). x .plan ≡ s .plan) s
     (record {
@@ -130,5 +136,6 @@ step-plan s = cond-keeps (λ (z : State). z .plan ≡ s .plan) (finished s) s _ 
 pub first-tables : (s first later : State) → s .clock .made ≡ 0 → cond (eqb (s .clock .made) 0) first later ≡ first
 first-tables s first later e = rw e refl
 
-pub later-tables : (s first later : State) → (s .clock .made ≡ 0 → ⊥) → cond (eqb (s .clock .made) 0) first later ≡ later
+pub later-tables : (s first later : State) → (s .clock .made ≡ 0 → ⊥) →
+    cond (eqb (s .clock .made) 0) first later ≡ later
 later-tables s first later h = rw (ne-eqb (s .clock .made) 0 h) refl

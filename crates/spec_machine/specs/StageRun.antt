@@ -13,7 +13,8 @@ unfoldable pub stageRun : {X : Type 0} → (X → Bool) → (X → X) → ℕ �
 stageRun on one zero x = x
 stageRun on one (suc b) x = let later = stageRun on one b (one x) in cond (on x) later x
 
-pub stage-on : {X : Type 0} (on : X → Bool) (one : X → X) (b : ℕ) (x : X) → on x ≡ true → stageRun on one (suc b) x ≡ stageRun on one b (one x)
+pub stage-on : {X : Type 0} (on : X → Bool) (one : X → X) (b : ℕ) (x : X) → on x ≡ true →
+    stageRun on one (suc b) x ≡ stageRun on one b (one x)
 unfolding stageRun
 stage-on on one b x h = rw h refl
 
@@ -37,7 +38,8 @@ turns-begin on one budget x =
     record { within = omega arith; left = ap (λ (b : ℕ). stageRun on one b x) all }
 
 pub turns-on : {X : Type 0} (on : X → Bool) (one : X → X) (budget : ℕ) (x₀ : X) (made : ℕ) (x x′ : X)
-    → Turning on one budget x₀ made x → (ltb made budget && on x) ≡ true → x′ ≡ one x → Turning on one budget x₀ (made + 1) x′
+    → Turning on one budget x₀ made x → (ltb made budget && on x) ≡ true → x′ ≡ one x →
+    Turning on one budget x₀ (made + 1) x′
 turns-on on one budget x₀ made x x′ t g e =
     let l : made < budget = ltb-true made budget (and-left (ltb made budget) (on x) g) in
     let h : on x ≡ true = and-right (ltb made budget) (on x) g in

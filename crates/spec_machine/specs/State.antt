@@ -58,37 +58,193 @@ MAX-REQUESTS = 8158
 
 -- the state with one group replaced
 abbrev pub withTable : Table → State → State
-withTable new s = record { table = new; clock = s .clock; components = s .components; plan = s .plan; tree = s .tree; tour = s .tour; ranking = s .ranking; order = s .order; range = s .range; global = s .global; aux = s .aux; labels = s .labels }
+withTable new s = record {
+  table = new;
+  clock = s .clock;
+  components = s .components;
+  plan = s .plan;
+  tree = s .tree;
+  tour = s .tour;
+  ranking = s .ranking;
+  order = s .order;
+  range = s .range;
+  global = s .global;
+  aux = s .aux;
+  labels = s .labels;
+}
 
 abbrev pub withClock : Clock → State → State
-withClock new s = record { table = s .table; clock = new; components = s .components; plan = s .plan; tree = s .tree; tour = s .tour; ranking = s .ranking; order = s .order; range = s .range; global = s .global; aux = s .aux; labels = s .labels }
+withClock new s = record {
+  table = s .table;
+  clock = new;
+  components = s .components;
+  plan = s .plan;
+  tree = s .tree;
+  tour = s .tour;
+  ranking = s .ranking;
+  order = s .order;
+  range = s .range;
+  global = s .global;
+  aux = s .aux;
+  labels = s .labels;
+}
 
 abbrev pub withComponents : Components → State → State
-withComponents new s = record { table = s .table; clock = s .clock; components = new; plan = s .plan; tree = s .tree; tour = s .tour; ranking = s .ranking; order = s .order; range = s .range; global = s .global; aux = s .aux; labels = s .labels }
+withComponents new s = record {
+  table = s .table;
+  clock = s .clock;
+  components = new;
+  plan = s .plan;
+  tree = s .tree;
+  tour = s .tour;
+  ranking = s .ranking;
+  order = s .order;
+  range = s .range;
+  global = s .global;
+  aux = s .aux;
+  labels = s .labels;
+}
 
 abbrev pub withPlan : Plan → State → State
-withPlan new s = record { table = s .table; clock = s .clock; components = s .components; plan = new; tree = s .tree; tour = s .tour; ranking = s .ranking; order = s .order; range = s .range; global = s .global; aux = s .aux; labels = s .labels }
+withPlan new s = record {
+  table = s .table;
+  clock = s .clock;
+  components = s .components;
+  plan = new;
+  tree = s .tree;
+  tour = s .tour;
+  ranking = s .ranking;
+  order = s .order;
+  range = s .range;
+  global = s .global;
+  aux = s .aux;
+  labels = s .labels;
+}
 
 abbrev pub withTree : Tree → State → State
-withTree new s = record { table = s .table; clock = s .clock; components = s .components; plan = s .plan; tree = new; tour = s .tour; ranking = s .ranking; order = s .order; range = s .range; global = s .global; aux = s .aux; labels = s .labels }
+withTree new s = record {
+  table = s .table;
+  clock = s .clock;
+  components = s .components;
+  plan = s .plan;
+  tree = new;
+  tour = s .tour;
+  ranking = s .ranking;
+  order = s .order;
+  range = s .range;
+  global = s .global;
+  aux = s .aux;
+  labels = s .labels;
+}
 
 abbrev pub withTour : Tour → State → State
-withTour new s = record { table = s .table; clock = s .clock; components = s .components; plan = s .plan; tree = s .tree; tour = new; ranking = s .ranking; order = s .order; range = s .range; global = s .global; aux = s .aux; labels = s .labels }
+withTour new s = record {
+  table = s .table;
+  clock = s .clock;
+  components = s .components;
+  plan = s .plan;
+  tree = s .tree;
+  tour = new;
+  ranking = s .ranking;
+  order = s .order;
+  range = s .range;
+  global = s .global;
+  aux = s .aux;
+  labels = s .labels;
+}
 
 abbrev pub withRanking : Ranking → State → State
-withRanking new s = record { table = s .table; clock = s .clock; components = s .components; plan = s .plan; tree = s .tree; tour = s .tour; ranking = new; order = s .order; range = s .range; global = s .global; aux = s .aux; labels = s .labels }
+withRanking new s = record {
+  table = s .table;
+  clock = s .clock;
+  components = s .components;
+  plan = s .plan;
+  tree = s .tree;
+  tour = s .tour;
+  ranking = new;
+  order = s .order;
+  range = s .range;
+  global = s .global;
+  aux = s .aux;
+  labels = s .labels;
+}
 
 abbrev pub withOrder : Order → State → State
-withOrder new s = record { table = s .table; clock = s .clock; components = s .components; plan = s .plan; tree = s .tree; tour = s .tour; ranking = s .ranking; order = new; range = s .range; global = s .global; aux = s .aux; labels = s .labels }
+withOrder new s = record {
+  table = s .table;
+  clock = s .clock;
+  components = s .components;
+  plan = s .plan;
+  tree = s .tree;
+  tour = s .tour;
+  ranking = s .ranking;
+  order = new;
+  range = s .range;
+  global = s .global;
+  aux = s .aux;
+  labels = s .labels;
+}
 
 abbrev pub withRange : Range → State → State
-withRange new s = record { table = s .table; clock = s .clock; components = s .components; plan = s .plan; tree = s .tree; tour = s .tour; ranking = s .ranking; order = s .order; range = new; global = s .global; aux = s .aux; labels = s .labels }
+withRange new s = record {
+  table = s .table;
+  clock = s .clock;
+  components = s .components;
+  plan = s .plan;
+  tree = s .tree;
+  tour = s .tour;
+  ranking = s .ranking;
+  order = s .order;
+  range = new;
+  global = s .global;
+  aux = s .aux;
+  labels = s .labels;
+}
 
 abbrev pub withGlobal : Global → State → State
-withGlobal new s = record { table = s .table; clock = s .clock; components = s .components; plan = s .plan; tree = s .tree; tour = s .tour; ranking = s .ranking; order = s .order; range = s .range; global = new; aux = s .aux; labels = s .labels }
+withGlobal new s = record {
+  table = s .table;
+  clock = s .clock;
+  components = s .components;
+  plan = s .plan;
+  tree = s .tree;
+  tour = s .tour;
+  ranking = s .ranking;
+  order = s .order;
+  range = s .range;
+  global = new;
+  aux = s .aux;
+  labels = s .labels;
+}
 
 abbrev pub withAux : Aux → State → State
-withAux new s = record { table = s .table; clock = s .clock; components = s .components; plan = s .plan; tree = s .tree; tour = s .tour; ranking = s .ranking; order = s .order; range = s .range; global = s .global; aux = new; labels = s .labels }
+withAux new s = record {
+  table = s .table;
+  clock = s .clock;
+  components = s .components;
+  plan = s .plan;
+  tree = s .tree;
+  tour = s .tour;
+  ranking = s .ranking;
+  order = s .order;
+  range = s .range;
+  global = s .global;
+  aux = new;
+  labels = s .labels;
+}
 
 abbrev pub withLabels : Labels → State → State
-withLabels new s = record { table = s .table; clock = s .clock; components = s .components; plan = s .plan; tree = s .tree; tour = s .tour; ranking = s .ranking; order = s .order; range = s .range; global = s .global; aux = s .aux; labels = new }
+withLabels new s = record {
+  table = s .table;
+  clock = s .clock;
+  components = s .components;
+  plan = s .plan;
+  tree = s .tree;
+  tour = s .tour;
+  ranking = s .ranking;
+  order = s .order;
+  range = s .range;
+  global = s .global;
+  aux = s .aux;
+  labels = new;
+}

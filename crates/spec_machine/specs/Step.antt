@@ -1,4 +1,5 @@
--- One round: the tables of its stage by the rules, then the clock. All units of a round read the state that the round before left.
+-- One round: the tables of its stage by the rules, then the clock. All units of a round read the state that the round
+-- before left.
 use mathlib.Core.Bool.{Bool, true, false, cond, not, _&&_, _||_}
 use mathlib.Core.List.{List}
 use Prim.Native.Nat.{ℕ, zero, suc, _+_, _*_, _-_, min, max}
@@ -11,7 +12,8 @@ use Rattle.spec_rules.specs.Planned.{plannedParents, plannedDists}
 use Rattle.spec_rules.specs.Tour.{nextRound, predRound, firstSums, firstJumps}
 use Rattle.spec_rules.specs.Ranking.{sumRound, jumpRound, requestsOf, rankingEnds}
 use Rattle.spec_rules.specs.Order.{forwardRound, ndRound, secondSums, secondJumps, preRound}
-use Rattle.spec_rules.specs.Range.{globalFirst, rangeFirst, littleFirst, bigFirst, rangeLater, littleLater, bigLater, globalLater, rangeEnds}
+use Rattle.spec_rules.specs.Range.{globalFirst, rangeFirst, littleFirst, bigFirst, rangeLater, littleLater, bigLater}
+use Rattle.spec_rules.specs.Range.{globalLater, rangeEnds}
 use Rattle.spec_rules.specs.Aux.{linkJoinsRound, parentJoinsRound, auxRound, auxEnds}
 use Rattle.spec_rules.specs.Labels.{classRound, labelRound}
 use Rattle.spec_machine.specs.State.{State}
@@ -27,7 +29,10 @@ planned s = not (eqb (s .plan .given) 0)
 unfoldable pub components : State → State
 components s =
     State.withComponents
-    (record { color = colorRound (State.units s) (State.links s) (s .clock .made) (s .table .ends) (s .components .color) })
+    (record {
+      color = colorRound (State.units s) (State.links s) (s .clock .made) (s .table .ends)
+          (s .components .color);
+    })
     s
 
 -- breadth first, or taken over whole from the planner (document 02, T-05)
@@ -35,8 +40,10 @@ unfoldable pub treeSearched : State → State
 treeSearched s =
     State.withTree
     (record {
-      parent = parentRound (State.units s) (State.links s) (s .clock .made) (s .table .ends) (s .table .levels) (s .components .color) (s .tree .dist) (s .tree .parent);
-      dist = distRound (State.units s) (State.links s) (s .clock .made) (s .table .ends) (s .table .levels) (s .components .color) (s .tree .dist);
+      parent = parentRound (State.units s) (State.links s) (s .clock .made) (s .table .ends) (s .table .levels)
+          (s .components .color) (s .tree .dist) (s .tree .parent);
+      dist = distRound (State.units s) (State.links s) (s .clock .made) (s .table .ends) (s .table .levels)
+          (s .components .color) (s .tree .dist);
     })
     s
 
@@ -62,7 +69,11 @@ tourNext s =
 unfoldable pub tourPred : State → State
 tourPred s =
     State.withTour
-    (record { next = s .tour .next; pred = predRound (State.units s) (s .tree .parent) (s .tour .next) (s .tour .pred) })
+    (record {
+      next = s .tour .next;
+      pred = predRound (State.units s) (s .tree .parent) (s .tour .next)
+          (s .tour .pred);
+    })
     (State.withRanking
     (record {
       jump = firstJumps (State.units s) (s .tree .parent) (s .tour .next) (s .ranking .jump);
@@ -127,15 +138,19 @@ unfoldable pub rangeBegun : State → State
 rangeBegun s =
     State.withRange
     (record {
-      low = rangeFirst min (State.units s) (State.links s) (s .table .ends) (s .tree .parent) (s .order .nd) (s .order .pre) (s .range .low);
-      high = rangeFirst max (State.units s) (State.links s) (s .table .ends) (s .tree .parent) (s .order .nd) (s .order .pre) (s .range .high);
+      low = rangeFirst min (State.units s) (State.links s) (s .table .ends) (s .tree .parent) (s .order .nd)
+          (s .order .pre) (s .range .low);
+      high = rangeFirst max (State.units s) (State.links s) (s .table .ends) (s .tree .parent) (s .order .nd)
+          (s .order .pre) (s .range .high);
       little = littleFirst (State.units s) (s .order .pre) (s .range .little);
       big = bigFirst (State.units s) (s .order .nd) (s .order .pre) (s .range .big);
     })
     (State.withGlobal
     (record {
-      low = globalFirst min (State.units s) (State.links s) (s .table .ends) (s .tree .parent) (s .order .pre) (s .global .low);
-      high = globalFirst max (State.units s) (State.links s) (s .table .ends) (s .tree .parent) (s .order .pre) (s .global .high);
+      low = globalFirst min (State.units s) (State.links s) (s .table .ends) (s .tree .parent) (s .order .pre)
+          (s .global .low);
+      high = globalFirst max (State.units s) (State.links s) (s .table .ends) (s .tree .parent) (s .order .pre)
+          (s .global .high);
     })
     s)
 
@@ -163,8 +178,10 @@ auxEdges s =
     State.withAux
     (record {
       parents =
-          parentJoinsRound (State.units s) (s .tree .parent) (s .order .nd) (s .order .pre) (s .range .low) (s .range .high) (s .aux .parents);
-      links = linkJoinsRound (State.links s) (s .table .ends) (s .tree .parent) (s .order .nd) (s .order .pre) (s .aux .links);
+          parentJoinsRound (State.units s) (s .tree .parent) (s .order .nd) (s .order .pre) (s .range .low)
+          (s .range .high) (s .aux .parents);
+      links = linkJoinsRound (State.links s) (s .table .ends) (s .tree .parent) (s .order .nd) (s .order .pre)
+          (s .aux .links);
       color = s .aux .color;
     })
     s
@@ -172,7 +189,8 @@ auxEdges s =
 -- the classes after this round
 abbrev pub auxColors : State → List ℕ
 auxColors s =
-    auxRound (State.units s) (State.links s) (s .clock .made) (s .table .ends) (s .tree .parent) (s .aux .links) (s .aux .parents) (s .aux .color)
+    auxRound (State.units s) (State.links s) (s .clock .made) (s .table .ends) (s .tree .parent) (s .aux .links)
+    (s .aux .parents) (s .aux .color)
 
 unfoldable pub auxComponents : State → State
 auxComponents s =
@@ -183,7 +201,8 @@ unfoldable pub labelClasses : State → State
 labelClasses s =
     State.withLabels
     (record {
-      class = classRound (State.links s) (s .table .ends) (s .tree .parent) (s .order .pre) (s .aux .color) (s .labels .class);
+      class = classRound (State.links s) (s .table .ends) (s .tree .parent) (s .order .pre) (s .aux .color)
+          (s .labels .class);
       label = s .labels .label;
     })
     s
@@ -205,7 +224,8 @@ endsAt k s =
     cond (eqb k 1)
     (colorEnds (State.units s) (s .clock .made) (s .components .color) (components s .components .color))
     (cond (eqb k 2)
-    (planned s || treeEnds (State.units s) (State.links s) (s .clock .made) (s .table .ends) (s .table .levels) (s .components .color) (s .tree .dist))
+    (planned s || treeEnds (State.units s) (State.links s) (s .clock .made) (s .table .ends) (s .table .levels)
+    (s .components .color) (s .tree .dist))
     (cond (eqb k 3) (eqb (s .clock .made) 1)
     (cond (eqb k 4) (rankingEnds (2 * State.units s) (s .ranking .jump))
     (cond (eqb k 5) (eqb (s .clock .made) 1)

@@ -41,7 +41,8 @@ pub record Moved (s s′ : State) : Type 0 where
 -- the stage is 1 to 11, and its rounds are below its ceiling, zero at stage 11
 abbrev pub Fits : ℕ → ℕ → ℕ → Type 0
 Fits n stage made =
-    (1 ≤ stage) × (stage ≤ FINISHED) × (((stage ≡ FINISHED) × (made ≡ 0)) ⊎ ((stage ≡ FINISHED → ⊥) × (made < ceiling n stage)))
+    (1 ≤ stage) × (stage ≤ FINISHED) × (((stage ≡ FINISHED) × (made ≡ 0))
+    ⊎ ((stage ≡ FINISHED → ⊥) × (made < ceiling n stage)))
 
 module _ (s : State) (k : Kept s) (open′ : s .clock .stage ≡ FINISHED → ⊥) where
   site : Passes (units s) (words s)
@@ -80,7 +81,14 @@ module _ (s : State) (k : Kept s) (open′ : s .clock .stage ≡ FINISHED → �
       record {
         table = refl;
         plan = refl;
-        unitNames = (k .unitNames .0, (RoundBounds.color-names (units s) (links s) (s .clock .made) (s .table .ends) (s .components .color) some (k .unitNames .1 .0), k .unitNames .1 .1));
+        unitNames = (
+          k .unitNames .0,
+          (
+            RoundBounds.color-names (units s) (links s) (s .clock .made) (s .table .ends)
+                (s .components .color) some (k .unitNames .1 .0),
+            k .unitNames .1 .1,
+          ),
+        );
         arcNames = k .arcNames;
         linkNames = k .linkNames;
         distances = k .distances;
@@ -93,10 +101,25 @@ module _ (s : State) (k : Kept s) (open′ : s .clock .stage ≡ FINISHED → �
       record {
         table = refl;
         plan = refl;
-        unitNames = (k .unitNames .0, (k .unitNames .1 .0, (RoundBounds.parent-names (units s) (links s) (s .clock .made) (s .table .ends) (s .table .levels) (s .components .color) (s .tree .dist) (s .tree .parent) small-absent some (k .unitNames .0) (k .unitNames .1 .1 .0), k .unitNames .1 .1 .1)));
+        unitNames = (
+          k .unitNames .0,
+          (
+            k .unitNames .1 .0,
+            (
+              RoundBounds.parent-names (units s) (links s) (s .clock .made) (s .table .ends) (s .table .levels)
+                  (s .components .color) (s .tree .dist) (s .tree .parent) small-absent some (k .unitNames .0)
+                  (k .unitNames .1 .1 .0),
+              k .unitNames .1 .1 .1,
+            ),
+          ),
+        );
         arcNames = k .arcNames;
         linkNames = k .linkNames;
-        distances = (RoundBounds.dist-distances (units s) (links s) (s .clock .made) (s .table .ends) (s .table .levels) (s .components .color) (s .tree .dist) made-small (k .distances .0), tt);
+        distances = (
+          RoundBounds.dist-distances (units s) (links s) (s .clock .made) (s .table .ends) (s .table .levels)
+              (s .components .color) (s .tree .dist) made-small (k .distances .0),
+          tt,
+        );
         numbers = k .numbers;
       }
 
@@ -106,10 +129,24 @@ module _ (s : State) (k : Kept s) (open′ : s .clock .stage ≡ FINISHED → �
       record {
         table = refl;
         plan = refl;
-        unitNames = (k .unitNames .0, (k .unitNames .1 .0, (planned-names (units s) (s .plan .parent) (s .tree .parent) some (k .unitNames .1 .1 .1 .1 .1 .0) (k .unitNames .1 .1 .0), k .unitNames .1 .1 .1)));
+        unitNames = (
+          k .unitNames .0,
+          (
+            k .unitNames .1 .0,
+            (
+              planned-names (units s) (s .plan .parent) (s .tree .parent) some (k .unitNames .1 .1 .1 .1 .1 .0)
+                  (k .unitNames .1 .1 .0),
+              k .unitNames .1 .1 .1,
+            ),
+          ),
+        );
         arcNames = k .arcNames;
         linkNames = k .linkNames;
-        distances = (planned-distances (units s) (s .plan .parent) (s .components .color) (s .tree .dist) small-number (k .distances .0), tt);
+        distances = (
+          planned-distances (units s) (s .plan .parent) (s .components .color) (s .tree .dist) small-number
+              (k .distances .0),
+          tt,
+        );
         numbers = k .numbers;
       }
 
@@ -120,7 +157,11 @@ module _ (s : State) (k : Kept s) (open′ : s .clock .stage ≡ FINISHED → �
         table = refl;
         plan = refl;
         unitNames = k .unitNames;
-        arcNames = (RoundBounds.next-names (units s) (s .tree .parent) (s .tour .next) small-absent (k .unitNames .1 .1 .0) (k .arcNames .0), k .arcNames .1);
+        arcNames = (
+          RoundBounds.next-names (units s) (s .tree .parent) (s .tour .next) small-absent
+              (k .unitNames .1 .1 .0) (k .arcNames .0),
+          k .arcNames .1,
+        );
         linkNames = k .linkNames;
         distances = k .distances;
         numbers = k .numbers;
@@ -133,10 +174,24 @@ module _ (s : State) (k : Kept s) (open′ : s .clock .stage ≡ FINISHED → �
         table = refl;
         plan = refl;
         unitNames = k .unitNames;
-        arcNames = (k .arcNames .0, (RoundBounds.pred-names (units s) (s .tree .parent) (s .tour .next) (s .tour .pred) (k .arcNames .1 .0), (RoundBounds.first-jump-names (units s) (s .tree .parent) (s .tour .next) (s .ranking .jump) (k .arcNames .1 .1 .0), k .arcNames .1 .1 .1)));
+        arcNames = (
+          k .arcNames .0,
+          (
+            RoundBounds.pred-names (units s) (s .tree .parent) (s .tour .next) (s .tour .pred)
+                (k .arcNames .1 .0),
+            (
+              RoundBounds.first-jump-names (units s) (s .tree .parent) (s .tour .next)
+                  (s .ranking .jump) (k .arcNames .1 .1 .0),
+              k .arcNames .1 .1 .1,
+            ),
+          ),
+        );
         linkNames = k .linkNames;
         distances = k .distances;
-        numbers = (RoundBounds.first-sum-numbers (units s) (s .tree .parent) (s .ranking .sum) (k .numbers .0), k .numbers .1);
+        numbers = (
+          RoundBounds.first-sum-numbers (units s) (s .tree .parent) (s .ranking .sum) (k .numbers .0),
+          k .numbers .1,
+        );
       }
 
   ranking-moved : Moved s (Step.ranking s)
@@ -146,10 +201,19 @@ module _ (s : State) (k : Kept s) (open′ : s .clock .stage ≡ FINISHED → �
         table = refl;
         plan = refl;
         unitNames = k .unitNames;
-        arcNames = (k .arcNames .0, (k .arcNames .1 .0, (RoundBounds.jump-names (2 * units s) (s .ranking .jump) (k .arcNames .1 .1 .0), k .arcNames .1 .1 .1)));
+        arcNames = (
+          k .arcNames .0,
+          (
+            k .arcNames .1 .0,
+            (RoundBounds.jump-names (2 * units s) (s .ranking .jump) (k .arcNames .1 .1 .0), k .arcNames .1 .1 .1),
+          ),
+        );
         linkNames = k .linkNames;
         distances = k .distances;
-        numbers = (RoundBounds.sum-numbers (2 * units s) (s .ranking .jump) (s .ranking .sum) (k .numbers .0), k .numbers .1);
+        numbers = (
+          RoundBounds.sum-numbers (2 * units s) (s .ranking .jump) (s .ranking .sum) (k .numbers .0),
+          k .numbers .1,
+        );
       }
 
   marksForward-moved : Moved s (Step.marksForward s)
@@ -162,7 +226,14 @@ module _ (s : State) (k : Kept s) (open′ : s .clock .stage ≡ FINISHED → �
         arcNames = k .arcNames;
         linkNames = k .linkNames;
         distances = k .distances;
-        numbers = (k .numbers .0, (RoundBounds.forward-numbers (units s) (s .tree .parent) (s .ranking .sum) (s .order .forward) (k .numbers .1 .0), k .numbers .1 .1));
+        numbers = (
+          k .numbers .0,
+          (
+            RoundBounds.forward-numbers (units s) (s .tree .parent) (s .ranking .sum)
+                (s .order .forward) (k .numbers .1 .0),
+            k .numbers .1 .1,
+          ),
+        );
       }
 
   marksDescendants-moved : Moved s (Step.marksDescendants s)
@@ -172,10 +243,31 @@ module _ (s : State) (k : Kept s) (open′ : s .clock .stage ≡ FINISHED → �
         table = refl;
         plan = refl;
         unitNames = k .unitNames;
-        arcNames = (k .arcNames .0, (k .arcNames .1 .0, (RoundBounds.second-jump-names (units s) (s .tour .pred) (s .ranking .jump) (k .arcNames .1 .0) (k .arcNames .1 .1 .0), k .arcNames .1 .1 .1)));
+        arcNames = (
+          k .arcNames .0,
+          (
+            k .arcNames .1 .0,
+            (
+              RoundBounds.second-jump-names (units s) (s .tour .pred) (s .ranking .jump) (k .arcNames .1 .0)
+                  (k .arcNames .1 .1 .0),
+              k .arcNames .1 .1 .1,
+            ),
+          ),
+        );
         linkNames = k .linkNames;
         distances = k .distances;
-        numbers = (RoundBounds.second-sum-numbers (units s) (s .tree .parent) (s .order .forward) (s .ranking .sum) (k .numbers .0), (k .numbers .1 .0, (RoundBounds.nd-numbers (units s) (s .components .color) (s .tree .parent) (s .ranking .sum) (s .order .nd) small-number (k .numbers .0) (k .numbers .1 .1 .0), k .numbers .1 .1 .1)));
+        numbers = (
+          RoundBounds.second-sum-numbers (units s) (s .tree .parent) (s .order .forward) (s .ranking .sum)
+              (k .numbers .0),
+          (
+            k .numbers .1 .0,
+            (
+              RoundBounds.nd-numbers (units s) (s .components .color) (s .tree .parent) (s .ranking .sum)
+                  (s .order .nd) small-number (k .numbers .0) (k .numbers .1 .1 .0),
+              k .numbers .1 .1 .1,
+            ),
+          ),
+        );
       }
 
   places-moved : Moved s (Step.places s)
@@ -185,10 +277,29 @@ module _ (s : State) (k : Kept s) (open′ : s .clock .stage ≡ FINISHED → �
         table = refl;
         plan = refl;
         unitNames = k .unitNames;
-        arcNames = (k .arcNames .0, (k .arcNames .1 .0, (RoundBounds.jump-names (2 * units s) (s .ranking .jump) (k .arcNames .1 .1 .0), k .arcNames .1 .1 .1)));
+        arcNames = (
+          k .arcNames .0,
+          (
+            k .arcNames .1 .0,
+            (RoundBounds.jump-names (2 * units s) (s .ranking .jump) (k .arcNames .1 .1 .0), k .arcNames .1 .1 .1),
+          ),
+        );
         linkNames = k .linkNames;
         distances = k .distances;
-        numbers = (RoundBounds.sum-numbers (2 * units s) (s .ranking .jump) (s .ranking .sum) (k .numbers .0), (k .numbers .1 .0, (k .numbers .1 .1 .0, (RoundBounds.pre-numbers (units s) (s .components .color) (s .tree .parent) (s .ranking .sum) (s .order .pre) (k .numbers .1 .1 .1 .0), k .numbers .1 .1 .1 .1))));
+        numbers = (
+          RoundBounds.sum-numbers (2 * units s) (s .ranking .jump) (s .ranking .sum) (k .numbers .0),
+          (
+            k .numbers .1 .0,
+            (
+              k .numbers .1 .1 .0,
+              (
+                RoundBounds.pre-numbers (units s) (s .components .color) (s .tree .parent) (s .ranking .sum)
+                    (s .order .pre) (k .numbers .1 .1 .1 .0),
+                k .numbers .1 .1 .1 .1,
+              ),
+            ),
+          ),
+        );
       }
 
   rangeBegun-moved : Moved s (Step.rangeBegun s)
@@ -201,7 +312,50 @@ module _ (s : State) (k : Kept s) (open′ : s .clock .stage ≡ FINISHED → �
         arcNames = k .arcNames;
         linkNames = k .linkNames;
         distances = k .distances;
-        numbers = (k .numbers .0, (k .numbers .1 .0, (k .numbers .1 .1 .0, (k .numbers .1 .1 .1 .0, (RoundBounds.range-first-numbers min min-picks (units s) (links s) (s .table .ends) (s .tree .parent) (s .order .nd) (s .order .pre) (s .range .low) (k .numbers .1 .1 .1 .0) (k .numbers .1 .1 .1 .1 .0), (RoundBounds.range-first-numbers max max-picks (units s) (links s) (s .table .ends) (s .tree .parent) (s .order .nd) (s .order .pre) (s .range .high) (k .numbers .1 .1 .1 .0) (k .numbers .1 .1 .1 .1 .1 .0), (RoundBounds.little-first-numbers (units s) (s .order .pre) (s .range .little) (k .numbers .1 .1 .1 .0) (k .numbers .1 .1 .1 .1 .1 .1 .0), (RoundBounds.big-first-numbers (units s) (s .order .nd) (s .order .pre) (s .range .big) (k .numbers .1 .1 .1 .1 .1 .1 .1 .0), (RoundBounds.global-first-numbers min min-picks (units s) (links s) (s .table .ends) (s .tree .parent) (s .order .pre) (s .global .low) (k .numbers .1 .1 .1 .0) (k .numbers .1 .1 .1 .1 .1 .1 .1 .1 .0), (RoundBounds.global-first-numbers max max-picks (units s) (links s) (s .table .ends) (s .tree .parent) (s .order .pre) (s .global .high) (k .numbers .1 .1 .1 .0) (k .numbers .1 .1 .1 .1 .1 .1 .1 .1 .1 .0), k .numbers .1 .1 .1 .1 .1 .1 .1 .1 .1 .1))))))))));
+        numbers = (
+          k .numbers .0,
+          (
+            k .numbers .1 .0,
+            (
+              k .numbers .1 .1 .0,
+              (
+                k .numbers .1 .1 .1 .0,
+                (
+                  RoundBounds.range-first-numbers min min-picks (units s) (links s) (s .table .ends) (s .tree .parent)
+                      (s .order .nd) (s .order .pre) (s .range .low) (k .numbers .1 .1 .1 .0)
+                      (k .numbers .1 .1 .1 .1 .0),
+                  (
+                    RoundBounds.range-first-numbers max max-picks (units s) (links s) (s .table .ends) (s .tree .parent)
+                        (s .order .nd) (s .order .pre) (s .range .high) (k .numbers .1 .1 .1 .0)
+                        (k .numbers .1 .1 .1 .1 .1 .0),
+                    (
+                      RoundBounds.little-first-numbers (units s) (s .order .pre) (s .range .little)
+                          (k .numbers .1 .1 .1 .0)
+                          (k .numbers .1 .1 .1 .1 .1 .1 .0),
+                      (
+                        RoundBounds.big-first-numbers (units s) (s .order .nd) (s .order .pre) (s .range .big)
+                            (k .numbers .1 .1 .1 .1 .1 .1 .1 .0),
+                        (
+                          RoundBounds.global-first-numbers min min-picks (units s) (links s) (s .table .ends)
+                              (s .tree .parent)
+                              (s .order .pre) (s .global .low) (k .numbers .1 .1 .1 .0)
+                              (k .numbers .1 .1 .1 .1 .1 .1 .1 .1 .0),
+                          (
+                            RoundBounds.global-first-numbers max max-picks (units s) (links s) (s .table .ends)
+                                (s .tree .parent)
+                                (s .order .pre) (s .global .high) (k .numbers .1 .1 .1 .0)
+                                (k .numbers .1 .1 .1 .1 .1 .1 .1 .1 .1 .0),
+                            k .numbers .1 .1 .1 .1 .1 .1 .1 .1 .1 .1,
+                          ),
+                        ),
+                      ),
+                    ),
+                  ),
+                ),
+              ),
+            ),
+          ),
+        );
       }
 
   rangeDoubled-moved : (i : ℕ) → Moved s (Step.rangeDoubled i s)
@@ -214,7 +368,45 @@ module _ (s : State) (k : Kept s) (open′ : s .clock .stage ≡ FINISHED → �
         arcNames = k .arcNames;
         linkNames = k .linkNames;
         distances = k .distances;
-        numbers = (k .numbers .0, (k .numbers .1 .0, (k .numbers .1 .1 .0, (k .numbers .1 .1 .1 .0, (RoundBounds.range-later-numbers min min-picks i (units s) (s .global .low) (s .range .little) (s .range .big) (s .range .low) (k .numbers .1 .1 .1 .1 .1 .1 .1 .1 .0) (k .numbers .1 .1 .1 .1 .0), (RoundBounds.range-later-numbers max max-picks i (units s) (s .global .high) (s .range .little) (s .range .big) (s .range .high) (k .numbers .1 .1 .1 .1 .1 .1 .1 .1 .1 .0) (k .numbers .1 .1 .1 .1 .1 .0), (RoundBounds.little-later-numbers i (units s) (s .range .big) (s .range .little) (k .numbers .1 .1 .1 .1 .1 .1 .0), (RoundBounds.big-later-numbers i (units s) (s .range .little) (s .range .big) (k .numbers .1 .1 .1 .1 .1 .1 .1 .0), (RoundBounds.global-later-numbers min min-picks i (units s) (s .global .low) (k .numbers .1 .1 .1 .1 .1 .1 .1 .1 .0), (RoundBounds.global-later-numbers max max-picks i (units s) (s .global .high) (k .numbers .1 .1 .1 .1 .1 .1 .1 .1 .1 .0), k .numbers .1 .1 .1 .1 .1 .1 .1 .1 .1 .1))))))))));
+        numbers = (
+          k .numbers .0,
+          (
+            k .numbers .1 .0,
+            (
+              k .numbers .1 .1 .0,
+              (
+                k .numbers .1 .1 .1 .0,
+                (
+                  RoundBounds.range-later-numbers min min-picks i (units s) (s .global .low) (s .range .little)
+                      (s .range .big) (s .range .low) (k .numbers .1 .1 .1 .1 .1 .1 .1 .1 .0)
+                      (k .numbers .1 .1 .1 .1 .0),
+                  (
+                    RoundBounds.range-later-numbers max max-picks i (units s) (s .global .high) (s .range .little)
+                        (s .range .big) (s .range .high) (k .numbers .1 .1 .1 .1 .1 .1 .1 .1 .1 .0)
+                        (k .numbers .1 .1 .1 .1 .1 .0),
+                    (
+                      RoundBounds.little-later-numbers i (units s) (s .range .big) (s .range .little)
+                          (k .numbers .1 .1 .1 .1 .1 .1 .0),
+                      (
+                        RoundBounds.big-later-numbers i (units s) (s .range .little) (s .range .big)
+                            (k .numbers .1 .1 .1 .1 .1 .1 .1 .0),
+                        (
+                          RoundBounds.global-later-numbers min min-picks i (units s) (s .global .low)
+                              (k .numbers .1 .1 .1 .1 .1 .1 .1 .1 .0),
+                          (
+                            RoundBounds.global-later-numbers max max-picks i (units s) (s .global .high)
+                                (k .numbers .1 .1 .1 .1 .1 .1 .1 .1 .1 .0),
+                            k .numbers .1 .1 .1 .1 .1 .1 .1 .1 .1 .1,
+                          ),
+                        ),
+                      ),
+                    ),
+                  ),
+                ),
+              ),
+            ),
+          ),
+        );
       }
 
   auxEdges-moved : Moved s (Step.auxEdges s)
@@ -227,7 +419,47 @@ module _ (s : State) (k : Kept s) (open′ : s .clock .stage ≡ FINISHED → �
         arcNames = k .arcNames;
         linkNames = k .linkNames;
         distances = k .distances;
-        numbers = (k .numbers .0, (k .numbers .1 .0, (k .numbers .1 .1 .0, (k .numbers .1 .1 .1 .0, (k .numbers .1 .1 .1 .1 .0, (k .numbers .1 .1 .1 .1 .1 .0, (k .numbers .1 .1 .1 .1 .1 .1 .0, (k .numbers .1 .1 .1 .1 .1 .1 .1 .0, (k .numbers .1 .1 .1 .1 .1 .1 .1 .1 .0, (k .numbers .1 .1 .1 .1 .1 .1 .1 .1 .1 .0, (RoundBounds.parent-join-numbers (units s) (s .tree .parent) (s .order .nd) (s .order .pre) (s .range .low) (s .range .high) (s .aux .parents) (k .numbers .1 .1 .1 .1 .1 .1 .1 .1 .1 .1 .0), (RoundBounds.link-join-numbers (links s) (s .table .ends) (s .tree .parent) (s .order .nd) (s .order .pre) (s .aux .links) (k .numbers .1 .1 .1 .1 .1 .1 .1 .1 .1 .1 .1 .0), k .numbers .1 .1 .1 .1 .1 .1 .1 .1 .1 .1 .1 .1))))))))))));
+        numbers = (
+          k .numbers .0,
+          (
+            k .numbers .1 .0,
+            (
+              k .numbers .1 .1 .0,
+              (
+                k .numbers .1 .1 .1 .0,
+                (
+                  k .numbers .1 .1 .1 .1 .0,
+                  (
+                    k .numbers .1 .1 .1 .1 .1 .0,
+                    (
+                      k .numbers .1 .1 .1 .1 .1 .1 .0,
+                      (
+                        k .numbers .1 .1 .1 .1 .1 .1 .1 .0,
+                        (
+                          k .numbers .1 .1 .1 .1 .1 .1 .1 .1 .0,
+                          (
+                            k .numbers .1 .1 .1 .1 .1 .1 .1 .1 .1 .0,
+                            (
+                              RoundBounds.parent-join-numbers (units s) (s .tree .parent) (s .order .nd) (s .order .pre)
+                                  (s .range .low)
+                                  (s .range .high) (s .aux .parents) (k .numbers .1 .1 .1 .1 .1 .1 .1 .1 .1 .1 .0),
+                              (
+                                RoundBounds.link-join-numbers (links s) (s .table .ends) (s .tree .parent)
+                                    (s .order .nd) (s .order .pre)
+                                    (s .aux .links) (k .numbers .1 .1 .1 .1 .1 .1 .1 .1 .1 .1 .1 .0),
+                                k .numbers .1 .1 .1 .1 .1 .1 .1 .1 .1 .1 .1 .1,
+                              ),
+                            ),
+                          ),
+                        ),
+                      ),
+                    ),
+                  ),
+                ),
+              ),
+            ),
+          ),
+        );
       }
 
   auxComponents-moved : Moved s (Step.auxComponents s)
@@ -236,7 +468,20 @@ module _ (s : State) (k : Kept s) (open′ : s .clock .stage ≡ FINISHED → �
       record {
         table = refl;
         plan = refl;
-        unitNames = (k .unitNames .0, (k .unitNames .1 .0, (k .unitNames .1 .1 .0, (RoundBounds.aux-names (units s) (links s) (s .clock .made) (s .table .ends) (s .tree .parent) (s .aux .links) (s .aux .parents) (s .aux .color) some (k .unitNames .1 .1 .1 .0), k .unitNames .1 .1 .1 .1))));
+        unitNames = (
+          k .unitNames .0,
+          (
+            k .unitNames .1 .0,
+            (
+              k .unitNames .1 .1 .0,
+              (
+                RoundBounds.aux-names (units s) (links s) (s .clock .made) (s .table .ends)
+                    (s .tree .parent) (s .aux .links) (s .aux .parents) (s .aux .color) some (k .unitNames .1 .1 .1 .0),
+                k .unitNames .1 .1 .1 .1,
+              ),
+            ),
+          ),
+        );
         arcNames = k .arcNames;
         linkNames = k .linkNames;
         distances = k .distances;
@@ -249,7 +494,23 @@ module _ (s : State) (k : Kept s) (open′ : s .clock .stage ≡ FINISHED → �
       record {
         table = refl;
         plan = refl;
-        unitNames = (k .unitNames .0, (k .unitNames .1 .0, (k .unitNames .1 .1 .0, (k .unitNames .1 .1 .1 .0, (RoundBounds.class-names (units s) (links s) (s .table .ends) (s .tree .parent) (s .order .pre) (s .aux .color) (s .labels .class) some (k .unitNames .1 .1 .1 .0) (k .unitNames .1 .1 .1 .1 .0), k .unitNames .1 .1 .1 .1 .1)))));
+        unitNames = (
+          k .unitNames .0,
+          (
+            k .unitNames .1 .0,
+            (
+              k .unitNames .1 .1 .0,
+              (
+                k .unitNames .1 .1 .1 .0,
+                (
+                  RoundBounds.class-names (units s) (links s) (s .table .ends) (s .tree .parent) (s .order .pre)
+                      (s .aux .color) (s .labels .class) some (k .unitNames .1 .1 .1 .0) (k .unitNames .1 .1 .1 .1 .0),
+                  k .unitNames .1 .1 .1 .1 .1,
+                ),
+              ),
+            ),
+          ),
+        );
         arcNames = k .arcNames;
         linkNames = k .linkNames;
         distances = k .distances;
@@ -294,17 +555,31 @@ module _ (s : State) (k : Kept s) (open′ : s .clock .stage ≡ FINISHED → �
       })
 
   -- the clock after the round, whether or not it was the stage's last
-  pub clock-fits : (last : Bool) → Step.lastRound s ≡ last → Fits (units s) (cond last (s .clock .stage + 1) (s .clock .stage)) (cond last 0 (s .clock .made + 1))
+  pub clock-fits : (last : Bool) → Step.lastRound s ≡ last →
+      Fits (units s) (cond last (s .clock .stage + 1) (s .clock .stage)) (cond last 0 (s .clock .made + 1))
   unfolding Step.lastRound
   clock-fits true e = (omega arith, omega (arith, stage-small), next (ℕ-discrete (s .clock .stage + 1) FINISHED))
     where
       next : Dec (s .clock .stage + 1 ≡ FINISHED)
-          → ((s .clock .stage + 1 ≡ FINISHED) × (_≡_ {A = ℕ} 0 0)) ⊎ ((s .clock .stage + 1 ≡ FINISHED → ⊥) × (0 < ceiling (units s) (s .clock .stage + 1)))
+          → ((s .clock .stage + 1 ≡ FINISHED) × (_≡_ {A = ℕ} 0 0))
+          ⊎ ((s .clock .stage + 1 ≡ FINISHED → ⊥) × (0 < ceiling (units s) (s .clock .stage + 1)))
       next (yes h) = inl (h, refl)
-      next (no h) = inr (h, ceiling-positive (units s) (s .clock .stage + 1) (omega arith) (omega (arith, stage-small, h)))
-  clock-fits false e = (k .from, k .to, inr (open′, leb-false (ceiling (units s) (s .clock .stage)) (s .clock .made + 1) (or-false-right (Step.ruleEnds s) _ e)))
+      next (no h) = inr (
+        h,
+        ceiling-positive (units s) (s .clock .stage + 1) (omega arith)
+            (omega (arith, stage-small, h)),
+      )
+  clock-fits false e = (
+    k .from,
+    k .to,
+    inr (
+      open′,
+      leb-false (ceiling (units s) (s .clock .stage)) (s .clock .made + 1) (or-false-right (Step.ruleEnds s) _ e),
+    ),
+  )
 
-  moved-kept : (s′ : State) (c : Clock) → Moved s s′ → Fits (units s) (c .stage) (c .made) → c .rounds ≤ MAX-ROUNDS → c .requests ≤ MAX-REQUESTS
+  moved-kept : (s′ : State) (c : Clock) → Moved s s′ → Fits (units s) (c .stage) (c .made) → c .rounds ≤ MAX-ROUNDS →
+      c .requests ≤ MAX-REQUESTS
       → Kept (withClock c s′)
   moved-kept s′ c m f r q =
       record {
@@ -326,4 +601,6 @@ module _ (s : State) (k : Kept s) (open′ : s .clock .stage ≡ FINISHED → �
 
   pub step-kept : Kept (Step.step s)
   unfolding Step.step Step.nextClock
-  step-kept = rw (ne-eqb (s .clock .stage) FINISHED open′) (moved-kept (Step.roundTables s) (Step.nextClock (Step.lastRound s) (Step.roundRequests s) (s .clock)) tables-moved (clock-fits (Step.lastRound s) refl) (omega arith) (omega arith))
+  step-kept = rw (ne-eqb (s .clock .stage) FINISHED open′)
+      (moved-kept (Step.roundTables s) (Step.nextClock (Step.lastRound s) (Step.roundRequests s) (s .clock))
+      tables-moved (clock-fits (Step.lastRound s) refl) (omega arith) (omega arith))

@@ -17,7 +17,8 @@ use Rattle.spec_machine.specs.State.{units, links, FINISHED, MAX-ROUNDS,
 
 -- units; the ends past the last link are judged as stored units alone
 abbrev pub unitTables : State → List (List ℕ)
-unitTables s = s .table .ends ∷ s .components .color ∷ s .tree .parent ∷ s .aux .color ∷ s .labels .class ∷ s .plan .parent ∷ []
+unitTables s = s .table .ends ∷ s .components .color ∷ s .tree .parent ∷ s .aux .color ∷ s .labels .class
+    ∷ s .plan .parent ∷ []
 
 -- list places
 abbrev pub arcTables : State → List (List ℕ)
@@ -65,8 +66,9 @@ clockOk n c =
     && leb (c .rounds) MAX-ROUNDS
     && leb (c .requests) MAX-REQUESTS
 
--- every stored unit, list place or link is absent or names one that exists; no other stored number exceeds 2,048, save that a distance may be absent; every
--- level is in range (document 02, T-01); whether a plan was given is a stored number (T-05)
+-- every stored unit, list place or link is absent or names one that exists; no other stored number exceeds 2,048, save
+-- that a distance may be absent; every level is in range (document 02, T-01); whether a plan was given is a stored
+-- number (T-05)
 unfoldable pub entriesOk : State → Bool
 entriesOk s =
     every (every (nameOk (units s))) (unitTables s)

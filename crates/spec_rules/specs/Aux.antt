@@ -1,4 +1,5 @@
--- Stage 8, joins: the edges of the auxiliary graph on tree links, each named by its lower unit. Stage 9, classes: its components, by stage 1's rule.
+-- Stage 8, joins: the edges of the auxiliary graph on tree links, each named by its lower unit. Stage 9, classes: its
+-- components, by stage 1's rule.
 use mathlib.Core.Bool.{Bool, not, _&&_, _||_, cond}
 use mathlib.Core.List.{List}
 use Prim.Native.Nat.{ℕ, _+_}
@@ -47,7 +48,8 @@ joined parent mark a b = not (eqb mark 0) && not (isRoot parent a) && not (isRoo
 abbrev pub heardOver : List ℕ → List ℕ → ℕ → ℕ → ℕ → ℕ → ℕ
 heardOver parent value mark a b v = cond (joined parent mark a b) (heard value a b v) (at value v)
 
--- the least of v's own value, over the joins of links and then over the joins with parents; roots take no part and stay absent
+-- the least of v's own value, over the joins of links and then over the joins with parents; roots take no part and stay
+-- absent
 unfoldable pub leastJoined : ℕ → ℕ → List ℕ → List ℕ → List ℕ → List ℕ → List ℕ → ℕ → ℕ
 leastJoined n m ends parent linkJoins parentJoins value v =
     cond (isRoot parent v) ABSENT

@@ -1,5 +1,6 @@
--- Document 02, T-02, in its words: of the neighbours visited in the round before, the one with the highest level, ties to the least number. `Best` says it
--- of a unit, `chosen-best` that the choice of a parent is this one, and `chosen` in ParentChoice.antt that there is one wherever such a neighbour is.
+-- Document 02, T-02, in its words: of the neighbours visited in the round before, the one with the highest level, ties
+-- to the least number. `Best` says it of a unit, `chosen-best` that the choice of a parent is this one, and `chosen` in
+-- ParentChoice.antt that there is one wherever such a neighbour is.
 use mathlib.Core.Path.{_≡_, sym, _∙_}
 use mathlib.Core.Bool.{true}
 use mathlib.Core.Logic.{_≢_}
@@ -28,11 +29,14 @@ pub record Best (m made : ℕ) (ends : List ℕ) (levels : List ℤ) (dist : Lis
 
 module _ (m made : ℕ) (ends : List ℕ) (levels : List ℤ) (dist : List ℕ)
     (smallA : (j : ℕ) → j < m → endA ends j < ABSENT) (smallB : (j : ℕ) → j < m → endB ends j < ABSENT) (v : ℕ) where
-  pub chosen-best : chosenParent m made ends levels dist v ≢ ABSENT → Best m made ends levels dist v (chosenParent m made ends levels dist v)
+  pub chosen-best : chosenParent m made ends levels dist v ≢ ABSENT →
+      Best m made ends levels dist v (chosenParent m made ends levels dist v)
   unfolding chosenParent
-  chosen-best n = go (bestNeighbor (visitedBefore made dist) m ends levels v) n (found (visitedBefore made dist) ends levels v m smallA smallB)
+  chosen-best n = go (bestNeighbor (visitedBefore made dist) m ends levels v) n
+      (found (visitedBefore made dist) ends levels v m smallA smallB)
     where
-      go : (best : Neighbor) → best .unit ≢ ABSENT → Found (visitedBefore made dist) ends levels v m best → Best m made ends levels dist v (best .unit)
+      go : (best : Neighbor) → best .unit ≢ ABSENT → Found (visitedBefore made dist) ends levels v m best →
+          Best m made ends levels dist v (best .unit)
       go best n (lacking e f) = absurd (n e)
       go best n (by j (l, h, g) s e low) =
           record {

@@ -19,7 +19,8 @@ BUCKETS = 512
 unfoldable pub bucketTable : (ℕ → ℕ) → List ℕ → List ℕ
 bucketTable f old = over BUCKETS f old
 
-pub bucket-at : (f : ℕ → ℕ) (old : List ℕ) → length old ≡ BUCKETS → (q : ℕ) → q < BUCKETS → getD (bucketTable f old) q 0 ≡ f q
+pub bucket-at : (f : ℕ → ℕ) (old : List ℕ) → length old ≡ BUCKETS → (q : ℕ) → q < BUCKETS →
+    getD (bucketTable f old) q 0 ≡ f q
 unfolding bucketTable
 bucket-at f old full q h = getD-over BUCKETS f old q 0 h (omega arith)
 
@@ -27,7 +28,8 @@ bucket-at f old full q h = getD-over BUCKETS f old q 0 h (omega arith)
 unfoldable pub lookup : (ℕ → ℕ) → List ℕ → ℕ → ℕ → ℕ
 lookup f bucket absent q = cond (ltb q BUCKETS) (at bucket q) (cond (eqb q ABSENT) absent (f q))
 
-module _ (f : ℕ → ℕ) (bucket : List ℕ) (absent : ℕ) (known : (q : ℕ) → q < BUCKETS → getD bucket q 0 ≡ f q) (lost : absent ≡ f ABSENT) where
+module _ (f : ℕ → ℕ) (bucket : List ℕ) (absent : ℕ) (known : (q : ℕ) → q < BUCKETS →
+    getD bucket q 0 ≡ f q) (lost : absent ≡ f ABSENT) where
   go : (q : ℕ) → Dec (q < BUCKETS) → Dec (q ≡ ABSENT) → lookup f bucket absent q ≡ f q
   unfolding lookup
   go q (yes h) d = rw (lt-ltb q BUCKETS h, known q h)

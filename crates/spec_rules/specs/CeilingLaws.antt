@@ -12,7 +12,8 @@ use Rattle.spec_rules.specs.Ceilings.{rankingCeiling, ceilings, ceiling,
 -- ---- each ceiling, 1 to 10
 
 -- a property of the ten ceilings holds of each
-each : (P : ℕ → Type 0) (n : ℕ) → P (max 2 n) → P (n + 1) → P 2 → P (rankingCeiling n) → P (1 + lg n) → P 1 → P (max 2 (n - 1))
+each : (P : ℕ → Type 0) (n : ℕ) → P (max 2 n) → P (n + 1) → P 2 → P (rankingCeiling n) → P (1 + lg n) → P 1 →
+    P (max 2 (n - 1))
     → (i : ℕ) → i < 10 → P (getD (ceilings n) i 0)
 each P n a b c d e f g zero l = a
 each P n a b c d e f g (suc zero) l = b
@@ -29,13 +30,15 @@ each P n a b c d e f g (suc (suc (suc (suc (suc (suc (suc (suc (suc (suc i))))))
 -- every stage has a round
 pub ceiling-positive : (n stage : ℕ) → 1 ≤ stage → stage ≤ 10 → 1 ≤ ceiling n stage
 ceiling-positive n stage h l =
-    each (λ (c : ℕ). 1 ≤ c) n (omega arith) (omega arith) (omega arith) (omega arith) (omega arith) (omega arith) (omega arith) (stage - 1)
+    each (λ (c : ℕ). 1 ≤ c) n (omega arith) (omega arith) (omega arith) (omega arith) (omega arith) (omega arith)
+    (omega arith) (stage - 1)
     (omega arith)
 
 -- and at most 257, for a site of at most 256 units
 pub ceiling-small : (n stage : ℕ) → n ≤ 256 → 1 ≤ stage → stage ≤ 10 → ceiling n stage ≤ 257
 ceiling-small n stage small h l =
-    each (λ (c : ℕ). c ≤ 257) n (omega arith) (omega arith) (omega arith) (omega (arith, lg-least (2 * n - 2) 9 (omega arith)))
+    each (λ (c : ℕ). c ≤ 257) n (omega arith) (omega arith) (omega arith)
+    (omega (arith, lg-least (2 * n - 2) 9 (omega arith)))
     (omega (arith, lg-least n 8 small)) (omega arith) (omega arith) (stage - 1) (omega arith)
 
 -- ---- the countdown
@@ -62,7 +65,8 @@ pub countdown-stage : (n stage made : ℕ) → 1 ≤ stage → stage ≤ 10 → 
 unfolding countdown
 countdown-stage n stage made h l m = omega (arith, at-stage n stage h l)
 
-pub countdown-positive : (n stage made : ℕ) → 1 ≤ stage → stage ≤ 10 → made < ceiling n stage → 0 < countdown n stage made
+pub countdown-positive : (n stage made : ℕ) → 1 ≤ stage → stage ≤ 10 → made < ceiling n stage →
+    0 < countdown n stage made
 unfolding countdown
 countdown-positive n stage made h l m = omega (arith, at-stage n stage h l)
 

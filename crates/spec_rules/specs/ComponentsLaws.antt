@@ -28,7 +28,8 @@ heard-more n j ends said t new was put =
     (λ (v : ℕ). fold-again false j (λ (k : ℕ). heard said (endA ends k) (endB ends k) v) (at said v)))
 
 -- what was said differs from the old values below n only, so a table over it is one over them
-pub over-said : (test : Bool) (n : ℕ) (f : ℕ → ℕ) (old : List ℕ) → over n f (cond test (over n (λ (v : ℕ). v) old) old) ≡ over n f old
+pub over-said : (test : Bool) (n : ℕ) (f : ℕ → ℕ) (old : List ℕ) →
+    over n f (cond test (over n (λ (v : ℕ). v) old) old) ≡ over n f old
 over-said true n f old = over-over n f (λ (v : ℕ). v) old
 over-said false n f old = refl
 

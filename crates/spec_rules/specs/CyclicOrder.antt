@@ -1,5 +1,5 @@
--- Laws of stage 3's order round a unit: what the neighbour after another is, that each neighbour comes after one, and what the cyclic order looks
--- like when it is cut open at a neighbour of choice.
+-- Laws of stage 3's order round a unit: what the neighbour after another is, that each neighbour comes after one, and
+-- what the cyclic order looks like when it is cut open at a neighbour of choice.
 use mathlib.Core.Path.{_≡_, refl, _∙_}
 use mathlib.Core.Bool.{Bool, true, false, cond, _&&_}
 use mathlib.Core.Logic.{_⊎_, inl, inr, _≢_}
@@ -24,7 +24,8 @@ leastPassing n p = least n (λ (w : ℕ). cond (p w) w ABSENT) ABSENT
 pub passing-least : (n : ℕ) (p : ℕ → Bool) (x : ℕ) → x < n → p x ≡ true → leastPassing n p ≤ x
 passing-least n p x l t = rw (cond-true (p x) x ABSENT t) at (least-le n (λ (w : ℕ). cond (p w) w ABSENT) ABSENT x l)
 
-passing : (n : ℕ) (p : ℕ → Bool) → (leastPassing n p ≡ ABSENT) ⊎ ((leastPassing n p < n) × (p (leastPassing n p) ≡ true))
+passing : (n : ℕ) (p : ℕ → Bool) → (leastPassing n p ≡ ABSENT)
+    ⊎ ((leastPassing n p < n) × (p (leastPassing n p) ≡ true))
 passing n p = go (least-is n (λ (w : ℕ). cond (p w) w ABSENT) ABSENT)
   where
     at-one : (i : ℕ) → i < n → leastPassing n p ≡ cond (p i) i ABSENT → (p i ≡ true) ⊎ (p i ≡ false)
@@ -38,10 +39,12 @@ passing n p = go (least-is n (λ (w : ℕ). cond (p w) w ABSENT) ABSENT)
     go (inr (i, l, e)) = at-one i l e (either (p i))
 
 -- where one passes, it is found
-pub passing-found : (n : ℕ) (p : ℕ → Bool) (x : ℕ) → n ≤ ABSENT → x < n → p x ≡ true → (leastPassing n p < n) × (p (leastPassing n p) ≡ true)
+pub passing-found : (n : ℕ) (p : ℕ → Bool) (x : ℕ) → n ≤ ABSENT → x < n → p x ≡ true →
+    (leastPassing n p < n) × (p (leastPassing n p) ≡ true)
 passing-found n p x small l t = go (passing n p)
   where
-    go : (leastPassing n p ≡ ABSENT) ⊎ ((leastPassing n p < n) × (p (leastPassing n p) ≡ true)) → (leastPassing n p < n) × (p (leastPassing n p) ≡ true)
+    go : (leastPassing n p ≡ ABSENT) ⊎ ((leastPassing n p < n) × (p (leastPassing n p) ≡ true)) →
+        (leastPassing n p < n) × (p (leastPassing n p) ≡ true)
     go (inl e) = absurd (omega (arith, passing-least n p x l t))
     go (inr w) = w
 
@@ -62,9 +65,15 @@ last-passing p (suc b) = go (either (p b)) (last-passing p b)
         at-most (no e) = omega arith
 
     go : (p b ≡ true) ⊎ (p b ≡ false) → Found ⊎ ((x : ℕ) → x < b → p x ≡ true → ⊥)
-        → ((u : ℕ) × (u < suc b) × (p u ≡ true) × ((x : ℕ) → x < suc b → p x ≡ true → x ≤ u)) ⊎ ((x : ℕ) → x < suc b → p x ≡ true → ⊥)
+        → ((u : ℕ) × (u < suc b) × (p u ≡ true) × ((x : ℕ) → x < suc b → p x ≡ true → x ≤ u))
+        ⊎ ((x : ℕ) → x < suc b → p x ≡ true → ⊥)
     go (inl t) r = inl (b, le-refl (suc b), t, λ (x : ℕ) (l : x < suc b) (s : p x ≡ true). omega arith)
-    go (inr f) (inl (u, l, t, h)) = inl (u, le-step l, t, λ (x : ℕ) (k : x < suc b) (s : p x ≡ true). h x (lower x k s f) s)
+    go (inr f) (inl (u, l, t, h)) = inl (
+      u,
+      le-step l,
+      t,
+      λ (x : ℕ) (k : x < suc b) (s : p x ≡ true). h x (lower x k s f) s,
+    )
     go (inr f) (inr h) = inr (λ (x : ℕ) (k : x < suc b) (s : p x ≡ true). h x (lower x k s f) s)
 
 -- ---- the next in cyclic order among the numbers below n that pass a test
@@ -73,7 +82,8 @@ pub data Next (nb : ℕ → Bool) (n u w : ℕ) : Type 0 where
   greater : u < w → ((x : ℕ) → x < n → nb x ≡ true → u < x → w ≤ x) → Next nb n u w
   wrapped : ((x : ℕ) → x < n → nb x ≡ true → x ≤ u) → ((x : ℕ) → x < n → nb x ≡ true → w ≤ x) → Next nb n u w
 
-next-unique : {nb : ℕ → Bool} {n u w z : ℕ} → w < n → nb w ≡ true → z < n → nb z ≡ true → Next nb n u w → Next nb n u z → w ≡ z
+next-unique : {nb : ℕ → Bool} {n u w z : ℕ} → w < n → nb w ≡ true → z < n → nb z ≡ true → Next nb n u w →
+    Next nb n u z → w ≡ z
 next-unique {u = u} {w = w} {z = z} lw tw lz tz (greater a f) (greater b g) = omega (arith, f z lz tz b, g w lw tw a)
 next-unique {u = u} {w = w} {z = z} lw tw lz tz (greater a f) (wrapped b g) = absurd (omega (arith, b w lw tw))
 next-unique {u = u} {w = w} {z = z} lw tw lz tz (wrapped a f) (greater b g) = absurd (omega (arith, a z lz tz))
@@ -83,10 +93,17 @@ next-unique {u = u} {w = w} {z = z} lw tw lz tz (wrapped a f) (wrapped b g) = om
 pub next-onto : (nb : ℕ → Bool) (n w : ℕ) → w < n → nb w ≡ true → (u : ℕ) × (u < n) × (nb u ≡ true) × Next nb n u w
 next-onto nb n w l t = go (last-passing nb w) (last-passing nb n)
   where
-    go : ((u : ℕ) × (u < w) × (nb u ≡ true) × ((x : ℕ) → x < w → nb x ≡ true → x ≤ u)) ⊎ ((x : ℕ) → x < w → nb x ≡ true → ⊥)
-        → ((u : ℕ) × (u < n) × (nb u ≡ true) × ((x : ℕ) → x < n → nb x ≡ true → x ≤ u)) ⊎ ((x : ℕ) → x < n → nb x ≡ true → ⊥)
+    go : ((u : ℕ) × (u < w) × (nb u ≡ true) × ((x : ℕ) → x < w → nb x ≡ true → x ≤ u))
+        ⊎ ((x : ℕ) → x < w → nb x ≡ true → ⊥)
+        → ((u : ℕ) × (u < n) × (nb u ≡ true) × ((x : ℕ) → x < n → nb x ≡ true → x ≤ u))
+        ⊎ ((x : ℕ) → x < n → nb x ≡ true → ⊥)
         → (u : ℕ) × (u < n) × (nb u ≡ true) × Next nb n u w
-    go (inl (u, b, s, h)) r = (u, omega arith, s, greater b (λ (x : ℕ) (k : x < n) (q : nb x ≡ true) (j : u < x). from x q j (decLt x w)))
+    go (inl (u, b, s, h)) r = (
+      u,
+      omega arith,
+      s,
+      greater b (λ (x : ℕ) (k : x < n) (q : nb x ≡ true) (j : u < x). from x q j (decLt x w)),
+    )
       where
         from : (x : ℕ) → nb x ≡ true → u < x → Dec (x < w) → w ≤ x
         from x q j (yes i) = absurd (omega (arith, h x i q))
@@ -132,20 +149,24 @@ after-next n parent v u small l t = go (either (eqb g ABSENT)) (passing n above)
         under x k s (yes j) = absurd (omega (arith, passing-least n above x k (is-above x s j)))
         under x k s (no j) = omega arith
 
-    go : (eqb g ABSENT ≡ true) ⊎ (eqb g ABSENT ≡ false) → (g ≡ ABSENT) ⊎ ((g < n) × (above g ≡ true)) → Found (cond (eqb g ABSENT) low g)
+    go : (eqb g ABSENT ≡ true) ⊎ (eqb g ABSENT ≡ false) → (g ≡ ABSENT) ⊎ ((g < n) × (above g ≡ true)) →
+        Found (cond (eqb g ABSENT) low g)
     go (inl e) r = rw e (none (eqb-true g ABSENT e))
     go (inr e) (inl r) = absurd (eqb-false g ABSENT e r)
     go (inr e) (inr (b, s)) =
         rw e (
           b,
           and-left (nb g) (ltb u g) s,
-          greater (ltb-true u g (and-right (nb g) (ltb u g) s)) (λ (x : ℕ) (k : x < n) (q : nb x ≡ true) (j : u < x). passing-least n above x k (is-above x q j)),
+          greater (ltb-true u g (and-right (nb g) (ltb u g) s))
+              (λ (x : ℕ) (k : x < n) (q : nb x ≡ true) (j : u < x). passing-least n above x k (is-above x q j)),
         )
 
 -- so it is any that is next
-pub after-is : (n : ℕ) (parent : List ℕ) (v u w : ℕ) → n ≤ ABSENT → u < n → treeNeighbor parent v u ≡ true → w < n → treeNeighbor parent v w ≡ true
+pub after-is : (n : ℕ) (parent : List ℕ) (v u w : ℕ) → n ≤ ABSENT → u < n → treeNeighbor parent v u ≡ true → w < n →
+    treeNeighbor parent v w ≡ true
     → Next (treeNeighbor parent v) n u w → neighborAfter n parent v u ≡ w
-after-is n parent v u w small l t k s h = let r = after-next n parent v u small l t in next-unique (r .0) (r .1) k s (r .2) h
+after-is n parent v u w small l t k s h = let r =
+    after-next n parent v u small l t in next-unique (r .0) (r .1) k s (r .2) h
 
 -- ---- the order cut open
 
@@ -162,7 +183,8 @@ unfolding turned
 turned-high n pivot w l = rw (le-ltb w pivot l) (omega arith)
 
 -- a number is below the pivot or not
-pub turned-cases : {G : Type 0} (n pivot w : ℕ) → (w < pivot → turned n pivot w ≡ w + n → G) → (pivot ≤ w → turned n pivot w ≡ w → G) → G
+pub turned-cases : {G : Type 0} (n pivot w : ℕ) → (w < pivot → turned n pivot w ≡ w + n → G) →
+    (pivot ≤ w → turned n pivot w ≡ w → G) → G
 turned-cases {G} n pivot w f g = go (decLt w pivot)
   where
     go : Dec (w < pivot) → G
@@ -199,11 +221,17 @@ module _ {nb : ℕ → Bool} {n u w : ℕ} (lw : w < n) (tw : nb w ≡ true) whe
       turned-cases n (suc q) u
       (λ k ku.
       let b = f q lq tq (omega arith) in
-      let kw = turned-low n (suc q) w (omega arith) in
-      (omega arith, λ x l t j. turned-cases n (suc q) x (λ i e. omega (arith, f x l t (omega arith))) (λ i e. omega arith)))
+      let kw = turned-low n (suc q) w (omega arith) in (
+        omega arith,
+        λ x l t j. turned-cases n (suc q) x (λ i e. omega (arith, f x l t (omega arith)))
+            (λ i e. omega arith),
+      ))
       (λ k ku.
-      let kw = turned-high n (suc q) w (omega arith) in
-      (omega arith, λ x l t j. turned-cases n (suc q) x (λ i e. omega arith) (λ i e. omega (arith, f x l t (omega arith)))))
+      let kw = turned-high n (suc q) w (omega arith) in (
+        omega arith,
+        λ x l t j. turned-cases n (suc q) x (λ i e. omega arith)
+            (λ i e. omega (arith, f x l t (omega arith))),
+      ))
   turned-next q lq tq d lu (wrapped a f) =
       let b = a q lq tq in
       let c = f q lq tq in

@@ -38,10 +38,12 @@ module _ (n m : ℕ) (ends : List ℕ) where
       below i h =
           let t = take (2 * m) ends in
           let in-t : i < length t = rw (length-take (2 * m) ends) (omega (arith, h, fits)) in
-          rw (getD-take (2 * m) ends i 0 h) at (ltb-true (getD t i 0) n (every-at (λ (x : ℕ). ltb x n) t i 0 (and-right (leb m maxLinks) _ e) in-t))
+          rw (getD-take (2 * m) ends i 0 h) at
+          (ltb-true (getD t i 0) n (every-at (λ (x : ℕ). ltb x n) t i 0 (and-right (leb m maxLinks) _ e) in-t))
 
   -- it holds where every end exists
-  pub within-fit : m ≤ maxLinks → ((i : ℕ) → i < length (take (2 * m) ends) → getD (take (2 * m) ends) i 0 < n) → linksFit n m ends ≡ true
+  pub within-fit : m ≤ maxLinks → ((i : ℕ) → i < length (take (2 * m) ends) → getD (take (2 * m) ends) i 0 < n) →
+      linksFit n m ends ≡ true
   unfolding linksFit
   within-fit few h =
       and-true (leb m maxLinks) _ (le-leb m maxLinks few)

@@ -1,4 +1,5 @@
--- Stage 10, labels; and what a finished survey says of its links and units: lone (a bridge), single point (an articulation point).
+-- Stage 10, labels; and what a finished survey says of its links and units: lone (a bridge), single point (an
+-- articulation point).
 use mathlib.Core.Bool.{Bool, not, _&&_, _||_, cond}
 use mathlib.Core.List.{List}
 use Prim.Native.Nat.{ℕ, min}
@@ -8,8 +9,8 @@ use Rattle.base_lists.specs.Folds.{least, count, some}
 use Rattle.table.specs.Table.{endA, endB}
 use Rattle.spec_rules.specs.Basics.{ABSENT, at}
 
--- the unit that names a link (a, b): of a tree link its lower unit, of a link off the tree its end with the greater place (case 1);
--- where each end is the other's parent, the lesser
+-- the unit that names a link (a, b): of a tree link its lower unit, of a link off the tree its end with the greater
+-- place (case 1); where each end is the other's parent, the lesser
 unfoldable pub namingUnit : List ℕ → List ℕ → ℕ → ℕ → ℕ
 namingUnit parent pre a b =
     cond (eqb (at parent a) b && eqb (at parent b) a) (min a b)

@@ -18,7 +18,8 @@ abbrev movesBigBy : ℕ → List ℕ → List ℕ → ℕ → Bool
 movesBigBy period little big v = ltb (at little v) (at big v) && oddBy period (at big v)
 
 abbrev pub littleBy : ℕ → ℕ → List ℕ → List ℕ → ℕ → ℕ
-littleBy span period little big v = cond (movesLittleBy period little big v) (bounded (at little v + span)) (at little v)
+littleBy span period little big v = cond (movesLittleBy period little big v) (bounded (at little v + span))
+    (at little v)
 
 abbrev pub bigBy : ℕ → ℕ → List ℕ → List ℕ → ℕ → ℕ
 bigBy span period little big v = cond (movesBigBy period little big v) (at big v - span) (at big v)
@@ -27,7 +28,8 @@ abbrev pub segmentBeforeBy : ℕ → ℕ → List ℕ → ℕ → ℕ
 segmentBeforeBy span n global q = cond (leb span q) (segment n global (q - span)) 0
 
 abbrev withLittleBy : (ℕ → ℕ → ℕ) → ℕ → ℕ → List ℕ → List ℕ → List ℕ → ℕ → ℕ → ℕ
-withLittleBy op period n global little big v x = cond (movesLittleBy period little big v) (op x (segment n global (at little v))) x
+withLittleBy op period n global little big v x =
+    cond (movesLittleBy period little big v) (op x (segment n global (at little v))) x
 
 abbrev withBigBy : (ℕ → ℕ → ℕ) → ℕ → ℕ → ℕ → List ℕ → List ℕ → List ℕ → ℕ → ℕ → ℕ
 withBigBy op span period n global little big v x =
@@ -42,7 +44,8 @@ globalBy op span period n global q =
     cond (not (oddBy period q) && ltb (q + span) n) (op (at global q) (at global (q + span))) (at global q)
 
 module _ (i span period : ℕ) (length : span ≡ 2 ^ i) (twice : period ≡ 2 ^ suc i) where
-  pub little-later : (n : ℕ) (big little : List ℕ) → over n (littleBy span period little big) little ≡ littleLater i n big little
+  pub little-later : (n : ℕ) (big little : List ℕ) →
+      over n (littleBy span period little big) little ≡ littleLater i n big little
   unfolding littleLater
   little-later n big little = rw (length, twice)
 
@@ -55,6 +58,7 @@ module _ (i span period : ℕ) (length : span ≡ 2 ^ i) (twice : period ≡ 2 ^
   unfolding rangeLater withLittle withBig
   range-later op n global little big range = rw (length, twice)
 
-  pub global-later : (op : ℕ → ℕ → ℕ) (n : ℕ) (global : List ℕ) → over n (globalBy op span period n global) global ≡ globalLater op i n global
+  pub global-later : (op : ℕ → ℕ → ℕ) (n : ℕ) (global : List ℕ) →
+      over n (globalBy op span period n global) global ≡ globalLater op i n global
   unfolding globalLater
   global-later op n global = rw (length, twice)

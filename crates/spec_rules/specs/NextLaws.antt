@@ -17,7 +17,8 @@ use Rattle.base_lists.specs.All.{every-at}
 use Rattle.table.specs.Table.{maxUnits}
 use Rattle.spec_rules.specs.Basics.{ABSENT, at}
 use Rattle.spec_rules.specs.Bounds.{nameOk}
-use Rattle.spec_rules.specs.Tour.{isInto, arcUnit, treeNeighbor, leastNeighbor, greaterNeighbor, neighborAfter, arcFrom, arcAfter, follower, nextRound}
+use Rattle.spec_rules.specs.Tour.{isInto, arcUnit, treeNeighbor, leastNeighbor, greaterNeighbor, neighborAfter}
+use Rattle.spec_rules.specs.Tour.{arcFrom, arcAfter, follower, nextRound}
 use Rattle.spec_rules.specs.TourLaws.{storedNext, nextStored}
 
 module _ (n : ℕ) (parent : List ℕ) (small : n ≤ maxUnits) (ok : every (nameOk n) parent ≡ true) where
@@ -46,7 +47,8 @@ module _ (n : ℕ) (parent : List ℕ) (small : n ≤ maxUnits) (ok : every (nam
       let q : cond (treeNeighbor parent v u) u ABSENT ≡ u = rw e in
       omega (arith, l, q)
 
-  after-go : (v u : ℕ) → leastNeighbor n parent v < n → (greaterNeighbor n parent v u < n) ⊎ (greaterNeighbor n parent v u ≡ ABSENT)
+  after-go : (v u : ℕ) → leastNeighbor n parent v < n →
+      (greaterNeighbor n parent v u < n) ⊎ (greaterNeighbor n parent v u ≡ ABSENT)
       → neighborAfter n parent v u < n
   unfolding neighborAfter
   after-go v u l (inl g) = rw (ne-eqb (greaterNeighbor n parent v u) ABSENT (λ q. omega (arith, q))) g
@@ -64,7 +66,8 @@ module _ (n : ℕ) (parent : List ℕ) (small : n ≤ maxUnits) (ok : every (nam
   from-small : (v w : ℕ) → v < n → w < n → arcFrom parent v w ≤ ABSENT
   from-small v w hv hw = go (either (eqb (at parent w) v))
     where
-      go : (eqb (at parent w) v ≡ true) ⊎ (eqb (at parent w) v ≡ false) → cond (eqb (at parent w) v) (2 * w) (2 * v + 1) ≤ ABSENT
+      go : (eqb (at parent w) v ≡ true) ⊎ (eqb (at parent w) v ≡ false) →
+          cond (eqb (at parent w) v) (2 * w) (2 * v + 1) ≤ ABSENT
       go (inl e) = rw e (omega arith)
       go (inr e) = rw e (omega arith)
 
@@ -78,7 +81,8 @@ module _ (n : ℕ) (parent : List ℕ) (small : n ≤ maxUnits) (ok : every (nam
   down : (v p : ℕ) → at parent v ≡ p → treeNeighbor parent p v ≡ true
   down v p e = rw (eq-eqb (at parent v) p e)
 
-  arc-small : (b : Bool) (v p : ℕ) → v < n → p < n → at parent v ≡ p → cond b (arcAfter n parent p v) (arcAfter n parent v p) ≤ ABSENT
+  arc-small : (b : Bool) (v p : ℕ) → v < n → p < n → at parent v ≡ p →
+      cond b (arcAfter n parent p v) (arcAfter n parent v p) ≤ ABSENT
   arc-small true v p hv hp e = after-small p v hp hv (up v p e)
   arc-small false v p hv hp e = after-small v p hv hp (down v p e)
 

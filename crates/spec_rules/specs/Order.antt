@@ -1,4 +1,5 @@
--- Stage 5, marks: forward arcs and descendants from the first ranking. Stage 6's last round: the place of each unit (its preorder number).
+-- Stage 5, marks: forward arcs and descendants from the first ranking. Stage 6's last round: the place of each unit
+-- (its preorder number).
 use mathlib.Core.Bool.{not, _&&_, cond}
 use mathlib.Core.List.{List}
 use Prim.Native.Nat.{ℕ, _+_, _*_, _-_, _/_}
@@ -19,7 +20,8 @@ forwardMark parent rank a = cond (isArc parent a && ltb (at rank a) (at rank (re
 unfoldable pub forwardRound : ℕ → List ℕ → List ℕ → List ℕ → List ℕ
 forwardRound n parent rank forward = over (2 * n) (forwardMark parent rank) forward
 
--- the descendants of v, v included: half of (rank of the link back − rank of the link in + 1); for a root its component's size
+-- the descendants of v, v included: half of (rank of the link back − rank of the link in + 1); for a root its
+-- component's size
 unfoldable pub descendants : ℕ → List ℕ → List ℕ → List ℕ → ℕ → ℕ
 descendants n color parent rank v =
     cond (isRoot parent v) (count n (λ (w : ℕ). eqb (at color w) (at color v)))

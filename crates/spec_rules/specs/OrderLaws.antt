@@ -1,4 +1,5 @@
--- Stages 5 and 6 as code makes them: a component's size and the units in components of smaller color come from buckets of colors.
+-- Stages 5 and 6 as code makes them: a component's size and the units in components of smaller color come from buckets
+-- of colors.
 use mathlib.Core.Path.{_≡_}
 use mathlib.Core.Bool.{true, false, cond}
 use mathlib.Core.List.{List}
@@ -21,14 +22,16 @@ module _ (n : ℕ) (color bucket : List ℕ) (absent : ℕ) where
   placeBy parent sum v =
       bounded (cond (isRoot parent v) 0 (at sum (2 * v)) + lookup (countOf true n color) bucket absent (at color v))
 
-  pub nd-round : ((q : ℕ) → q < BUCKETS → getD bucket q 0 ≡ countOf false n color q) → absent ≡ countOf false n color ABSENT
+  pub nd-round : ((q : ℕ) → q < BUCKETS → getD bucket q 0 ≡ countOf false n color q) →
+      absent ≡ countOf false n color ABSENT
       → (parent rank nd : List ℕ) → over n (descendantsBy parent rank) nd ≡ ndRound n color parent rank nd
   unfolding ndRound descendants countOf
   nd-round known lost parent rank nd =
       over-cong n (descendantsBy parent rank) (descendants n color parent rank) nd
       (λ (v : ℕ) (l : v < n). rw (lookup-right (countOf false n color) bucket absent known lost (at color v)))
 
-  pub pre-round : ((q : ℕ) → q < BUCKETS → getD bucket q 0 ≡ countOf true n color q) → absent ≡ countOf true n color ABSENT
+  pub pre-round : ((q : ℕ) → q < BUCKETS → getD bucket q 0 ≡ countOf true n color q) →
+      absent ≡ countOf true n color ABSENT
       → (parent sum pre : List ℕ) → over n (placeBy parent sum) pre ≡ preRound n color parent sum pre
   unfolding preRound placeOf countOf
   pre-round known lost parent sum pre =

@@ -1,5 +1,5 @@
--- What stage 2 uses of the choice of a parent: it is a neighbour visited in the round before, and absent only where there is none. Which of these
--- neighbours it is no law of the stages after it asks; BestParent.antt says it.
+-- What stage 2 uses of the choice of a parent: it is a neighbour visited in the round before, and absent only where
+-- there is none. Which of these neighbours it is no law of the stages after it asks; BestParent.antt says it.
 use mathlib.Core.Path.{_≡_, refl, sym, ap, _∙_}
 use mathlib.Core.Bool.{Bool, true, false, cond, not, _&&_, false≢true}
 use mathlib.Core.Logic.{_⊎_, inl, inr, _≢_}
@@ -12,10 +12,12 @@ use lib.IntN.{ℤ, pos, negsuc}
 use lib.Signed.{ltZ, leZ}
 use borrow.Author.Tests.{eqb-true, eq-eqb, ne-eqb, ltb-true, ltb-false, leb-true, le-leb}
 use Rattle.base_lists.specs.Below.{below-suc}
-use Rattle.base_lists.specs.Tests.{either, and-left, and-right, and-true, or-cases, or-false-left, or-false-right, not-both}
+use Rattle.base_lists.specs.Tests.{either, and-left, and-right, and-true, or-cases, or-false-left, or-false-right}
+use Rattle.base_lists.specs.Tests.{not-both}
 use Rattle.table.specs.Table.{endA, endB}
 use Rattle.spec_rules.specs.Basics.{ABSENT, at}
-use Rattle.spec_rules.specs.Tree.{visitedBefore, levelAt, better, Neighbor, prefer, overLink, bestNeighbor, chosenParent, visits}
+use Rattle.spec_rules.specs.Tree.{visitedBefore, levelAt, better, Neighbor, prefer, overLink, bestNeighbor}
+use Rattle.spec_rules.specs.Tree.{chosenParent, visits}
 
 -- link j joins v and w
 abbrev pub Joins : List ℕ → ℕ → ℕ → ℕ → Type 0
@@ -96,7 +98,8 @@ not-better z w y u e = (ltZ-not y z (or-false-left (ltZ y z) (leZ y z && ltb w u
   where
     least : z ≡ y → (ltb w u ≡ true) ⊎ (ltb w u ≡ false) → u ≤ w
     least q (inl h) =
-        absurd (not-both (leZ y z && ltb w u) (and-true (leZ y z) (ltb w u) (rw q (leZ-refl y)) h) (or-false-right (ltZ y z) (leZ y z && ltb w u) e))
+        absurd (not-both (leZ y z && ltb w u) (and-true (leZ y z) (ltb w u) (rw q (leZ-refl y)) h)
+        (or-false-right (ltZ y z) (leZ y z && ltb w u) e))
     least q (inr h) = ltb-false w u h
 
 -- ---- what a link gives
@@ -107,17 +110,21 @@ pub data Given (passes : ℕ → Bool) (z : ℤ) (a b v : ℕ) (best new : Neigh
   first : b ≡ v → passes a ≡ true → new ≡ prefer best z a → Given passes z a b v best new
   none : new ≡ best → (a ≡ v → passes b ≡ true → ⊥) → (b ≡ v → passes a ≡ true → ⊥) → Given passes z a b v best new
 
-pub given : (passes : ℕ → Bool) (z : ℤ) (a b v : ℕ) (best : Neighbor) → Given passes z a b v best (overLink passes z a b v best)
+pub given : (passes : ℕ → Bool) (z : ℤ) (a b v : ℕ) (best : Neighbor) →
+    Given passes z a b v best (overLink passes z a b v best)
 given passes z a b v best = go (either (eqb a v && passes b)) (either (eqb b v && passes a))
   where
     -- a test that fails says that its two parts do not both hold
     fails : (x y : ℕ) → (eqb x v && passes y) ≡ false → x ≡ v → passes y ≡ true → ⊥
     fails x y e f g = not-both (eqb x v && passes y) (and-true (eqb x v) (passes y) (eq-eqb x v f) g) e
 
-    go : ((eqb a v && passes b) ≡ true) ⊎ ((eqb a v && passes b) ≡ false) → ((eqb b v && passes a) ≡ true) ⊎ ((eqb b v && passes a) ≡ false)
+    go : ((eqb a v && passes b) ≡ true) ⊎ ((eqb a v && passes b) ≡ false) →
+        ((eqb b v && passes a) ≡ true) ⊎ ((eqb b v && passes a) ≡ false)
         → Given passes z a b v best (overLink passes z a b v best)
-    go (inl p) q = second (eqb-true a v (and-left (eqb a v) (passes b) p)) (and-right (eqb a v) (passes b) p) (rw p refl)
-    go (inr p) (inl q) = first (eqb-true b v (and-left (eqb b v) (passes a) q)) (and-right (eqb b v) (passes a) q) (rw (p, q) refl)
+    go (inl p) q = second (eqb-true a v (and-left (eqb a v) (passes b) p)) (and-right (eqb a v) (passes b) p)
+        (rw p refl)
+    go (inr p) (inl q) = first (eqb-true b v (and-left (eqb b v) (passes a) q)) (and-right (eqb b v) (passes a) q)
+        (rw (p, q) refl)
     go (inr p) (inr q) = none (rw (p, q) refl) (fails a b p) (fails b a q)
 
 -- ---- what all links give
@@ -135,7 +142,8 @@ module _ (passes : ℕ → Bool) (ends : List ℕ) (levels : List ℤ) (v : ℕ)
 
   -- one link more: what it offers is w alone, which is taken where it is better
   more-taken : (m : ℕ) (best : Neighbor) (w : ℕ) → Joins ends m v w → passes w ≡ true → w < ABSENT
-      → ((x : ℕ) → Joins ends m v x → passes x ≡ true → x ≡ w) → Found m best → Found (suc m) (prefer best (levelAt levels m) w)
+      → ((x : ℕ) → Joins ends m v x → passes x ≡ true → x ≡ w) → Found m best →
+      Found (suc m) (prefer best (levelAt levels m) w)
   unfolding prefer
   more-taken m best w h g s alone (lacking e f) =
       rw (eq-eqb (best .unit) ABSENT e)
@@ -144,35 +152,46 @@ module _ (passes : ℕ → Bool) (ends : List ℕ) (levels : List ℤ) (v : ℕ)
       below-suc (λ (k : ℕ). Joins ends k v x → passes x ≡ true → Behind (levelAt levels k) x (levelAt levels m) w) m
       (λ k l j p. absurd (f k x (l, j, p)))
       (λ j p. rw (alone x j p) (behind-refl (levelAt levels m) w)) i (o .0) (o .1) (o .2)))
-  more-taken m best w h g s alone (by j o l e low) = rw (ne-eqb (best .unit) ABSENT (λ q. omega (arith, q, l))) (go (either (better (levelAt levels m) w (best .level) (best .unit))))
+  more-taken m best w h g s alone (by j o l e low) =
+      rw (ne-eqb (best .unit) ABSENT (λ q. omega (arith, q, l)))
+      (go (either (better (levelAt levels m) w (best .level) (best .unit))))
     where
-      go : (better (levelAt levels m) w (best .level) (best .unit) ≡ true) ⊎ (better (levelAt levels m) w (best .level) (best .unit) ≡ false)
-          → Found (suc m) (cond (better (levelAt levels m) w (best .level) (best .unit)) (record { level = levelAt levels m; unit = w }) best)
+      go : (better (levelAt levels m) w (best .level) (best .unit) ≡ true)
+          ⊎ (better (levelAt levels m) w (best .level) (best .unit) ≡ false)
+          → Found (suc m) (cond (better (levelAt levels m) w (best .level) (best .unit))
+          (record { level = levelAt levels m; unit = w }) best)
       go (inl t) = rw t
           (by m (le-refl (suc m), h, g) s refl
           (λ i x k.
           below-suc (λ (n : ℕ). Joins ends n v x → passes x ≡ true → Behind (levelAt levels n) x (levelAt levels m) w) m
-          (λ n l j p. behind-trans (levelAt levels n) (best .level) (levelAt levels m) x (best .unit) w (low n x (l, j, p)) (better-behind (levelAt levels m) w (best .level) (best .unit) t))
+          (λ n l j p. behind-trans (levelAt levels n) (best .level) (levelAt levels m) x (best .unit) w
+          (low n x (l, j, p)) (better-behind (levelAt levels m) w (best .level) (best .unit) t))
           (λ j p. rw (alone x j p) (behind-refl (levelAt levels m) w)) i (k .0) (k .1) (k .2)))
       go (inr t) = rw t
           (by j (le-step (o .0), o .1, o .2) l e
           (λ i x k.
-          below-suc (λ (n : ℕ). Joins ends n v x → passes x ≡ true → Behind (levelAt levels n) x (best .level) (best .unit)) m
+          below-suc (λ (n : ℕ). Joins ends n v x → passes x ≡ true →
+          Behind (levelAt levels n) x (best .level) (best .unit)) m
           (λ n l j p. low n x (l, j, p))
-          (λ j p. rw (alone x j p) (not-better (levelAt levels m) w (best .level) (best .unit) t)) i (k .0) (k .1) (k .2)))
+          (λ j p. rw (alone x j p) (not-better (levelAt levels m) w (best .level) (best .unit) t)) i (k .0) (k .1)
+          (k .2)))
 
   -- one that offers none
-  more-none : (m : ℕ) (best : Neighbor) → ((x : ℕ) → Joins ends m v x → passes x ≡ true → ⊥) → Found m best → Found (suc m) best
+  more-none : (m : ℕ) (best : Neighbor) → ((x : ℕ) → Joins ends m v x → passes x ≡ true → ⊥) → Found m best →
+      Found (suc m) best
   more-none m best without (lacking e f) =
       lacking e
-      (λ i x o. below-suc (λ (k : ℕ). Joins ends k v x → passes x ≡ true → ⊥) m (λ k l j p. f k x (l, j, p)) (without x) i (o .0) (o .1) (o .2))
+      (λ i x o. below-suc (λ (k : ℕ). Joins ends k v x → passes x ≡ true →
+      ⊥) m (λ k l j p. f k x (l, j, p)) (without x) i (o .0) (o .1) (o .2))
   more-none m best without (by j o l e low) =
       by j (le-step (o .0), o .1, o .2) l e
       (λ i x k.
-      below-suc (λ (n : ℕ). Joins ends n v x → passes x ≡ true → Behind (levelAt levels n) x (best .level) (best .unit)) m
+      below-suc (λ (n : ℕ). Joins ends n v x → passes x ≡ true →
+      Behind (levelAt levels n) x (best .level) (best .unit)) m
       (λ n l j p. low n x (l, j, p)) (λ j p. absurd (without x j p)) i (k .0) (k .1) (k .2))
 
-  more : (m : ℕ) (best new : Neighbor) → endA ends m < ABSENT → endB ends m < ABSENT → Given passes (levelAt levels m) (endA ends m) (endB ends m) v best new
+  more : (m : ℕ) (best new : Neighbor) → endA ends m < ABSENT → endB ends m < ABSENT →
+      Given passes (levelAt levels m) (endA ends m) (endB ends m) v best new
       → Found m best → Found (suc m) new
   more m best new sa sb (second e p q) f = rw q (more-taken m best (endB ends m) (inl (e, refl)) p sb alone f)
     where
@@ -190,7 +209,8 @@ module _ (passes : ℕ → Bool) (ends : List ℕ) (levels : List ℤ) (v : ℕ)
       without x (inl h) g = p (h .0) (rw (h .1) g)
       without x (inr h) g = q (h .1) (rw (h .0) g)
 
-  pub found : (m : ℕ) → ((j : ℕ) → j < m → endA ends j < ABSENT) → ((j : ℕ) → j < m → endB ends j < ABSENT) → Found m (bestNeighbor passes m ends levels v)
+  pub found : (m : ℕ) → ((j : ℕ) → j < m → endA ends j < ABSENT) → ((j : ℕ) → j < m → endB ends j < ABSENT) →
+      Found m (bestNeighbor passes m ends levels v)
   unfolding bestNeighbor
   found zero sa sb = lacking refl (λ i x o. not-suc-le-zero (o .0))
   found (suc m) sa sb =
@@ -199,19 +219,29 @@ module _ (passes : ℕ → Bool) (ends : List ℕ) (levels : List ℤ) (v : ℕ)
       (found m (λ j l. sa j (le-step l)) (λ j l. sb j (le-step l)))
 
   -- of those that pass the same tests the same is the best
-  pub best-cong : (other : ℕ → Bool) (m : ℕ) → ((j : ℕ) → j < m → (passes (endA ends j) ≡ other (endA ends j)) × (passes (endB ends j) ≡ other (endB ends j)))
+  pub best-cong : (other : ℕ → Bool) (m : ℕ) →
+      ((j : ℕ) → j < m → (passes (endA ends j) ≡ other (endA ends j)) × (passes (endB ends j) ≡ other (endB ends j)))
       → bestNeighbor passes m ends levels v ≡ bestNeighbor other m ends levels v
   unfolding bestNeighbor
   best-cong other zero h = refl
-  best-cong other (suc m) h = rw (h m (le-refl (suc m)) .0, h m (le-refl (suc m)) .1, best-cong other m (λ j l. h j (le-step l))) refl
+  best-cong other (suc m) h = rw (
+    h m (le-refl (suc m)) .0,
+    h m (le-refl (suc m)) .1,
+    best-cong other m (λ j l. h j (le-step l)),
+  ) refl
 
 -- and over the same ends
 pub best-ends : (passes : ℕ → Bool) (m : ℕ) (ends other : List ℕ) (levels : List ℤ) (v : ℕ)
-    → ((j : ℕ) → j < m → (endA ends j ≡ endA other j) × (endB ends j ≡ endB other j)) → bestNeighbor passes m ends levels v ≡ bestNeighbor passes m other levels v
+    → ((j : ℕ) → j < m → (endA ends j ≡ endA other j) × (endB ends j ≡ endB other j)) →
+    bestNeighbor passes m ends levels v ≡ bestNeighbor passes m other levels v
 unfolding bestNeighbor
 best-ends passes zero ends other levels v h = refl
 best-ends passes (suc m) ends other levels v h =
-    rw (h m (le-refl (suc m)) .0, h m (le-refl (suc m)) .1, best-ends passes m ends other levels v (λ j l. h j (le-step l))) refl
+    rw (
+      h m (le-refl (suc m)) .0,
+      h m (le-refl (suc m)) .1,
+      best-ends passes m ends other levels v (λ j l. h j (le-step l)),
+    ) refl
 
 -- ---- the parent
 
@@ -219,14 +249,17 @@ module _ (m made : ℕ) (ends : List ℕ) (levels : List ℤ) (dist : List ℕ)
     (smallA : (j : ℕ) → j < m → endA ends j < ABSENT) (smallB : (j : ℕ) → j < m → endB ends j < ABSENT) (v : ℕ) where
   pub chosen : Choice m made ends dist v (chosenParent m made ends levels dist v)
   unfolding chosenParent
-  chosen = go (bestNeighbor (visitedBefore made dist) m ends levels v) (found (visitedBefore made dist) ends levels v m smallA smallB)
+  chosen = go (bestNeighbor (visitedBefore made dist) m ends levels v)
+      (found (visitedBefore made dist) ends levels v m smallA smallB)
     where
-      go : (best : Neighbor) → Found (visitedBefore made dist) ends levels v m best → Choice m made ends dist v (best .unit)
+      go : (best : Neighbor) → Found (visitedBefore made dist) ends levels v m best →
+          Choice m made ends dist v (best .unit)
       go best (by j o s e low) = nearer s j (o .0) (o .1) (eqb-true (at dist (best .unit)) (made - 1) (o .2))
       go best (lacking e f) = nobody e (λ j w l h g. f j w (l, h, eq-eqb (at dist w) (made - 1) g))
 
 -- later rounds visit the unvisited units for which there is a choice
 pub visits-later : (m made : ℕ) (ends : List ℕ) (levels : List ℤ) (color dist : List ℕ) (v : ℕ) → 1 ≤ made
-    → visits m made ends levels color dist v ≡ (eqb (at dist v) ABSENT && not (eqb (chosenParent m made ends levels dist v) ABSENT))
+    → visits m made ends levels color dist v
+    ≡ (eqb (at dist v) ABSENT && not (eqb (chosenParent m made ends levels dist v) ABSENT))
 unfolding visits
 visits-later m made ends levels color dist v h = rw (ne-eqb made 0 (λ e. omega arith)) refl

@@ -1,4 +1,5 @@
--- Document 02, T-02, on a site of four units: unit 3 has the neighbours 1 and 2, both visited in the round before, over links 0 (3 and 2) and 1 (1 and 3).
+-- Document 02, T-02, on a site of four units: unit 3 has the neighbours 1 and 2, both visited in the round before, over
+-- links 0 (3 and 2) and 1 (1 and 3).
 use mathlib.Core.Path.{_≡_, refl}
 use mathlib.Core.List.{List, [], _∷_}
 use Prim.Native.Nat.{ℕ}

@@ -1,4 +1,5 @@
--- A tree drawn by the planner (document 02, T-05): a table of parents, what stage 2's one round makes of it, and what 18 looks for.
+-- A tree drawn by the planner (document 02, T-05): a table of parents, what stage 2's one round makes of it, and what
+-- 18 looks for.
 use mathlib.Core.Bool.{Bool, not, _&&_, _||_, cond}
 use mathlib.Core.List.{List}
 use Prim.Native.Nat.{ℕ, zero, suc, _+_}
@@ -14,7 +15,8 @@ use Rattle.spec_rules.specs.Basics.{ABSENT, at}
 abbrev pub onward : ℕ → ℕ
 onward x = cond (eqb x ABSENT) ABSENT (x + 1)
 
--- the steps along the plan from v up to c, among the first k units of the chain; absent where it ends or goes on without c
+-- the steps along the plan from v up to c, among the first k units of the chain; absent where it ends or goes on
+-- without c
 abbrev pub stepsTo : List ℕ → ℕ → ℕ → ℕ → ℕ
 stepsTo plan c zero v = ABSENT
 stepsTo plan c (suc k) v =

@@ -1,4 +1,5 @@
--- Stage 7, least and greatest (low and high) over all descendants, by segments whose length doubles. One text serves both: `op` is min or max.
+-- Stage 7, least and greatest (low and high) over all descendants, by segments whose length doubles. One text serves
+-- both: `op` is min or max.
 use mathlib.Core.Bool.{Bool, not, _&&_, cond}
 use mathlib.Core.List.{List}
 use Prim.Native.Nat.{ℕ, suc, _+_, _-_, _%_, _^_}
@@ -42,7 +43,8 @@ globalFirst op n m ends parent pre global = over n (localAt op n m ends parent p
 -- a unit begins with the local values of its last descendant's place, 0 where that is no place
 abbrev pub rangeBegin : (ℕ → ℕ → ℕ) → ℕ → ℕ → List ℕ → List ℕ → List ℕ → List ℕ → ℕ → ℕ
 rangeBegin op n m ends parent nd pre v =
-    cond (leb 1 (endPlace nd pre v) && leb (endPlace nd pre v) n) (localAt op n m ends parent pre (endPlace nd pre v - 1)) 0
+    cond (leb 1 (endPlace nd pre v) && leb (endPlace nd pre v) n)
+    (localAt op n m ends parent pre (endPlace nd pre v - 1)) 0
 
 unfoldable pub rangeFirst : (ℕ → ℕ → ℕ) → ℕ → ℕ → List ℕ → List ℕ → List ℕ → List ℕ → List ℕ → List ℕ
 rangeFirst op n m ends parent nd pre range = over n (rangeBegin op n m ends parent nd pre) range
@@ -100,7 +102,8 @@ bigLater i n little big = over n (λ (v : ℕ). cond (movesBig i little big v) (
 -- the segment at each multiple of 2 ^ (i + 1) takes in the one 2 ^ i places on, if that place exists
 unfoldable pub globalLater : (ℕ → ℕ → ℕ) → ℕ → ℕ → List ℕ → List ℕ
 globalLater op i n global =
-    over n (λ (q : ℕ). cond (not (odd i q) && ltb (q + 2 ^ i) n) (op (at global q) (at global (q + 2 ^ i))) (at global q)) global
+    over n (λ (q : ℕ). cond (not (odd i q) && ltb (q + 2 ^ i) n) (op (at global q) (at global (q + 2 ^ i)))
+    (at global q)) global
 
 -- all lg(n) rounds are made after the first
 unfoldable pub rangeEnds : ℕ → ℕ → Bool

@@ -13,7 +13,9 @@ use Rattle.base_lists.specs.LeastLaws.{least-le, least-greatest}
 use Rattle.base_lists.specs.Tables.{length-over, getD-over}
 use Rattle.base_lists.specs.Tests.{either, cond-true, cond-false}
 use Rattle.spec_rules.specs.Basics.{ABSENT, MAX-NUMBER, at, bounded}
-use Rattle.spec_rules.specs.Range.{localOf, unitAt, localAt, endPlace, globalFirst, rangeFirst, littleFirst, bigFirst, odd, movesLittle, movesBig, withLittle, withBig, rangeLater, littleLater, bigLater, globalLater}
+use Rattle.spec_rules.specs.Range.{localOf, unitAt, localAt, endPlace, globalFirst, rangeFirst, littleFirst}
+use Rattle.spec_rules.specs.Range.{bigFirst, odd, movesLittle, movesBig, withLittle, withBig, rangeLater}
+use Rattle.spec_rules.specs.Range.{littleLater, bigLater, globalLater}
 
 -- ---- the unit at a place
 
@@ -38,7 +40,8 @@ unit-at n pre few differ v l = omega (arith, above, below)
     other u k (inr e) = let far : said u ≡ ABSENT = cond-false (eqb (at pre u) (at pre v)) u ABSENT e in omega arith
 
     below : v ≤ least n said ABSENT
-    below = least-greatest n said ABSENT v (omega arith) (λ (u : ℕ) (k : u < n). other u k (either (eqb (at pre u) (at pre v))))
+    below = least-greatest n said ABSENT v (omega arith)
+        (λ (u : ℕ) (k : u < n). other u k (either (eqb (at pre u) (at pre v))))
 
 -- so a unit's local value is that of its place
 pub local-at : (op : ℕ → ℕ → ℕ) (n m : ℕ) (ends parent pre : List ℕ) (v : ℕ) → v < ABSENT → unitAt n pre (at pre v) ≡ v
@@ -51,7 +54,8 @@ local-at op n m ends parent pre v l e = rw (e, ne-eqb v ABSENT (omega arith))
 pub global-first : (op : ℕ → ℕ → ℕ) (n m : ℕ) (ends parent pre global : List ℕ) (q : ℕ) → q < n → n ≤ length global
     → at (globalFirst op n m ends parent pre global) q ≡ localAt op n m ends parent pre q
 unfolding globalFirst
-global-first op n m ends parent pre global q l h = getD-over n (localAt op n m ends parent pre) global q 0 l (omega arith)
+global-first op n m ends parent pre global q l h =
+    getD-over n (localAt op n m ends parent pre) global q 0 l (omega arith)
 
 pub range-first : (op : ℕ → ℕ → ℕ) (n m : ℕ) (ends parent nd pre range : List ℕ) (v : ℕ) → v < n → n ≤ length range
     → 1 ≤ at nd v → at pre v + at nd v ≤ n
@@ -61,7 +65,8 @@ range-first op n m ends parent nd pre range v l h a b =
     getD-over n _ range v 0 l (omega arith)
     ∙ rw (le-leb 1 (endPlace nd pre v) (omega arith), le-leb (endPlace nd pre v) n b)
 
-pub little-first : (n : ℕ) (pre little : List ℕ) (v : ℕ) → v < n → n ≤ length little → at (littleFirst n pre little) v ≡ at pre v
+pub little-first : (n : ℕ) (pre little : List ℕ) (v : ℕ) → v < n → n ≤ length little →
+    at (littleFirst n pre little) v ≡ at pre v
 unfolding littleFirst
 little-first n pre little v l h = getD-over n (at pre) little v 0 l (omega arith)
 
@@ -92,16 +97,19 @@ pub big-rests : (i : ℕ) (little big : List ℕ) (v : ℕ) → at little v ≡ 
 big-rests i little big v e = rw (le-ltb (at little v) (at big v) (omega arith))
 
 -- before that each moves where it is odd
-pub little-moves : (i : ℕ) (little big : List ℕ) (v : ℕ) → at little v < at big v → movesLittle i little big v ≡ odd i (at little v)
+pub little-moves : (i : ℕ) (little big : List ℕ) (v : ℕ) → at little v < at big v →
+    movesLittle i little big v ≡ odd i (at little v)
 little-moves i little big v l = rw (lt-ltb (at little v) (at big v) l)
 
-pub big-moves : (i : ℕ) (little big : List ℕ) (v : ℕ) → at little v < at big v → movesBig i little big v ≡ odd i (at big v)
+pub big-moves : (i : ℕ) (little big : List ℕ) (v : ℕ) → at little v < at big v →
+    movesBig i little big v ≡ odd i (at big v)
 big-moves i little big v l = rw (lt-ltb (at little v) (at big v) l)
 
 -- ---- round i: the tables
 
 pub little-entry : (i n : ℕ) (big little : List ℕ) (v : ℕ) → v < n → n ≤ length little
-    → at (littleLater i n big little) v ≡ cond (movesLittle i little big v) (bounded (at little v + 2 ^ i)) (at little v)
+    → at (littleLater i n big little) v ≡ cond (movesLittle i little big v) (bounded (at little v + 2 ^ i))
+    (at little v)
 unfolding littleLater
 little-entry i n big little v l h = getD-over n _ little v 0 l (omega arith)
 
@@ -111,24 +119,28 @@ unfolding bigLater
 big-entry i n little big v l h = getD-over n _ big v 0 l (omega arith)
 
 pub range-entry : (op : ℕ → ℕ → ℕ) (i n : ℕ) (global little big range : List ℕ) (v : ℕ) → v < n → n ≤ length range
-    → at (rangeLater op i n global little big range) v ≡ withBig op i n global little big v (withLittle op i n global little big v (at range v))
+    → at (rangeLater op i n global little big range) v
+    ≡ withBig op i n global little big v (withLittle op i n global little big v (at range v))
 unfolding rangeLater
 range-entry op i n global little big range v l h = getD-over n _ range v 0 l (omega arith)
 
 -- a segment is taken in at little, if that place exists
-pub little-takes : (op : ℕ → ℕ → ℕ) (i n : ℕ) (global little big : List ℕ) (v x : ℕ) → movesLittle i little big v ≡ true → at little v < n
+pub little-takes : (op : ℕ → ℕ → ℕ) (i n : ℕ) (global little big : List ℕ) (v x : ℕ) →
+    movesLittle i little big v ≡ true → at little v < n
     → withLittle op i n global little big v x ≡ op x (at global (at little v))
 unfolding withLittle
 little-takes op i n global little big v x e l = rw (e, lt-ltb (at little v) n l)
 
-pub little-passes : (op : ℕ → ℕ → ℕ) (i n : ℕ) (global little big : List ℕ) (v x : ℕ) → movesLittle i little big v ≡ false
+pub little-passes : (op : ℕ → ℕ → ℕ) (i n : ℕ) (global little big : List ℕ) (v x : ℕ) →
+    movesLittle i little big v ≡ false
     → withLittle op i n global little big v x ≡ x
 unfolding withLittle
 little-passes op i n global little big v x e = rw e
 
 -- and the one that ends before big
 pub big-takes : (op : ℕ → ℕ → ℕ) (i n : ℕ) (global little big : List ℕ) (v x : ℕ) → movesBig i little big v ≡ true
-    → 2 ^ i ≤ at big v → at big v - 2 ^ i < n → withBig op i n global little big v x ≡ op x (at global (at big v - 2 ^ i))
+    → 2 ^ i ≤ at big v → at big v - 2 ^ i < n →
+    withBig op i n global little big v x ≡ op x (at global (at big v - 2 ^ i))
 unfolding withBig
 big-takes op i n global little big v x e h l = rw (e, le-leb (2 ^ i) (at big v) h, lt-ltb (at big v - 2 ^ i) n l)
 
@@ -138,13 +150,15 @@ unfolding withBig
 big-passes op i n global little big v x e = rw e
 
 -- at a multiple of 2 ^ (i + 1): two segments become one, if the second exists
-pub global-doubles : (op : ℕ → ℕ → ℕ) (i n : ℕ) (global : List ℕ) (q : ℕ) → q < n → n ≤ length global → q % 2 ^ suc i ≡ 0 → q + 2 ^ i < n
+pub global-doubles : (op : ℕ → ℕ → ℕ) (i n : ℕ) (global : List ℕ) (q : ℕ) → q < n → n ≤ length global →
+    q % 2 ^ suc i ≡ 0 → q + 2 ^ i < n
     → at (globalLater op i n global) q ≡ op (at global q) (at global (q + 2 ^ i))
 unfolding globalLater
 global-doubles op i n global q l h e k =
     getD-over n _ global q 0 l (omega arith) ∙ rw (remainder-even i q e, lt-ltb (q + 2 ^ i) n k)
 
-pub global-stays : (op : ℕ → ℕ → ℕ) (i n : ℕ) (global : List ℕ) (q : ℕ) → q < n → n ≤ length global → q % 2 ^ suc i ≡ 0 → n ≤ q + 2 ^ i
+pub global-stays : (op : ℕ → ℕ → ℕ) (i n : ℕ) (global : List ℕ) (q : ℕ) → q < n → n ≤ length global →
+    q % 2 ^ suc i ≡ 0 → n ≤ q + 2 ^ i
     → at (globalLater op i n global) q ≡ at global q
 unfolding globalLater
 global-stays op i n global q l h e k =
@@ -170,7 +184,8 @@ pub length-big-first : (n : ℕ) (nd pre big : List ℕ) → length (bigFirst n 
 unfolding bigFirst
 length-big-first n nd pre big = length-over n _ big
 
-pub length-global-later : (op : ℕ → ℕ → ℕ) (i n : ℕ) (global : List ℕ) → length (globalLater op i n global) ≡ length global
+pub length-global-later : (op : ℕ → ℕ → ℕ) (i n : ℕ) (global : List ℕ) →
+    length (globalLater op i n global) ≡ length global
 unfolding globalLater
 length-global-later op i n global = length-over n _ global
 

@@ -1,4 +1,5 @@
--- Stage 7 as code makes it: local values by one pass over the links, places by buckets, and a round's moves by the segments' length.
+-- Stage 7 as code makes it: local values by one pass over the links, places by buckets, and a round's moves by the
+-- segments' length.
 use mathlib.Core.Path.{_≡_, refl}
 use mathlib.Core.Bool.{Bool, true, false, cond, _&&_}
 use mathlib.Core.Logic.{_⊎_, inl, inr}
@@ -56,12 +57,14 @@ localBy first local q = cond (eqb (at first q) ABSENT) 0 (at local (at first q))
 
 abbrev pub beginBy : ℕ → List ℕ → List ℕ → List ℕ → List ℕ → ℕ → ℕ
 beginBy n first local nd pre v =
-    cond (leb 1 (Range.endPlace nd pre v) && leb (Range.endPlace nd pre v) n) (localBy first local (min (Range.endPlace nd pre v - 1) ABSENT)) 0
+    cond (leb 1 (Range.endPlace nd pre v) && leb (Range.endPlace nd pre v) n)
+    (localBy first local (min (Range.endPlace nd pre v - 1) ABSENT)) 0
 
 module _ (op : ℕ → ℕ → ℕ) (n m : ℕ) (ends parent pre first local : List ℕ) (small : n ≤ maxUnits)
     (units : (q : ℕ) → q < BUCKETS → getD first q 0 ≡ firstAt n pre q)
     (values : (v : ℕ) → v < maxUnits → getD local v 0 ≡ Range.localOf op m ends parent pre v) where
-  by-go : (u : ℕ) → (u < n) ⊎ (u ≡ ABSENT) → cond (eqb u ABSENT) 0 (at local u) ≡ cond (eqb u ABSENT) 0 (Range.localOf op m ends parent pre u)
+  by-go : (u : ℕ) → (u < n) ⊎ (u ≡ ABSENT) →
+      cond (eqb u ABSENT) 0 (at local u) ≡ cond (eqb u ABSENT) 0 (Range.localOf op m ends parent pre u)
   by-go u (inl l) = rw (values u (omega arith))
   by-go u (inr e) = rw (eq-eqb u ABSENT e)
 
@@ -73,7 +76,8 @@ module _ (op : ℕ → ℕ → ℕ) (n m : ℕ) (ends parent pre first local : L
   unfolding Range.localAt Range.unitAt firstAt
   local-by q h = rw (units q h) (by-go (firstAt n pre q) (unit-found q))
 
-  pub global-first : (global : List ℕ) → over n (localBy first local) global ≡ Range.globalFirst op n m ends parent pre global
+  pub global-first : (global : List ℕ) →
+      over n (localBy first local) global ≡ Range.globalFirst op n m ends parent pre global
   unfolding Range.globalFirst
   global-first global =
       over-cong n (localBy first local) (Range.localAt op n m ends parent pre) global
@@ -87,7 +91,8 @@ module _ (op : ℕ → ℕ → ℕ) (n m : ℕ) (ends parent pre first local : L
       rw q (local-by (e - 1) (omega arith))
   begin-go e false t = refl
 
-  pub range-first : (nd range : List ℕ) → over n (beginBy n first local nd pre) range ≡ Range.rangeFirst op n m ends parent nd pre range
+  pub range-first : (nd range : List ℕ) →
+      over n (beginBy n first local nd pre) range ≡ Range.rangeFirst op n m ends parent nd pre range
   unfolding Range.rangeFirst
   range-first nd range =
       over-cong n (beginBy n first local nd pre) (Range.rangeBegin op n m ends parent nd pre) range

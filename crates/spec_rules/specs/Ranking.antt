@@ -1,4 +1,5 @@
--- Stages 4 and 6, list ranking by doubling, over k objects. `jump` is the working predecessor of each object, `sum` the sum so far.
+-- Stages 4 and 6, list ranking by doubling, over k objects. `jump` is the working predecessor of each object, `sum` the
+-- sum so far.
 use mathlib.Core.Bool.{Bool, not, cond}
 use mathlib.Core.List.{List}
 use Prim.Native.Nat.{ℕ, _+_}

@@ -26,15 +26,18 @@ silent jump a e = rw (eq-eqb (at jump a) ABSENT e)
 pub asking : (jump : List ℕ) (a : ℕ) → at jump a < ABSENT → asks jump a ≡ true
 asking jump a l = rw (ne-eqb (at jump a) ABSENT (omega arith))
 
-pub jump-kept : (k : ℕ) (jump : List ℕ) (a : ℕ) → a < k → k ≤ length jump → at jump a ≡ ABSENT → at (jumpRound k jump) a ≡ at jump a
+pub jump-kept : (k : ℕ) (jump : List ℕ) (a : ℕ) → a < k → k ≤ length jump → at jump a ≡ ABSENT →
+    at (jumpRound k jump) a ≡ at jump a
 unfolding jumpRound
 jump-kept k jump a l h e = getD-over k _ jump a 0 l (omega arith) ∙ rw (silent jump a e)
 
-pub jump-taken : (k : ℕ) (jump : List ℕ) (a : ℕ) → a < k → k ≤ length jump → at jump a < ABSENT → at (jumpRound k jump) a ≡ at jump (at jump a)
+pub jump-taken : (k : ℕ) (jump : List ℕ) (a : ℕ) → a < k → k ≤ length jump → at jump a < ABSENT →
+    at (jumpRound k jump) a ≡ at jump (at jump a)
 unfolding jumpRound
 jump-taken k jump a l h e = getD-over k _ jump a 0 l (omega arith) ∙ rw (asking jump a e)
 
-pub sum-kept : (k : ℕ) (jump sum : List ℕ) (a : ℕ) → a < k → k ≤ length sum → at jump a ≡ ABSENT → at (sumRound k jump sum) a ≡ at sum a
+pub sum-kept : (k : ℕ) (jump sum : List ℕ) (a : ℕ) → a < k → k ≤ length sum → at jump a ≡ ABSENT →
+    at (sumRound k jump sum) a ≡ at sum a
 unfolding sumRound
 sum-kept k jump sum a l h e = getD-over k _ sum a 0 l (omega arith) ∙ rw (silent jump a e)
 

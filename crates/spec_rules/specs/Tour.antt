@@ -1,5 +1,6 @@
--- Stage 3, tour: the Euler tour of each tree as a list of arcs (directed tree links, document 01's list places). The arc into v from its parent is
--- 2v, the arc out of v to its parent 2v + 1; both exist where v is no root. The tree is what the parent table says.
+-- Stage 3, tour: the Euler tour of each tree as a list of arcs (directed tree links, document 01's list places). The
+-- arc into v from its parent is 2v, the arc out of v to its parent 2v + 1; both exist where v is no root. The tree is
+-- what the parent table says.
 use mathlib.Core.Bool.{Bool, not, _&&_, _||_, cond}
 use mathlib.Core.List.{List}
 use Prim.Native.Nat.{ℕ, _+_, _*_, _/_, _%_}
@@ -48,18 +49,21 @@ arcAfter n parent u v = arcFrom parent v (neighborAfter n parent v u)
 unfoldable pub follower : ℕ → List ℕ → ℕ → ℕ
 follower n parent a =
     cond (isArc parent a)
-    (cond (isInto a) (arcAfter n parent (at parent (arcUnit a)) (arcUnit a)) (arcAfter n parent (arcUnit a) (at parent (arcUnit a))))
+    (cond (isInto a) (arcAfter n parent (at parent (arcUnit a)) (arcUnit a))
+    (arcAfter n parent (arcUnit a) (at parent (arcUnit a))))
     ABSENT
 
 -- the list starts at the root's least neighbour
 unfoldable pub isStart : ℕ → List ℕ → ℕ → Bool
 isStart n parent a =
-    isInto a && isRoot parent (at parent (arcUnit a)) && eqb (leastNeighbor n parent (at parent (arcUnit a))) (arcUnit a)
+    isInto a && isRoot parent (at parent (arcUnit a))
+    && eqb (leastNeighbor n parent (at parent (arcUnit a))) (arcUnit a)
 
 -- the predecessor of an arc: the arc that it follows, absent at the start of the list
 unfoldable pub predecessor : ℕ → List ℕ → List ℕ → ℕ → ℕ
 predecessor n parent next a =
-    cond (isArc parent a && not (isStart n parent a)) (least (2 * n) (λ (b : ℕ). cond (eqb (at next b) a) b ABSENT) ABSENT) ABSENT
+    cond (isArc parent a && not (isStart n parent a))
+    (least (2 * n) (λ (b : ℕ). cond (eqb (at next b) a) b ABSENT) ABSENT) ABSENT
 
 -- round one: each directed link's follower
 unfoldable pub nextRound : ℕ → List ℕ → List ℕ → List ℕ

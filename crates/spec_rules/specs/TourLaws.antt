@@ -47,7 +47,8 @@ module _ (n : ℕ) (parent : List ℕ) (v : ℕ) where
   unfolding Tour.follower
   next-out-root e = rw (unit-out v, eq-eqb (at parent v) ABSENT e) (omega arith)
 
-  pub next-in-arc : (at parent v ≡ ABSENT → ⊥) → (x : ℕ) → x ≡ min (Tour.arcAfter n parent (at parent v) v) ABSENT → x ≡ storedNext n parent (2 * v)
+  pub next-in-arc : (at parent v ≡ ABSENT → ⊥) → (x : ℕ) → x ≡ min (Tour.arcAfter n parent (at parent v) v) ABSENT →
+      x ≡ storedNext n parent (2 * v)
   unfolding Tour.follower
   next-in-arc e x is = rw (unit-into v, ne-eqb (at parent v) ABSENT e, even-into v) is
 
@@ -65,10 +66,12 @@ root-one n parent p w small root h =
     let ne : at parent p ≡ w → ⊥ = λ q. omega (arith, q, root) in
     rw (ne-eqb (at parent p) w ne, or-false (eqb (at parent w) p))
 
-root-least : (n : ℕ) (parent : List ℕ) (p : ℕ) → n ≤ ABSENT → at parent p ≡ ABSENT → Tour.leastNeighbor n parent p ≡ firstAt n parent p
+root-least : (n : ℕ) (parent : List ℕ) (p : ℕ) → n ≤ ABSENT → at parent p ≡ ABSENT →
+    Tour.leastNeighbor n parent p ≡ firstAt n parent p
 unfolding Tour.leastNeighbor firstAt
 root-least n parent p small root =
-    fold-cong min n (λ (w : ℕ). cond (Tour.treeNeighbor parent p w) w ABSENT) (λ (w : ℕ). cond (eqb (at parent w) p) w ABSENT) ABSENT
+    fold-cong min n (λ (w : ℕ). cond (Tour.treeNeighbor parent p w) w ABSENT)
+    (λ (w : ℕ). cond (eqb (at parent w) p) w ABSENT) ABSENT
     (λ (w : ℕ) (h : w < n). root-one n parent p w small root h)
 
 -- v is its parent's first child, and the parent a root
@@ -77,7 +80,8 @@ startBy n parent child lost v =
     isRoot parent (at parent v) && eqb (lookup (firstAt n parent) child lost (at parent v)) v
 
 abbrev pub predIn : ℕ → List ℕ → List ℕ → ℕ → List ℕ → ℕ → ℕ
-predIn n parent child lost first v = cond (not (isRoot parent v) && not (startBy n parent child lost v)) (at first (2 * v)) ABSENT
+predIn n parent child lost first v = cond (not (isRoot parent v) && not (startBy n parent child lost v))
+    (at first (2 * v)) ABSENT
 
 abbrev pub predOut : List ℕ → List ℕ → ℕ → ℕ
 predOut parent first v = cond (not (isRoot parent v)) (at first (2 * v + 1)) ABSENT
@@ -86,16 +90,21 @@ module _ (n : ℕ) (parent next child first : List ℕ) (lost : ℕ) (small : n 
     (children : (q : ℕ) → q < BUCKETS → getD child q 0 ≡ firstAt n parent q) (orphans : lost ≡ firstAt n parent ABSENT)
     (firsts : (q : ℕ) → q < BUCKETS → getD first q 0 ≡ firstAt (min (2 * n) ABSENT) next q) where
   start-go : (v : ℕ) (b : Bool) → isRoot parent (at parent v) ≡ b
-      → (b && eqb (lookup (firstAt n parent) child lost (at parent v)) v) ≡ (b && eqb (Tour.leastNeighbor n parent (at parent v)) v)
+      → (b && eqb (lookup (firstAt n parent) child lost (at parent v)) v)
+      ≡ (b && eqb (Tour.leastNeighbor n parent (at parent v)) v)
   start-go v true e =
-      rw (lookup-right (firstAt n parent) child lost children orphans (at parent v), root-least n parent (at parent v) small (eqb-true (at parent (at parent v)) ABSENT e))
+      rw (
+        lookup-right (firstAt n parent) child lost children orphans (at parent v),
+        root-least n parent (at parent v) small (eqb-true (at parent (at parent v)) ABSENT e),
+      )
   start-go v false e = refl
 
   start-same : (v : ℕ) → startBy n parent child lost v ≡ Tour.isStart n parent (2 * v)
   unfolding Tour.isStart
   start-same v = rw (unit-into v, even-into v) (start-go v (isRoot parent (at parent v)) refl)
 
-  first-same : (q : ℕ) → q < BUCKETS → getD first q 0 ≡ least (2 * n) (λ (b : ℕ). cond (eqb (at next b) q) b ABSENT) ABSENT
+  first-same : (q : ℕ) → q < BUCKETS → getD first q 0
+      ≡ least (2 * n) (λ (b : ℕ). cond (eqb (at next b) q) b ABSENT) ABSENT
   unfolding firstAt
   first-same q h = firsts q h ∙ first-clamp (2 * n) next q
 
@@ -105,4 +114,10 @@ module _ (n : ℕ) (parent next child first : List ℕ) (lost : ℕ) (small : n 
 
   pub pred-out : (v : ℕ) → 2 * v + 1 < BUCKETS → predOut parent first v ≡ Tour.predecessor n parent next (2 * v + 1)
   unfolding Tour.predecessor Tour.isStart
-  pred-out v h = rw (unit-out v, odd-out v, first-same (2 * v + 1) h) (ap (λ (b : Bool). cond b (least (2 * n) (λ (b : ℕ). cond (eqb (at next b) (2 * v + 1)) b ABSENT) ABSENT) ABSENT) (sym (and-true (not (isRoot parent v)))))
+  pred-out v h = rw (
+    unit-out v,
+    odd-out v,
+    first-same (2 * v + 1) h,
+  ) (ap (λ (b : Bool). cond b
+      (least (2 * n) (λ (b : ℕ). cond (eqb (at next b) (2 * v + 1)) b ABSENT) ABSENT) ABSENT)
+      (sym (and-true (not (isRoot parent v)))))

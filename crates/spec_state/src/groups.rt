@@ -1,5 +1,5 @@
-// The state of a survey: what document 01 says a state holds, in groups that follow the stages.
-// Arrays have their full length whatever the unit count is. Units index by their number, arcs by 2v (into v) and 2v + 1 (out of v), links by
+// The state of a survey: what document 01 says a state holds, in groups that follow the stages. Arrays have their full
+// length whatever the unit count is. Units index by their number, arcs by 2v (into v) and 2v + 1 (out of v), links by
 // position, segments by place.
 
 // The table of links: the two ends of link j stand at 2j and 2j + 1, its level at j.

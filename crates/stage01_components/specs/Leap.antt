@@ -36,8 +36,15 @@ module _ (n m : ℕ) (ends : List ℕ) where
         from = omega arith;
         to = omega arith;
         runs = λ color c made inside. and-true (linksFit n m ends) (inStage n 1 c) fit inside;
-        rests = λ color c made e. refuted (linksFit n m ends && inStage n 1 c) (λ t. omega (arith, e, stands n 1 c (and-right (linksFit n m ends) (inStage n 1 c) t)));
-        first = λ color c made e fine. rw (sym (color-round n m (c .made) ends color (numbers n color) (rw e refl)), eq-eqb (c .made) 0 e) refl;
-        later = λ color c made h fine. rw (sym (color-round n m (c .made) ends color color (rw (ne-eqb (c .made) 0 h) refl)), ne-eqb (c .made) 0 h) refl;
+        rests = λ color c made e. refuted (linksFit n m ends && inStage n 1 c)
+            (λ t. omega (arith, e, stands n 1 c (and-right (linksFit n m ends) (inStage n 1 c) t)));
+        first = λ color c made e fine. rw (
+          sym (color-round n m (c .made) ends color (numbers n color) (rw e refl)),
+          eq-eqb (c .made) 0 e,
+        ) refl;
+        later = λ color c made h fine. rw (
+          sym (color-round n m (c .made) ends color color (rw (ne-eqb (c .made) 0 h) refl)),
+          ne-eqb (c .made) 0 h,
+        ) refl;
         keeps = λ color fine. fine;
       }

@@ -23,7 +23,8 @@ use Rattle.spec_rules.specs.HeardLaws.{hears}
 abbrev pub Hearer : ℕ → List ℕ → List ℕ → ℕ → Type 0
 Hearer n said t v = (v < n) × ((v < length said) × ((v < length t) × (getD t v 0 ≤ getD said v 0)))
 
-pub hearer : (n j : ℕ) (ends said t : List ℕ) (v : ℕ) → v < n → v < length said → t ≡ over n (leastHeard j ends said) said → Hearer n said t v
+pub hearer : (n j : ℕ) (ends said t : List ℕ) (v : ℕ) → v < n → v < length said →
+    t ≡ over n (leastHeard j ends said) said → Hearer n said t v
 unfolding leastHeard
 hearer n j ends said t v h l was =
     let f = leastHeard j ends said in
@@ -50,18 +51,21 @@ chosen-within m false a b ha hb = ha
 
 -- the end that says less hears nothing
 module _ (n : ℕ) (said t : List ℕ) (a b : ℕ) (ha : Hearer n said t a) (hb : Hearer n said t b) where
-  hears-second : getD said a 0 < getD said b 0 → (new : List ℕ) → new ≡ set t b (min (getD t b 0) (getD said a 0)) → new ≡ hears false n said a b t
+  hears-second : getD said a 0 < getD said b 0 → (new : List ℕ) → new ≡ set t b (min (getD t b 0) (getD said a 0)) →
+      new ≡ hears false n said a b t
   unfolding hears
   hears-second h new put =
       rw (put, unheard n t a (getD said b 0) (ha .0) (omega (arith, ha .1 .1 .1))) (taken n t b (getD said a 0) (hb .0))
 
-  hears-first : getD said b 0 < getD said a 0 → (new : List ℕ) → new ≡ set t a (min (getD t a 0) (getD said b 0)) → new ≡ hears false n said a b t
+  hears-first : getD said b 0 < getD said a 0 → (new : List ℕ) → new ≡ set t a (min (getD t a 0) (getD said b 0)) →
+      new ≡ hears false n said a b t
   unfolding hears
   hears-first h new put =
       let apart : b ≡ a → ⊥ = λ q. less-self (rw q at h) in
       let kept : getD new b 0 ≡ getD t b 0 = rw put (getD-set-other t a b (min (getD t a 0) (getD said b 0)) 0 apart) in
       let same : new ≡ takesIn min n t a (getD said b 0) = put ∙ taken n t a (getD said b 0) (ha .0) in
-      let rest : takesIn min n new b (getD said a 0) ≡ new = unheard n new b (getD said a 0) (hb .0) (omega (arith, hb .1 .1 .1, kept)) in
+      let rest : takesIn min n new b (getD said a 0) ≡ new =
+      unheard n new b (getD said a 0) (hb .0) (omega (arith, hb .1 .1 .1, kept)) in
       sym rest ∙ ap (λ (l : List ℕ). takesIn min n l b (getD said a 0)) same
 
   hears-none : getD said a 0 ≡ getD said b 0 → t ≡ hears false n said a b t
@@ -70,17 +74,22 @@ module _ (n : ℕ) (said t : List ℕ) (a b : ℕ) (ha : Hearer n said t a) (hb 
       rw (unheard n t a (getD said b 0) (ha .0) (omega (arith, ha .1 .1 .1, h)))
       (sym (unheard n t b (getD said a 0) (hb .0) (omega (arith, hb .1 .1 .1, h))))
 
-  hears-same : getD said a 0 ≡ getD said b 0 → (new : List ℕ) → new ≡ set t a (min (getD t a 0) (getD said b 0)) → new ≡ hears false n said a b t
+  hears-same : getD said a 0 ≡ getD said b 0 → (new : List ℕ) → new ≡ set t a (min (getD t a 0) (getD said b 0)) →
+      new ≡ hears false n said a b t
   hears-same h new put =
-      put ∙ taken n t a (getD said b 0) (ha .0) ∙ unheard n t a (getD said b 0) (ha .0) (omega (arith, ha .1 .1 .1, h)) ∙ hears-none h
+      put ∙ taken n t a (getD said b 0) (ha .0) ∙ unheard n t a (getD said b 0) (ha .0) (omega (arith, ha .1 .1 .1, h))
+      ∙ hears-none h
 
   pub hearer-within : (i : ℕ) → i ≡ cond (ltb (getD said a 0) (getD said b 0)) b a → i < length t
-  hearer-within i which = rw which (chosen-within (length t) (ltb (getD said a 0) (getD said b 0)) a b (ha .1 .1 .0) (hb .1 .1 .0))
+  hearer-within i which = rw which (chosen-within (length t) (ltb (getD said a 0) (getD said b 0)) a b (ha .1 .1 .0)
+      (hb .1 .1 .0))
 
   -- the lesser of what both say goes to the end that says more; where they say the same, to the first
-  pub hears-lesser : (i x : ℕ) → i ≡ cond (ltb (getD said a 0) (getD said b 0)) b a → x ≡ min (getD said a 0) (getD said b 0)
+  pub hears-lesser : (i x : ℕ) → i ≡ cond (ltb (getD said a 0) (getD said b 0)) b a →
+      x ≡ min (getD said a 0) (getD said b 0)
       → (new : List ℕ) → new ≡ set t i (min (getD t i 0) x) → new ≡ hears false n said a b t
-  hears-lesser i x which least new put = go (decLt (getD said a 0) (getD said b 0)) (decLt (getD said b 0) (getD said a 0))
+  hears-lesser i x which least new put =
+      go (decLt (getD said a 0) (getD said b 0)) (decLt (getD said b 0) (getD said a 0))
     where
       go : Dec (getD said a 0 < getD said b 0) → Dec (getD said b 0 < getD said a 0) → new ≡ hears false n said a b t
       go (yes h) _ =

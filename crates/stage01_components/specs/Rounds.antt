@@ -32,7 +32,8 @@ abbrev pub into : State → Ran → State
 into s x = State.withClock (x .clock) (State.withComponents (record { color = x .color }) s)
 
 pub stage : (s : State)
-    → Stage 1 (units s) (linksFit (units s) (links s) (s .table .ends)) (λ (x : Ran). x .clock) (one (units s) (links s) (s .table .ends)) (λ (x : Ran). x .made) (into s)
+    → Stage 1 (units s) (linksFit (units s) (links s) (s .table .ends)) (λ (x : Ran). x .clock)
+    (one (units s) (links s) (s .table .ends)) (λ (x : Ran). x .made) (into s)
 unfolding one lastAt Step.components
 stage s =
     on-links s (omega arith) (λ x. refl) (λ x. refl) (λ x. refl) (λ x w e. rw (step-by 1 tt (into s x) e))

@@ -60,7 +60,8 @@ fn leapt(
     color: [u16; 256],
 ) -> Landed
     requires { ⌜ fits ≡ linksFit units links (now ends) ⌝ }
-    ensures { λ r. ⌜ (r .right ≡ true → ran (r .value) (r .clock) (r .made) ≡ stageRun (on units links (now (ends .entry))) (one units links (now (ends .entry))) budget
+    ensures { λ r. ⌜ (r .right ≡ true → ran (r .value) (r .clock) (r .made)
+        ≡ stageRun (on units links (now (ends .entry))) (one units links (now (ends .entry))) budget
         (record { color = color; clock = clock; made = 0 })) ⌝ }
 {
     let goes_on = stage_clock::goes_on(fits, units, 1, 0, budget, clock);
@@ -85,8 +86,9 @@ fn leapt(
     )
 }
 
-// Whether a leap pays: the budget covers a round for each unit, as many as there can be, and few rounds are not to be expected, as of few units or where the
-// first is linked with half of them. No more than a guess: what a run leaves does not hang on it.
+// Whether a leap pays: the budget covers a round for each unit, as many as there can be, and few rounds are not to be
+// expected, as of few units or where the first is linked with half of them. No more than a guess: what a run leaves
+// does not hang on it.
 fn pays(units: u16, links: u16, budget: u16, ends: &[u16; 2048]) -> bool {
     if table_values::either(units < 32, budget < units) {
         return false;
@@ -170,8 +172,8 @@ fn heard(n: u16, links: u16, ends: &[u16], value: [u16; 256]) -> [u16; 256]
     new
 }
 
-// A link of two units that exist. None has more than it says, so that only the end that says more can come to less; where both say the same, the first
-// takes in what it says itself. No branch: which end says more is up to chance.
+// A link of two units that exist. None has more than it says, so that only the end that says more can come to less;
+// where both say the same, the first takes in what it says itself. No branch: which end says more is up to chance.
 fn hear(n: u16, said: &[u16], a: u16, b: u16, t: &mut [u16])
     requires { ⌜ Hearer n (now said) (now t) a × Hearer n (now said) (now t) b ⌝ }
     ensures { λ _. ⌜ now (t .exit) ≡ hears false n (now (said .entry)) a b (now (t .entry)) ⌝ }

@@ -24,8 +24,8 @@ nearest m ends levels far v = bestNeighbor (oneNearer far v) m ends levels v .un
 abbrev pub shown : ℕ → List ℕ → ℕ → ℕ
 shown made far v = cond (ltb (at far v) made) (at far v) ABSENT
 
--- far has the distances that the table has and that the rounds still give: the ends of a link are at most one apart, each unit still to be visited has a
--- neighbour one nearer, and round `last` is the first that visits none
+-- far has the distances that the table has and that the rounds still give: the ends of a link are at most one apart,
+-- each unit still to be visited has a neighbour one nearer, and round `last` is the first that visits none
 pub record Goal (n m made last : ℕ) (ends : List ℕ) (levels : List ℤ) (dist far : List ℕ) : Type 0 where
   pub few : n ≤ 256
   pub full : n ≤ length dist
@@ -34,8 +34,10 @@ pub record Goal (n m made last : ℕ) (ends : List ℕ) (levels : List ℤ) (dis
   pub to : made ≤ last
   pub small : last < ABSENT
   pub known : (v : ℕ) → v < n → at dist v ≡ shown made far v
-  pub beside : (j : ℕ) → j < m → (at far (endA ends j) ≤ at far (endB ends j) + 1) × (at far (endB ends j) ≤ at far (endA ends j) + 1)
-  pub led : (v : ℕ) → v < n → made ≤ at far v → (at far v ≡ ABSENT) ⊎ ((at far v < last) × (nearest m ends levels far v ≢ ABSENT))
+  pub beside : (j : ℕ) → j < m → (at far (endA ends j) ≤ at far (endB ends j) + 1)
+      × (at far (endB ends j) ≤ at far (endA ends j) + 1)
+  pub led : (v : ℕ) → v < n → made ≤ at far v →
+      (at far v ≡ ABSENT) ⊎ ((at far v < last) × (nearest m ends levels far v ≢ ABSENT))
   pub tip : (v : ℕ) × (v < n) × (at far v + 1 ≡ last)
 
 -- ---- the tables that the rounds leave
@@ -53,7 +55,8 @@ abbrev pub parentFrom : ℕ → List ℕ → List ℕ → List ℕ → ℕ → �
 parentFrom made far cand parent v = cond (unvisited made far v) (at cand v) (at parent v)
 
 -- tables after round `last`, by right distances
-pub record Leapt (n m made last : ℕ) (ends : List ℕ) (levels : List ℤ) (parent dist new-parent new-dist : List ℕ) : Type 0 where
+pub record Leapt (n m made last : ℕ) (ends : List ℕ) (levels : List ℤ)
+    (parent dist new-parent new-dist : List ℕ) : Type 0 where
   pub far : List ℕ
   pub goal : Goal n m made last ends levels dist far
   pub room : last ≤ n

@@ -1,4 +1,5 @@
-// Distances found ahead of the rounds of stage 2 are tested over every link and every unit, and where they pass the tables are those that the rounds leave.
+// Distances found ahead of the rounds of stage 2 are tested over every link and every unit, and where they pass the
+// tables are those that the rounds leave.
 use table::ABSENT;
 use table_values::bounds;
 ghost use mathlib.Core.Path.{_≡_};
@@ -48,7 +49,8 @@ pub fn tested<'a>(
     parent: [u16; 256],
     dist: [u16; 256],
 ) -> Leap
-    ensures { λ r. ⌜ (r .right ≡ true → Leapt units links made (r .last) (now (ends .entry)) (now (levels .entry)) parent dist (r .parent) (r .dist)) ⌝ }
+    ensures { λ r. ⌜ (r .right ≡ true → Leapt units links made (r .last) (now (ends .entry))
+        (now (levels .entry)) parent dist (r .parent) (r .dist)) ⌝ }
 {
     let fits = table_values::both(units <= 256, bounds::links_fit(units, links, ends));
     let top = base_slices::word(far, tip as usize);
@@ -78,8 +80,10 @@ pub fn tested<'a>(
 
 // Link by link.
 fn nearest<'a>(links: u16, ends: &'a [u16], levels: &'a [i16], far: &'a [u16]) -> Parents
-    requires { ⌜ (length (now far) ≡ 256) × EndsWithin 256 links (now ends) × (length (now ends) ≡ 2048) × (length (now levels) ≡ 1024) ⌝ }
-    ensures units { λ r. ⌜ ((v : ℕ) → v < maxUnits → getD (r .best) v 0 ≡ nearest links (now (ends .entry)) (now (levels .entry)) (now (far .entry)) v) ⌝ }
+    requires { ⌜ (length (now far) ≡ 256) × EndsWithin 256 links (now ends) × (length (now ends) ≡ 2048)
+        × (length (now levels) ≡ 1024) ⌝ }
+    ensures units { λ r. ⌜ ((v : ℕ) → v < maxUnits →
+        getD (r .best) v 0 ≡ nearest links (now (ends .entry)) (now (levels .entry)) (now (far .entry)) v) ⌝ }
     ensures apart { λ r. ⌜ r .apart ≡ some links (apartAt (now (ends .entry)) (now (far .entry))) ⌝ }
 {
     let mut held = stage02_choice::no_levels();
@@ -109,7 +113,8 @@ fn offer_nearer(
     best: &mut [u16; 256],
 ) -> bool
     requires { ⌜ (a < 256) × (b < 256) × (length (now far) ≡ 256) ⌝ }
-    ensures units { λ _. ⌜ Linked (oneNearer (now (far .entry))) level a b (now (held .entry)) (now (best .entry)) (now (held .exit)) (now (best .exit)) ⌝ }
+    ensures units { λ _. ⌜ Linked (oneNearer (now (far .entry))) level a b (now (held .entry)) (now (best .entry))
+        (now (held .exit)) (now (best .exit)) ⌝ }
     ensures apart { λ r. ⌜ r ≡ apart (at (now (far .entry)) a) (at (now (far .entry)) b) ⌝ }
 {
     let at_a = a as usize;
@@ -145,7 +150,8 @@ fn settle<'a>(
     dist: [u16; 256],
 ) -> Settled
     requires { ⌜ (units ≤ 256) × (length (now far) ≡ 256) × (length (now cand) ≡ 256) ⌝ }
-    ensures parents { λ r. ⌜ r .parent ≡ over units (parentFrom made (now (far .entry)) (now (cand .entry)) parent) parent ⌝ }
+    ensures parents { λ r. ⌜ r .parent ≡ over units
+        (parentFrom made (now (far .entry)) (now (cand .entry)) parent) parent ⌝ }
     ensures dists { λ r. ⌜ r .dist ≡ over units (at (now (far .entry))) dist ⌝ }
     ensures strays { λ r. ⌜ r .stray ≡ some units (straysAt made last (now (far .entry)) (now (cand .entry)) dist) ⌝ }
 {

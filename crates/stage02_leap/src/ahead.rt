@@ -1,5 +1,5 @@
-// A search ahead of the rounds: breadth first from the units visited in the round before, along chains of places in the table. Nothing is proved of it
-// but that it ends.
+// A search ahead of the rounds: breadth first from the units visited in the round before, along chains of places in the
+// table. Nothing is proved of it but that it ends.
 use table::ABSENT;
 use table_values::tables;
 ghost use mathlib.Core.Path.{_≡_};
@@ -45,7 +45,8 @@ fn no_places() -> [u16; 2048] {
 
 // Each unit's chain goes over the places of its neighbours, from the last link to the first; absent ends it.
 fn chain<'a>(links: u16, ends: &[u16], first: &'a mut [u16], next: &'a mut [u16])
-    requires { ⌜ (links ≤ 1024) × (length (now ends) ≡ 2048) × (length (now first) ≡ 256) × (length (now next) ≡ 2048) ⌝ }
+    requires { ⌜ (links ≤ 1024) × (length (now ends) ≡ 2048) × (length (now first) ≡ 256)
+        × (length (now next) ≡ 2048) ⌝ }
 {
     let mut j = 0;
     while j < links {
@@ -59,7 +60,8 @@ fn chain<'a>(links: u16, ends: &[u16], first: &'a mut [u16], next: &'a mut [u16]
 
 // Place `i` becomes the head of the chain of the unit at place `of`.
 fn hang<'a>(of: u16, i: u16, ends: &[u16], first: &'a mut [u16], next: &'a mut [u16])
-    requires { ⌜ (of < 2048) × (i < 2048) × (length (now ends) ≡ 2048) × (length (now first) ≡ 256) × (length (now next) ≡ 2048) ⌝ }
+    requires { ⌜ (of < 2048) × (i < 2048) × (length (now ends) ≡ 2048) × (length (now first) ≡ 256)
+        × (length (now next) ≡ 2048) ⌝ }
 {
     let place = of as usize;
     let v = (ends[place] % 256) as usize;
@@ -117,7 +119,8 @@ fn follow<'a>(
     queue: &mut [u16],
     seeds: u16,
 ) -> u16
-    requires { ⌜ (seeds ≤ 256) × (length (now ends) ≡ 2048) × (length (now first) ≡ 256) × (length (now next) ≡ 2048) × (length (now far) ≡ 256) × (length (now queue) ≡ 256) ⌝ }
+    requires { ⌜ (seeds ≤ 256) × (length (now ends) ≡ 2048) × (length (now first) ≡ 256) × (length (now next) ≡ 2048)
+        × (length (now far) ≡ 256) × (length (now queue) ≡ 256) ⌝ }
     ensures { λ r. ⌜ r ≤ 256 ⌝ }
 {
     let mut count = seeds;
@@ -145,7 +148,8 @@ fn reach<'a>(
     queue: &mut [u16],
     from: u16,
 ) -> u16
-    requires { ⌜ (from ≤ 256) × (length (now ends) ≡ 2048) × (length (now next) ≡ 2048) × (length (now far) ≡ 256) × (length (now queue) ≡ 256) ⌝ }
+    requires { ⌜ (from ≤ 256) × (length (now ends) ≡ 2048) × (length (now next) ≡ 2048) × (length (now far) ≡ 256)
+        × (length (now queue) ≡ 256) ⌝ }
     ensures { λ r. ⌜ r ≤ 256 ⌝ }
 {
     let mut count = from;

@@ -1,5 +1,5 @@
-// The rest of stage 2's rounds at once: a search finds distances ahead of them, and tests say whether these are right. The search is proved to end and to stay
-// within its tables, no more.
+// The rest of stage 2's rounds at once: a search finds distances ahead of them, and tests say whether these are right.
+// The search is proved to end and to stay within its tables, no more.
 use stage02_distances::Leap;
 ghost use mathlib.Core.Path.{_≡_};
 ghost use mathlib.Core.Bool.{true};
@@ -17,7 +17,8 @@ pub fn leap<'a>(
     parent: [u16; 256],
     dist: [u16; 256],
 ) -> Leap
-    ensures { λ r. ⌜ (r .right ≡ true → Leapt units links made (r .last) (now (ends .entry)) (now (levels .entry)) parent dist (r .parent) (r .dist)) ⌝ }
+    ensures { λ r. ⌜ (r .right ≡ true → Leapt units links made (r .last) (now (ends .entry))
+        (now (levels .entry)) parent dist (r .parent) (r .dist)) ⌝ }
 {
     let count = table_values::least_of(units, 256);
     let most = table_values::least_of(links, 1024);

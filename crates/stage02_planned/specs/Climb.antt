@@ -35,7 +35,10 @@ ahead-more far k x few (inr e) = rw e refl
 
 module _ (plan : List ℕ) (c n v : ℕ) where
   pub climb-begins : Climbing plan c n v 0 v
-  climb-begins = record { within = omega arith; left = let all : n - 0 ≡ n = omega arith in rw all (sym (ahead-none (stepsTo plan c n v))) }
+  climb-begins = record {
+    within = omega arith;
+    left = let all : n - 0 ≡ n = omega arith in rw all (sym (ahead-none (stepsTo plan c n v)));
+  }
 
   module _ (far w : ℕ) (here : Climbing plan c n v far w) where
     one-more : far < n → n - far ≡ suc (n - (far + 1))
@@ -54,10 +57,13 @@ module _ (plan : List ℕ) (c n v : ℕ) where
     pub climb-on : n ≤ 256 → far < n → w ≢ c → at plan w ≢ ABSENT → Climbing plan c n v (far + 1) (at plan w)
     climb-on few l d e =
         let left = rw (one-more l) at (here .left) in
-        let up : stepsTo plan c (suc (n - (far + 1))) w ≡ onward (stepsTo plan c (n - (far + 1)) (at plan w)) = rw (ne-eqb w c d, ne-eqb (at plan w) ABSENT e) refl in
+        let up : stepsTo plan c (suc (n - (far + 1))) w ≡ onward (stepsTo plan c (n - (far + 1)) (at plan w)) =
+        rw (ne-eqb w c d, ne-eqb (at plan w) ABSENT e) refl in
         record {
           within = omega arith;
-          left = left ∙ ap (aheadBy far) up ∙ ahead-more far (n - (far + 1)) (stepsTo plan c (n - (far + 1)) (at plan w)) (omega arith) (steps-few plan c (n - (far + 1)) (at plan w));
+          left = left ∙ ap (aheadBy far) up
+              ∙ ahead-more far (n - (far + 1)) (stepsTo plan c (n - (far + 1)) (at plan w)) (omega arith)
+              (steps-few plan c (n - (far + 1)) (at plan w));
         }
 
     pub climb-over : n ≤ far → ABSENT ≡ stepsTo plan c n v

@@ -4,7 +4,8 @@ ghost use mathlib.Core.Path.{_≡_};
 ghost use Prim.Native.Nat.{_≤_};
 ghost use Rattle.spec_rules.specs.Planned.{stepsTo};
 
-// The steps from unit `v` up to `c`: absent where the chain ends, or goes on for as many units as there are, without it.
+// The steps from unit `v` up to `c`: absent where the chain ends, or goes on for as many units as there are, without
+// it.
 pub(crate) fn steps(plan: &[u16], c: u16, units: u16, v: u16) -> u16
     requires { ⌜ units ≤ 256 ⌝ }
     ensures { λ r. ⌜ r ≡ stepsTo (now (plan .entry)) c units v ⌝ }

@@ -12,7 +12,9 @@ and-none : (b : Bool) → (b && false) ≡ false
 and-none true = refl
 and-none false = refl
 
-pub passed-over : (passes : ℕ → Bool) (z : ℤ) (a b : ℕ) (held : List ℤ) (best : List ℕ) → passes a ≡ false → passes b ≡ false
+pub passed-over : (passes : ℕ → Bool) (z : ℤ) (a b : ℕ) (held : List ℤ) (best : List ℕ) → passes a ≡ false →
+    passes b ≡ false
     → Linked (λ (v : ℕ). passes) z a b held best held best
 passed-over passes z a b held best e g f h =
-    holds-cong held best f (λ (v : ℕ). overLink passes z a b v (f v)) (λ v l. rw (e, g, and-none (eqb a v), and-none (eqb b v)) refl) h
+    holds-cong held best f (λ (v : ℕ). overLink passes z a b v (f v))
+    (λ v l. rw (e, g, and-none (eqb a v), and-none (eqb b v)) refl) h

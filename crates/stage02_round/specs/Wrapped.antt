@@ -40,14 +40,19 @@ module _ (m made : ℕ) (ends : List ℕ) (levels : List ℤ) (color dist : List
   unfolding visits
   visits-wrapped v = rw (chosen-wrapped v) refl
 
-  pub parents-wrapped : (n : ℕ) (parent : List ℕ) → parentRound n m made (wrapped ends) levels color dist parent ≡ parentRound n m made ends levels color dist parent
+  pub parents-wrapped : (n : ℕ) (parent : List ℕ) →
+      parentRound n m made (wrapped ends) levels color dist parent ≡ parentRound n m made ends levels color dist parent
   unfolding parentRound
-  parents-wrapped n parent = over-cong n _ _ parent (λ (v : ℕ) (h : v < n). rw (visits-wrapped v, chosen-wrapped v) refl)
+  parents-wrapped n parent = over-cong n _ _ parent
+      (λ (v : ℕ) (h : v < n). rw (visits-wrapped v, chosen-wrapped v) refl)
 
-  pub dists-wrapped : (n : ℕ) → distRound n m made (wrapped ends) levels color dist ≡ distRound n m made ends levels color dist
+  pub dists-wrapped : (n : ℕ) → distRound n m made (wrapped ends) levels color dist
+      ≡ distRound n m made ends levels color dist
   unfolding distRound
   dists-wrapped n = over-cong n _ _ dist (λ (v : ℕ) (h : v < n). rw (visits-wrapped v) refl)
 
-  pub ends-wrapped : (n : ℕ) → treeEnds n m made (wrapped ends) levels color dist ≡ treeEnds n m made ends levels color dist
+  pub ends-wrapped : (n : ℕ) → treeEnds n m made (wrapped ends) levels color dist
+      ≡ treeEnds n m made ends levels color dist
   unfolding treeEnds
-  ends-wrapped n = ap not (some-cong n (visits m made (wrapped ends) levels color dist) (visits m made ends levels color dist) (λ v l. visits-wrapped v))
+  ends-wrapped n = ap not (some-cong n (visits m made (wrapped ends) levels color dist)
+      (visits m made ends levels color dist) (λ v l. visits-wrapped v))

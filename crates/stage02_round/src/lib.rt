@@ -1,4 +1,5 @@
-// A round of breadth first (stage 2): one pass over the links gives each unit the parent that it would take, one over the units both tables and the end.
+// A round of breadth first (stage 2): one pass over the links gives each unit the parent that it would take, one over
+// the units both tables and the end.
 use table::ABSENT;
 ghost use mathlib.Core.Path.{_≡_};
 ghost use mathlib.Core.Bool.{not};
@@ -18,7 +19,8 @@ pub struct After {
     pub ends: bool,
 }
 
-// At most 256 units and 1,024 links count. The ends of a link are read below 256, the rest of a greater number, so that no index is tested.
+// At most 256 units and 1,024 links count. The ends of a link are read below 256, the rest of a greater number, so that
+// no index is tested.
 pub fn round<'a>(
     units: u16,
     links: u16,
@@ -29,9 +31,12 @@ pub fn round<'a>(
     parent: [u16; 256],
     dist: [u16; 256],
 ) -> After
-    ensures parents { λ r. ⌜ r .parent ≡ parentRound (min units 256) (min links 1024) made (wrapped (now (ends .entry))) (now (levels .entry)) (now (color .entry)) dist parent ⌝ }
-    ensures dists { λ r. ⌜ r .dist ≡ distRound (min units 256) (min links 1024) made (wrapped (now (ends .entry))) (now (levels .entry)) (now (color .entry)) dist ⌝ }
-    ensures ends { λ r. ⌜ r .ends ≡ treeEnds (min units 256) (min links 1024) made (wrapped (now (ends .entry))) (now (levels .entry)) (now (color .entry)) dist ⌝ }
+    ensures parents { λ r. ⌜ r .parent ≡ parentRound (min units 256) (min links 1024) made (wrapped (now (ends .entry)))
+        (now (levels .entry)) (now (color .entry)) dist parent ⌝ }
+    ensures dists { λ r. ⌜ r .dist ≡ distRound (min units 256) (min links 1024) made (wrapped (now (ends .entry)))
+        (now (levels .entry)) (now (color .entry)) dist ⌝ }
+    ensures ends { λ r. ⌜ r .ends ≡ treeEnds (min units 256) (min links 1024) made (wrapped (now (ends .entry)))
+        (now (levels .entry)) (now (color .entry)) dist ⌝ }
 {
     let count = table_values::least_of(units, 256);
     let most = table_values::least_of(links, 1024);
@@ -47,8 +52,11 @@ fn chosen<'a>(
     levels: &'a [i16],
     dist: &'a [u16],
 ) -> [u16; 256]
-    requires { ⌜ (links ≤ 1024) × (length (now dist) ≡ 256) × (length (now ends) ≡ 2048) × (length (now levels) ≡ 1024) ⌝ }
-    ensures { λ r. ⌜ ((v : ℕ) → v < maxUnits → getD r v 0 ≡ chosenParent links made (wrapped (now (ends .entry))) (now (levels .entry)) (now (dist .entry)) v) ⌝ }
+    requires { ⌜ (links ≤ 1024) × (length (now dist) ≡ 256) × (length (now ends) ≡ 2048)
+        × (length (now levels) ≡ 1024) ⌝ }
+    ensures { λ r. ⌜ ((v : ℕ) → v < maxUnits →
+        getD r v 0 ≡ chosenParent links made (wrapped (now (ends .entry))) (now (levels .entry)) (now (dist .entry)) v)
+        ⌝ }
 {
     let mut held = stage02_choice::no_levels();
     let mut best = stage02_choice::no_units();
@@ -65,7 +73,8 @@ fn chosen<'a>(
     best
 }
 
-// A link: each end is offered the other. It is passed over where neither was visited in the round before, as most are in most rounds.
+// A link: each end is offered the other. It is passed over where neither was visited in the round before, as most are
+// in most rounds.
 fn offer_both(
     made: u16,
     dist: &[u16],
@@ -76,7 +85,8 @@ fn offer_both(
     best: &mut [u16; 256],
 )
     requires { ⌜ (a < 256) × (b < 256) × (length (now dist) ≡ 256) ⌝ }
-    ensures { λ _. ⌜ Linked (λ (v : ℕ). visitedBefore made (now (dist .entry))) level a b (now (held .entry)) (now (best .entry)) (now (held .exit)) (now (best .exit)) ⌝ }
+    ensures { λ _. ⌜ Linked (λ (v : ℕ). visitedBefore made (now (dist .entry))) level a b (now (held .entry))
+        (now (best .entry)) (now (held .exit)) (now (best .exit)) ⌝ }
 {
     let from_a = was_visited(made, dist, a);
     let from_b = was_visited(made, dist, b);
@@ -105,7 +115,8 @@ fn visit<'a>(
     dist: [u16; 256],
 ) -> After
     requires { ⌜ (units ≤ 256) × (length (now color) ≡ 256) × (length (now cand) ≡ 256) ⌝ }
-    ensures parents { λ r. ⌜ r .parent ≡ over units (parentBy made (now (color .entry)) dist (now (cand .entry)) parent) parent ⌝ }
+    ensures parents { λ r. ⌜ r .parent ≡ over units
+        (parentBy made (now (color .entry)) dist (now (cand .entry)) parent) parent ⌝ }
     ensures dists { λ r. ⌜ r .dist ≡ over units (distBy made (now (color .entry)) dist (now (cand .entry))) dist ⌝ }
     ensures ends { λ r. ⌜ r .ends ≡ not (some units (visitsBy made (now (color .entry)) dist (now (cand .entry)))) ⌝ }
 {

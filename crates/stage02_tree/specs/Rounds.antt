@@ -41,12 +41,14 @@ endsAfter n m made given ends levels color dist = taken given || treeEnds n m ma
 module _ (n m made given : ℕ) (plan ends : List ℕ) (levels : List ℤ) (color dist parent : List ℕ) where
   pub after-plan : given ≢ 0
       → (plannedParents n plan parent ≡ parentsAfter n m made given plan ends levels color dist parent)
-      × ((plannedDists n plan color dist ≡ distsAfter n m made given plan ends levels color dist) × (true ≡ endsAfter n m made given ends levels color dist))
+      × ((plannedDists n plan color dist ≡ distsAfter n m made given plan ends levels color dist)
+      × (true ≡ endsAfter n m made given ends levels color dist))
   unfolding parentsAfter distsAfter endsAfter
   after-plan h = rw (ne-eqb given 0 h) (refl, (refl, refl))
 
   pub after-search : given ≡ 0
-      → (parentRound n m made ends levels color dist parent ≡ parentsAfter n m made given plan ends levels color dist parent)
+      → (parentRound n m made ends levels color dist parent
+      ≡ parentsAfter n m made given plan ends levels color dist parent)
       × ((distRound n m made ends levels color dist ≡ distsAfter n m made given plan ends levels color dist)
       × (treeEnds n m made ends levels color dist ≡ endsAfter n m made given ends levels color dist))
   unfolding parentsAfter distsAfter endsAfter
@@ -57,7 +59,8 @@ one n m given plan ends levels color x =
     record {
       parent = parentsAfter n m (x .clock .made) given plan ends levels color (x .dist) (x .parent);
       dist = distsAfter n m (x .clock .made) given plan ends levels color (x .dist);
-      clock = nextClock (lastAt n (endsAfter n m (x .clock .made) given ends levels color (x .dist)) (x .clock)) 0 (x .clock);
+      clock = nextClock (lastAt n (endsAfter n m (x .clock .made) given ends levels color (x .dist)) (x .clock)) 0
+          (x .clock);
       made = x .made + 1;
     }
 
@@ -69,8 +72,10 @@ into s x = State.withClock (x .clock) (State.withTree (record { parent = x .pare
 tree-either : (s : State)
     → State.withTree
     (record {
-      parent = parentsAfter (units s) (links s) (s .clock .made) (s .plan .given) (s .plan .parent) (s .table .ends) (s .table .levels) (s .components .color) (s .tree .dist) (s .tree .parent);
-      dist = distsAfter (units s) (links s) (s .clock .made) (s .plan .given) (s .plan .parent) (s .table .ends) (s .table .levels) (s .components .color) (s .tree .dist);
+      parent = parentsAfter (units s) (links s) (s .clock .made) (s .plan .given) (s .plan .parent) (s .table .ends)
+          (s .table .levels) (s .components .color) (s .tree .dist) (s .tree .parent);
+      dist = distsAfter (units s) (links s) (s .clock .made) (s .plan .given) (s .plan .parent) (s .table .ends)
+          (s .table .levels) (s .components .color) (s .tree .dist);
     })
     s
     ≡ Step.tree s
@@ -80,8 +85,12 @@ tree-either s = go (taken (s .plan .given))
     go : (b : Bool)
         → State.withTree
         (record {
-          parent = cond b (plannedParents (units s) (s .plan .parent) (s .tree .parent)) (parentRound (units s) (links s) (s .clock .made) (s .table .ends) (s .table .levels) (s .components .color) (s .tree .dist) (s .tree .parent));
-          dist = cond b (plannedDists (units s) (s .plan .parent) (s .components .color) (s .tree .dist)) (distRound (units s) (links s) (s .clock .made) (s .table .ends) (s .table .levels) (s .components .color) (s .tree .dist));
+          parent = cond b (plannedParents (units s) (s .plan .parent) (s .tree .parent))
+              (parentRound (units s) (links s) (s .clock .made) (s .table .ends) (s .table .levels)
+              (s .components .color) (s .tree .dist) (s .tree .parent));
+          dist = cond b (plannedDists (units s) (s .plan .parent) (s .components .color) (s .tree .dist))
+              (distRound (units s) (links s) (s .clock .made) (s .table .ends) (s .table .levels) (s .components .color)
+              (s .tree .dist));
         })
         s
         ≡ cond b (Step.treePlanned s) (Step.treeSearched s)
@@ -89,7 +98,10 @@ tree-either s = go (taken (s .plan .given))
     go false = refl
 
 pub stage : (s : State)
-    → Stage 2 (units s) (linksFit (units s) (links s) (s .table .ends)) (λ (x : Ran). x .clock) (one (units s) (links s) (s .plan .given) (s .plan .parent) (s .table .ends) (s .table .levels) (s .components .color)) (λ (x : Ran). x .made) (into s)
+    → Stage 2 (units s) (linksFit (units s) (links s) (s .table .ends)) (λ (x : Ran). x .clock)
+    (one (units s) (links s) (s .plan .given) (s .plan .parent) (s .table .ends) (s .table .levels)
+    (s .components .color)) (λ (x : Ran). x .made) (into s)
 unfolding one lastAt endsAfter
 stage s =
-    on-links s (omega arith) (λ x. refl) (λ x. refl) (λ x. refl) (λ x w e. rw (step-by 2 tt (into s x) e) (ap (State.withClock _) (tree-either (into s x))))
+    on-links s (omega arith) (λ x. refl) (λ x. refl) (λ x. refl)
+    (λ x w e. rw (step-by 2 tt (into s x) e) (ap (State.withClock _) (tree-either (into s x))))

@@ -42,7 +42,9 @@ pub fn run<'a>(
     parent: [u16; 256],
     dist: [u16; 256],
 ) -> Ran
-    ensures { λ r. ⌜ r ≡ stageRun (on units links (now (ends .entry))) (one units links given (now (plan .entry)) (now (ends .entry)) (now (levels .entry)) (now (color .entry))) budget
+    ensures { λ r. ⌜ r ≡ stageRun (on units links (now (ends .entry)))
+        (one units links given (now (plan .entry)) (now (ends .entry)) (now (levels .entry)) (now (color .entry)))
+        budget
         (record { parent = parent; dist = dist; clock = clock; made = 0 }) ⌝ }
 {
     let fits = bounds::links_fit(units, links, ends);
@@ -101,7 +103,8 @@ pub fn run<'a>(
     }
 }
 
-// The rest of the rounds at once, where no tree is given, the distances found ahead are right and the budget covers them.
+// The rest of the rounds at once, where no tree is given, the distances found ahead are right and the budget covers
+// them.
 fn remaining<'a>(
     units: u16,
     links: u16,
@@ -117,7 +120,9 @@ fn remaining<'a>(
     made: u16,
 ) -> Rest
     requires { ⌜ (linksFit units links (now ends) ≡ true) × (inStage units 2 clock ≡ true) × (made + left < 65536) ⌝ }
-    ensures { λ r. ⌜ (r .right ≡ true → r .run ≡ stageRun (on units links (now (ends .entry))) (one units links given (now (plan .entry)) (now (ends .entry)) (now (levels .entry)) (now (color .entry))) left
+    ensures { λ r. ⌜ (r .right ≡ true → r .run
+        ≡ stageRun (on units links (now (ends .entry)))
+        (one units links given (now (plan .entry)) (now (ends .entry)) (now (levels .entry)) (now (color .entry))) left
         (record { parent = parent; dist = dist; clock = clock; made = made })) ⌝ }
 {
     let found = stage02_leap::leap(units, links, clock.made, ends, levels, parent, dist);
@@ -163,9 +168,12 @@ fn round<'a>(
     dist: [u16; 256],
 ) -> After
     requires { ⌜ (units ≤ 256) × (links ≤ 1024) × EndsWithin units links (now ends) ⌝ }
-    ensures parents { λ r. ⌜ r .parent ≡ parentsAfter units links made given (now (plan .entry)) (now (ends .entry)) (now (levels .entry)) (now (color .entry)) dist parent ⌝ }
-    ensures dists { λ r. ⌜ r .dist ≡ distsAfter units links made given (now (plan .entry)) (now (ends .entry)) (now (levels .entry)) (now (color .entry)) dist ⌝ }
-    ensures ends { λ r. ⌜ r .ends ≡ endsAfter units links made given (now (ends .entry)) (now (levels .entry)) (now (color .entry)) dist ⌝ }
+    ensures parents { λ r. ⌜ r .parent ≡ parentsAfter units links made given (now (plan .entry)) (now (ends .entry))
+        (now (levels .entry)) (now (color .entry)) dist parent ⌝ }
+    ensures dists { λ r. ⌜ r .dist ≡ distsAfter units links made given (now (plan .entry)) (now (ends .entry))
+        (now (levels .entry)) (now (color .entry)) dist ⌝ }
+    ensures ends { λ r. ⌜ r .ends ≡ endsAfter units links made given (now (ends .entry)) (now (levels .entry))
+        (now (color .entry)) dist ⌝ }
 {
     if given != 0 {
         let new = stage02_planned::take_over(units, plan, color, parent, dist);

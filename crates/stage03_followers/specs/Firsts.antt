@@ -26,7 +26,8 @@ module _ (p : ℕ → Bool) where
   -- the first that passes
   first-hit : (n k : ℕ) → k < n → k ≤ ABSENT → first k p ≡ ABSENT → p k ≡ true → k ≡ first n p
   first-hit n k h small none e =
-      le-antisymm (least-greatest n (λ (w : ℕ). cond (p w) w ABSENT) ABSENT k small (λ (i : ℕ) (l : i < n). go i (decLt i k)))
+      le-antisymm (least-greatest n (λ (w : ℕ). cond (p w) w ABSENT) ABSENT k small
+      (λ (i : ℕ) (l : i < n). go i (decLt i k)))
       (rw e at (least-le n (λ (w : ℕ). cond (p w) w ABSENT) ABSENT k h))
     where
       go : (i : ℕ) → Dec (i < k) → k ≤ cond (p i) i ABSENT
@@ -40,7 +41,8 @@ firstFrom n k p = first n (λ (w : ℕ). leb k w && p w)
 -- tests that agree below n
 pub first-same : (n : ℕ) (p q : ℕ → Bool) → ((w : ℕ) → w < n → p w ≡ q w) → first n p ≡ first n q
 first-same n p q h =
-    fold-cong min n (λ (w : ℕ). cond (p w) w ABSENT) (λ (w : ℕ). cond (q w) w ABSENT) ABSENT (λ (w : ℕ) (l : w < n). one w (h w l))
+    fold-cong min n (λ (w : ℕ). cond (p w) w ABSENT) (λ (w : ℕ). cond (q w) w ABSENT) ABSENT
+    (λ (w : ℕ) (l : w < n). one w (h w l))
   where
     one : (w : ℕ) → p w ≡ q w → cond (p w) w ABSENT ≡ cond (q w) w ABSENT
     one w e = rw e
@@ -49,12 +51,14 @@ first-same n p q h =
 first-none-of : (n : ℕ) (p : ℕ → Bool) → ((w : ℕ) → w < n → p w ≡ false) → first n p ≡ ABSENT
 first-none-of n p h =
     le-antisymm (least-start n (λ (w : ℕ). cond (p w) w ABSENT) ABSENT)
-    (least-greatest n (λ (w : ℕ). cond (p w) w ABSENT) ABSENT ABSENT (omega arith) (λ (w : ℕ) (l : w < n). rw (h w l) (omega arith)))
+    (least-greatest n (λ (w : ℕ). cond (p w) w ABSENT) ABSENT ABSENT (omega arith)
+    (λ (w : ℕ) (l : w < n). rw (h w l) (omega arith)))
 
 early : (k w : ℕ) (b : Bool) → w < k → (leb k w && b) ≡ false
 early k w b h = rw (lt-leb k w h)
 
-from-same : (k w : ℕ) (b : Bool) → (w ≡ k → b ≡ false) → Dec (w < k) → Dec (w ≡ k) → (leb k w && b) ≡ (leb (k + 1) w && b)
+from-same : (k w : ℕ) (b : Bool) → (w ≡ k → b ≡ false) → Dec (w < k) → Dec (w ≡ k) →
+    (leb k w && b) ≡ (leb (k + 1) w && b)
 from-same k w b miss (yes h) d = rw (lt-leb k w h, lt-leb (k + 1) w (omega arith))
 from-same k w b miss (no h) (yes e) = rw (le-leb k w (omega arith), lt-leb (k + 1) w (omega (arith, e))) (miss e)
 from-same k w b miss (no h) (no e) = rw (le-leb k w (omega arith), le-leb (k + 1) w (omega (arith, e)))

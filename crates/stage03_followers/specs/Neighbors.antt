@@ -1,4 +1,5 @@
--- The neighbour after, from the tables of the scan: a tree neighbour is a child or the parent, and the least of both kinds is the lesser of two.
+-- The neighbour after, from the tables of the scan: a tree neighbour is a child or the parent, and the least of both
+-- kinds is the lesser of two.
 use mathlib.Core.Path.{_≡_, refl, sym, ap₂, _∙_}
 use mathlib.Core.Bool.{Bool, true, false, cond, _&&_, _||_}
 use mathlib.Core.Logic.{_⊎_, inl, inr}
@@ -31,7 +32,10 @@ abbrev pub fits : ℕ → List ℕ → Bool
 fits n parent = leb n 256 && every (nameOk n) parent
 
 pub fit-parents : (n : ℕ) (parent : List ℕ) → length parent ≡ 256 → fits n parent ≡ true → Parents n parent
-fit-parents n parent full e = (leb-true n 256 (and-left (leb n 256) (every (nameOk n) parent) e), (full, and-right (leb n 256) (every (nameOk n) parent) e))
+fit-parents n parent full e = (
+  leb-true n 256 (and-left (leb n 256) (every (nameOk n) parent) e),
+  (full, and-right (leb n 256) (every (nameOk n) parent) e),
+)
 
 module _ (n : ℕ) (parent : List ℕ) (fit : Parents n parent) (v : ℕ) (below : v < n) where
   kept : nameOk n (at parent v) ≡ true
@@ -84,12 +88,14 @@ module _ (n g : ℕ) (p : ℕ → Bool) (small : n ≤ ABSENT) where
   kept-go (inl e) =
       let h : g < n = ltb-true g n e in
       le-antisymm (rw (eq-eqb g g refl) at (least-le n one ABSENT g h))
-      (least-greatest n one ABSENT (cond (p g) g ABSENT) (chosen-le (p g) g (omega arith)) (λ (w : ℕ) (l : w < n). lower (omega arith) w (ℕ-discrete g w)))
+      (least-greatest n one ABSENT (cond (p g) g ABSENT) (chosen-le (p g) g (omega arith))
+      (λ (w : ℕ) (l : w < n). lower (omega arith) w (ℕ-discrete g w)))
   kept-go (inr e) =
       let a : g ≡ ABSENT = eqb-true g ABSENT e in
       let same : cond (p g) g ABSENT ≡ ABSENT = absent-either (p g) g a in
       le-antisymm (rw same (least-start n one ABSENT))
-      (least-greatest n one ABSENT (cond (p g) g ABSENT) (chosen-le (p g) g (omega (arith, a))) (λ (w : ℕ) (l : w < n). lower (omega (arith, a)) w (ℕ-discrete g w)))
+      (least-greatest n one ABSENT (cond (p g) g ABSENT) (chosen-le (p g) g (omega (arith, a)))
+      (λ (w : ℕ) (l : w < n). lower (omega (arith, a)) w (ℕ-discrete g w)))
 
   first-own : nameOk n g ≡ true → first n (λ (w : ℕ). eqb g w && p w) ≡ cond (p g) g ABSENT
   first-own kept = kept-go (or-cases (ltb g n) (eqb g ABSENT) kept)
@@ -119,14 +125,17 @@ and-swap false false = refl
 -- the neighbour after u, from the first child past u, the first child, and the parent
 abbrev pub turnTo : ℕ → ℕ → ℕ → ℕ → ℕ
 turnTo later eldest own u =
-    cond (eqb (min later (cond (ltb u own) own ABSENT)) ABSENT) (min eldest own) (min later (cond (ltb u own) own ABSENT))
+    cond (eqb (min later (cond (ltb u own) own ABSENT)) ABSENT) (min eldest own)
+    (min later (cond (ltb u own) own ABSENT))
 
 module _ (n : ℕ) (parent : List ℕ) (v : ℕ) (small : n ≤ ABSENT) (kept : nameOk n (at parent v) ≡ true) where
-  greater-by : (u : ℕ) → Tour.greaterNeighbor n parent v u ≡ min (firstFrom n (u + 1) (isChild parent v)) (cond (ltb u (at parent v)) (at parent v) ABSENT)
+  greater-by : (u : ℕ) → Tour.greaterNeighbor n parent v u
+      ≡ min (firstFrom n (u + 1) (isChild parent v)) (cond (ltb u (at parent v)) (at parent v) ABSENT)
   unfolding Tour.greaterNeighbor firstFrom
   greater-by u =
       rw (add-one u)
-      (first-same n (λ (w : ℕ). Tour.treeNeighbor parent v w && ltb u w) (λ (w : ℕ). (ltb u w && isChild parent v w) || (eqb (at parent v) w && ltb u w))
+      (first-same n (λ (w : ℕ). Tour.treeNeighbor parent v w && ltb u w)
+      (λ (w : ℕ). (ltb u w && isChild parent v w) || (eqb (at parent v) w && ltb u w))
       (λ (w : ℕ) (l : w < n). spread (eqb (at parent w) v) (eqb (at parent v) w) (ltb u w))
       ∙ first-or n (λ (w : ℕ). ltb u w && isChild parent v w) (λ (w : ℕ). eqb (at parent v) w && ltb u w)
       ∙ ap₂ min refl (first-own n (at parent v) (λ (w : ℕ). ltb u w) small kept))
@@ -139,13 +148,15 @@ module _ (n : ℕ) (parent : List ℕ) (v : ℕ) (small : n ≤ ABSENT) (kept : 
       ∙ first-or n (isChild parent v) (λ (w : ℕ). eqb (at parent v) w && true)
       ∙ ap₂ min (sym (from-start n (isChild parent v))) (first-own n (at parent v) (λ (w : ℕ). true) small kept)
 
-  turn-right : (u later eldest : ℕ) → later ≡ firstFrom n (u + 1) (isChild parent v) → eldest ≡ firstFrom n 0 (isChild parent v)
+  turn-right : (u later eldest : ℕ) → later ≡ firstFrom n (u + 1) (isChild parent v) →
+      eldest ≡ firstFrom n 0 (isChild parent v)
       → turnTo later eldest (at parent v) u ≡ Tour.neighborAfter n parent v u
   unfolding Tour.neighborAfter
   turn-right u later eldest e f = rw (greater-by u, least-by, e, f)
 
 -- the first child past the parent
-past-from : (n : ℕ) (parent : List ℕ) (v : ℕ) → firstFrom n 0 (isPast parent v) ≡ firstFrom n (at parent v + 1) (isChild parent v)
+past-from : (n : ℕ) (parent : List ℕ) (v : ℕ) →
+    firstFrom n 0 (isPast parent v) ≡ firstFrom n (at parent v + 1) (isChild parent v)
 unfolding firstFrom
 past-from n parent v =
     rw (add-one (at parent v))
@@ -157,13 +168,15 @@ past-from n parent v =
 -- of the arc into v
 abbrev pub inBy : List ℕ → List ℕ → List ℕ → ℕ → ℕ
 inBy parent eldest past v =
-    cond (eqb (at parent v) ABSENT) ABSENT (min (Tour.arcFrom parent v (turnTo (at past v) (at eldest v) (at parent v) (at parent v))) ABSENT)
+    cond (eqb (at parent v) ABSENT) ABSENT
+    (min (Tour.arcFrom parent v (turnTo (at past v) (at eldest v) (at parent v) (at parent v))) ABSENT)
 
 -- of the arc out of v
 abbrev pub outBy : List ℕ → List ℕ → List ℕ → ℕ → ℕ
 outBy parent eldest later v =
     cond (eqb (at parent v) ABSENT) ABSENT
-    (min (Tour.arcFrom parent (at parent v) (turnTo (at later v) (at eldest (at parent v)) (at parent (at parent v)) v)) ABSENT)
+    (min (Tour.arcFrom parent (at parent v) (turnTo (at later v) (at eldest (at parent v)) (at parent (at parent v)) v))
+    ABSENT)
 
 module _ (n : ℕ) (parent eldest later past : List ℕ) (fit : Parents n parent) (eldests : Eldest 256 n 0 parent eldest)
     (laters : Later n 0 parent later) (pasts : Past n 0 parent past) (v : ℕ) (below : v < n) where
@@ -173,7 +186,8 @@ module _ (n : ℕ) (parent eldest later past : List ℕ) (fit : Parents n parent
       go : Dec (at parent v ≡ ABSENT) → inBy parent eldest past v ≡ storedNext n parent (2 * v)
       go (yes e) = rw (eq-eqb (at parent v) ABSENT e) (next-in-root n parent v e)
       go (no e) =
-          let turn = turn-right n parent v (omega (arith, fit .0)) (kept n parent fit v below) (at parent v) (at past v) (at eldest v)
+          let turn = turn-right n parent v (omega (arith, fit .0)) (kept n parent fit v below) (at parent v) (at past v)
+          (at eldest v)
           (pasts v (omega (arith, fit .0)) ∙ past-from n parent v) (eldests v (omega (arith, fit .0))) in
           rw (ne-eqb (at parent v) ABSENT e, turn) (next-in-arc n parent v e _ refl)
 
@@ -184,6 +198,8 @@ module _ (n : ℕ) (parent eldest later past : List ℕ) (fit : Parents n parent
       go (yes e) = rw (eq-eqb (at parent v) ABSENT e) (next-out-root n parent v e)
       go (no e) =
           let h : at parent v < n = unit-of n parent fit v below e in
-          let turn = turn-right n parent (at parent v) (omega (arith, fit .0)) (kept n parent fit (at parent v) h) v (at later v) (at eldest (at parent v))
-          (laters v (omega arith) below (omega (arith, fit .0)) (omega (arith, fit .0))) (eldests (at parent v) (omega (arith, fit .0))) in
+          let turn = turn-right n parent (at parent v) (omega (arith, fit .0)) (kept n parent fit (at parent v) h) v
+          (at later v) (at eldest (at parent v))
+          (laters v (omega arith) below (omega (arith, fit .0)) (omega (arith, fit .0)))
+          (eldests (at parent v) (omega (arith, fit .0))) in
           rw (ne-eqb (at parent v) ABSENT e, turn) (next-out-arc n parent v e _ refl)

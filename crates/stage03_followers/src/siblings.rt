@@ -1,4 +1,5 @@
-// The children of every unit in order, by one scan from the greatest unit down: what follows a tree neighbour is read, and not looked for.
+// The children of every unit in order, by one scan from the greatest unit down: what follows a tree neighbour is read,
+// and not looked for.
 use table_values::tables;
 ghost use mathlib.Core.Path.{_≡_};
 ghost use Prim.Native.Nat.{_≤_};

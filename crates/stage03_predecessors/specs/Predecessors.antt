@@ -1,5 +1,5 @@
--- The predecessors, as code makes them: the first item with a key is the last that a scan down stores, and where a root has no arc its start does not
--- count.
+-- The predecessors, as code makes them: the first item with a key is the last that a scan down stores, and where a root
+-- has no arc its start does not count.
 use mathlib.Core.Path.{_≡_, refl, _∙_}
 use mathlib.Core.Bool.{cond, not, _&&_}
 use mathlib.Core.List.{List}
@@ -19,14 +19,16 @@ use Rattle.stage03_followers.specs.Siblings.{Eldest, isChild}
 use Rattle.stage03_followers.specs.Neighbors.{Parents, unit-of}
 
 -- a scan's end
-pub first-by : (n : ℕ) (key t : List ℕ) → Eldest BUCKETS n 0 key t → (q : ℕ) → q < BUCKETS → getD t q 0 ≡ firstAt n key q
+pub first-by : (n : ℕ) (key t : List ℕ) → Eldest BUCKETS n 0 key t → (q : ℕ) → q < BUCKETS →
+    getD t q 0 ≡ firstAt n key q
 unfolding firstAt
 first-by n key t known q h = known q h ∙ from-start n (isChild key q)
 
 -- of the arc into v: it starts its list as the first child of a root
 abbrev pub intoBy : List ℕ → List ℕ → List ℕ → ℕ → ℕ
 intoBy parent child first v =
-    cond (not (isRoot parent v) && not (isRoot parent (at parent v) && eqb (at child (at parent v)) v)) (at first (2 * v)) ABSENT
+    cond (not (isRoot parent v) && not (isRoot parent (at parent v) && eqb (at child (at parent v)) v))
+    (at first (2 * v)) ABSENT
 
 into-same : (n : ℕ) (parent child first : List ℕ) (lost v : ℕ) → Parents n parent → v < n → Dec (at parent v ≡ ABSENT)
     → intoBy parent child first v ≡ predIn n parent child lost first v
@@ -51,7 +53,8 @@ module _ (n : ℕ) (parent next child first : List ℕ) (fit : Parents n parent)
       ∙ pred-in n parent next child first (firstAt n parent ABSENT) small children refl known v (omega (arith, fit .0))
 
   pub out-right : predOut parent first v ≡ Tour.predecessor n parent next (2 * v + 1)
-  out-right = pred-out n parent next child first (firstAt n parent ABSENT) small children refl known v (omega (arith, fit .0))
+  out-right = pred-out n parent next child first (firstAt n parent ABSENT) small children refl known v
+      (omega (arith, fit .0))
 
 -- both arcs of a unit begin alike
 pub sum-into : (parent : List ℕ) (v : ℕ) → cond (not (isRoot parent v)) 1 0 ≡ Tour.firstSum parent (2 * v)

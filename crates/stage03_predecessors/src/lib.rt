@@ -1,4 +1,5 @@
-// Round two of stage 3: the predecessor of each arc, and the start of the first ranking. A turn gives both arcs of a unit.
+// Round two of stage 3: the predecessor of each arc, and the start of the first ranking. A turn gives both arcs of a
+// unit.
 use table::ABSENT;
 use table_values::bounds;
 use table_values::tables;
@@ -13,7 +14,8 @@ ghost use Rattle.spec_rules.specs.TourLaws.{predOut};
 ghost use Rattle.stage03_followers.specs.Neighbors.{Parents, fits};
 ghost use Rattle.stage03_predecessors.specs.Predecessors.{intoBy};
 
-// The predecessors, and what begins the first ranking: the same as working predecessors, and 1 for each arc that stands.
+// The predecessors, and what begins the first ranking: the same as working predecessors, and 1 for each arc that
+// stands.
 pub struct Begun {
     pub pred: [u16; 512],
     pub jump: [u16; 512],
@@ -29,9 +31,12 @@ pub fn pred_round<'a>(
     jump: [u16; 512],
     sum: [u16; 512],
 ) -> Begun
-    ensures preds { λ r. ⌜ r .pred ≡ cond (fits units (now (parent .entry))) (predRound units (now (parent .entry)) (now (next .entry)) pred) pred ⌝ }
-    ensures jumps { λ r. ⌜ r .jump ≡ cond (fits units (now (parent .entry))) (firstJumps units (now (parent .entry)) (now (next .entry)) jump) jump ⌝ }
-    ensures sums { λ r. ⌜ r .sum ≡ cond (fits units (now (parent .entry))) (firstSums units (now (parent .entry)) sum) sum ⌝ }
+    ensures preds { λ r. ⌜ r .pred ≡ cond (fits units (now (parent .entry)))
+        (predRound units (now (parent .entry)) (now (next .entry)) pred) pred ⌝ }
+    ensures jumps { λ r. ⌜ r .jump ≡ cond (fits units (now (parent .entry)))
+        (firstJumps units (now (parent .entry)) (now (next .entry)) jump) jump ⌝ }
+    ensures sums { λ r. ⌜ r .sum ≡ cond (fits units (now (parent .entry)))
+        (firstSums units (now (parent .entry)) sum) sum ⌝ }
 {
     let fit = table_values::both(units <= 256, bounds::names_ok(units as u32, parent));
     if !fit {
@@ -81,7 +86,8 @@ fn pred_by<'a>(
     }
 }
 
-// The first of `count` items with each key, by a scan from the last down: what is stored last stands, and nothing is compared.
+// The first of `count` items with each key, by a scan from the last down: what is stored last stands, and nothing is
+// compared.
 fn fill(count: u16, key: &[u16]) -> [u16; 512]
     requires { ⌜ count ≤ length (now key) ⌝ }
     ensures { λ r. ⌜ ((q : ℕ) → q < BUCKETS → getD r q 0 ≡ firstAt count (now (key .entry)) q) ⌝ }

@@ -28,7 +28,14 @@ unfoldable pub one : ℕ → List ℕ → Ran → Ran
 one n parent x =
     let after = nextClock (lastAt n (eqb (x .clock .made) 1) (x .clock)) 0 (x .clock) in
     cond (eqb (x .clock .made) 0)
-    (record { next = nextRound n parent (x .next); pred = x .pred; jump = x .jump; sum = x .sum; clock = after; made = x .made + 1 })
+    (record {
+      next = nextRound n parent (x .next);
+      pred = x .pred;
+      jump = x .jump;
+      sum = x .sum;
+      clock = after;
+      made = x .made + 1;
+    })
     (record {
       next = x .next;
       pred = predRound n parent (x .next) (x .pred);
@@ -42,10 +49,12 @@ one n parent x =
 abbrev pub into : State → Ran → State
 into s x =
     State.withClock (x .clock)
-    (State.withTour (record { next = x .next; pred = x .pred }) (State.withRanking (record { jump = x .jump; sum = x .sum }) s))
+    (State.withTour (record { next = x .next; pred = x .pred })
+    (State.withRanking (record { jump = x .jump; sum = x .sum }) s))
 
 pub stage : (s : State)
-    → Stage 3 (units s) (every (nameOk (units s)) (s .tree .parent)) (λ (x : Ran). x .clock) (one (units s) (s .tree .parent)) (λ (x : Ran). x .made) (into s)
+    → Stage 3 (units s) (every (nameOk (units s)) (s .tree .parent)) (λ (x : Ran). x .clock)
+    (one (units s) (s .tree .parent)) (λ (x : Ran). x .made) (into s)
 unfolding one lastAt Step.tour Step.tourNext Step.tourPred
 stage s =
     record {
@@ -57,7 +66,8 @@ stage s =
       steps = λ x w e. steps x e (either (eqb (x .clock .made) 0));
     }
   where
-    counts : (x : Ran) → (eqb (x .clock .made) 0 ≡ true) ⊎ (eqb (x .clock .made) 0 ≡ false) → one (units s) (s .tree .parent) x .made ≡ x .made + 1
+    counts : (x : Ran) → (eqb (x .clock .made) 0 ≡ true) ⊎ (eqb (x .clock .made) 0 ≡ false) →
+        one (units s) (s .tree .parent) x .made ≡ x .made + 1
     counts x (inl h) = rw h refl
     counts x (inr h) = rw h refl
 

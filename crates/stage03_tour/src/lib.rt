@@ -1,5 +1,5 @@
-// Stage 3, tour: the Euler tour of each tree. Its first round finds the followers of arcs, its second their predecessors, with the start of the first
-// ranking.
+// Stage 3, tour: the Euler tour of each tree. Its first round finds the followers of arcs, its second their
+// predecessors, with the start of the first ranking.
 use spec_state::Clock;
 use table_values::bounds;
 ghost use mathlib.Core.Path.{_≡_};

@@ -84,7 +84,8 @@ fn entries_of(objects: usize, t: &[u16]) -> usize
     if objects < n { objects } else { n }
 }
 
-// A round in place, from copies of the tables. An object without a predecessor keeps its entries: nothing is stored there.
+// A round in place, from copies of the tables. An object without a predecessor keeps its entries: nothing is stored
+// there.
 pub fn double(objects: usize, jump: &mut [u16; 512], sum: &mut [u16; 512])
     ensures jumps { λ _. ⌜ now (jump .exit) ≡ jumpRound objects (now (jump .entry)) ⌝ }
     ensures sums { λ _. ⌜ now (sum .exit) ≡ sumRound objects (now (jump .entry)) (now (sum .entry)) ⌝ }
@@ -119,7 +120,8 @@ fn with_entries(objects: usize) -> usize
     if objects < 512 { objects } else { 512 }
 }
 
-// The requests of a round, of the objects that have entries. Counted in a word: such a pass is taken several words at a time.
+// The requests of a round, of the objects that have entries. Counted in a word: such a pass is taken several words at a
+// time.
 pub fn requests(objects: usize, jump: &[u16; 512]) -> u16
     ensures { λ r. ⌜ r ≡ requestsOf (min objects 512) (now (jump .entry)) ⌝ }
 {

@@ -11,15 +11,19 @@ use Rattle.spec_rules.specs.TourLaws.{unit-into, unit-out, even-into, odd-out}
 
 module _ (parent : List ℕ) (v : ℕ) where
   module _ (rank : List ℕ) where
-    pub forward-into : cond (not (isRoot parent v) && ltb (at rank (2 * v)) (at rank (2 * v + 1))) 1 0 ≡ forwardMark parent rank (2 * v)
+    pub forward-into : cond (not (isRoot parent v) && ltb (at rank (2 * v)) (at rank (2 * v + 1))) 1 0
+        ≡ forwardMark parent rank (2 * v)
     forward-into = rw (unit-into v, even-into v)
 
-    pub forward-out : cond (not (isRoot parent v) && ltb (at rank (2 * v + 1)) (at rank (2 * v))) 1 0 ≡ forwardMark parent rank (2 * v + 1)
+    pub forward-out : cond (not (isRoot parent v) && ltb (at rank (2 * v + 1)) (at rank (2 * v))) 1 0
+        ≡ forwardMark parent rank (2 * v + 1)
     forward-out = let e : 2 * v + 1 - 1 ≡ 2 * v = omega arith in rw (unit-out v, odd-out v, e)
 
   module _ (forward : List ℕ) where
-    pub second-into : cond (not (isRoot parent v) && not (eqb (at forward (2 * v)) 0)) 1 0 ≡ secondSum parent forward (2 * v)
+    pub second-into : cond (not (isRoot parent v) && not (eqb (at forward (2 * v)) 0)) 1 0
+        ≡ secondSum parent forward (2 * v)
     second-into = rw (unit-into v)
 
-    pub second-out : cond (not (isRoot parent v) && not (eqb (at forward (2 * v + 1)) 0)) 1 0 ≡ secondSum parent forward (2 * v + 1)
+    pub second-out : cond (not (isRoot parent v) && not (eqb (at forward (2 * v + 1)) 0)) 1 0
+        ≡ secondSum parent forward (2 * v + 1)
     second-out = rw (unit-out v)

@@ -25,7 +25,14 @@ unfoldable pub one : ℕ → List ℕ → List ℕ → List ℕ → Ran → Ran
 one n color parent pred x =
     let after = nextClock (lastAt n (eqb (x .clock .made) 1) (x .clock)) 0 (x .clock) in
     cond (eqb (x .clock .made) 0)
-    (record { forward = forwardRound n parent (x .sum) (x .forward); nd = x .nd; jump = x .jump; sum = x .sum; clock = after; made = x .made + 1 })
+    (record {
+      forward = forwardRound n parent (x .sum) (x .forward);
+      nd = x .nd;
+      jump = x .jump;
+      sum = x .sum;
+      clock = after;
+      made = x .made + 1;
+    })
     (record {
       forward = x .forward;
       nd = ndRound n color parent (x .sum) (x .nd);
@@ -43,7 +50,8 @@ into s x =
     (State.withRanking (record { jump = x .jump; sum = x .sum }) s))
 
 pub stage : (s : State)
-    → Stage 5 (units s) true (λ (x : Ran). x .clock) (one (units s) (s .components .color) (s .tree .parent) (s .tour .pred)) (λ (x : Ran). x .made) (into s)
+    → Stage 5 (units s) true (λ (x : Ran). x .clock)
+    (one (units s) (s .components .color) (s .tree .parent) (s .tour .pred)) (λ (x : Ran). x .made) (into s)
 unfolding one lastAt Step.marks Step.marksForward Step.marksDescendants
 stage s =
     record {

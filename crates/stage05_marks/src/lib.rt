@@ -33,7 +33,8 @@ pub fn run<'a>(
     jump: [u16; 512],
     sum: [u16; 512],
 ) -> Ran
-    ensures { λ r. ⌜ r ≡ stageRun (on units) (one units (now (color .entry)) (now (parent .entry)) (now (pred .entry))) budget
+    ensures { λ r. ⌜ r ≡ stageRun (on units)
+        (one units (now (color .entry)) (now (parent .entry)) (now (pred .entry))) budget
         (record { forward = forward; nd = nd; jump = jump; sum = sum; clock = clock; made = 0 }) ⌝ }
 {
     let mut marks = forward;
@@ -75,7 +76,8 @@ fn forward_mark(arc: bool, own: u16, other: u16) -> u16
 // Round one: the forward marks.
 fn mark<'a>(units: u16, parent: &'a [u16; 256], rank: &'a [u16; 512], forward: &mut [u16; 512])
     requires { ⌜ units ≤ 256 ⌝ }
-    ensures { λ _. ⌜ now (forward .exit) ≡ forwardRound units (now (parent .entry)) (now (rank .entry)) (now (forward .entry)) ⌝ }
+    ensures { λ _. ⌜ now (forward .exit)
+        ≡ forwardRound units (now (parent .entry)) (now (rank .entry)) (now (forward .entry)) ⌝ }
 {
     let n = units as usize;
     let mut v: usize = 0;
@@ -100,7 +102,8 @@ fn descend<'a>(
     nd: &mut [u16; 256],
 )
     requires { ⌜ units ≤ 256 ⌝ }
-    ensures { λ _. ⌜ now (nd .exit) ≡ ndRound units (now (color .entry)) (now (parent .entry)) (now (rank .entry)) (now (nd .entry)) ⌝ }
+    ensures { λ _. ⌜ now (nd .exit) ≡ ndRound units (now (color .entry)) (now (parent .entry)) (now (rank .entry))
+        (now (nd .entry)) ⌝ }
 {
     let bucket = counts::equal_table(units, color);
     let absent = counts::count_at(false, units, color, ABSENT);
@@ -133,7 +136,8 @@ fn second<'a>(
 )
     requires { ⌜ units ≤ 256 ⌝ }
     ensures jumps { λ _. ⌜ now (jump .exit) ≡ secondJumps units (now (pred .entry)) (now (jump .entry)) ⌝ }
-    ensures sums { λ _. ⌜ now (sum .exit) ≡ secondSums units (now (parent .entry)) (now (forward .entry)) (now (sum .entry)) ⌝ }
+    ensures sums { λ _. ⌜ now (sum .exit)
+        ≡ secondSums units (now (parent .entry)) (now (forward .entry)) (now (sum .entry)) ⌝ }
 {
     let n = units as usize;
     let mut v: usize = 0;

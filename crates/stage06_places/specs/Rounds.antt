@@ -41,7 +41,8 @@ into s x =
     (State.withRanking (record { jump = x .jump; sum = x .sum }) s))
 
 pub stage : (s : State)
-    → Stage 6 (units s) true (λ (x : Ran). x .clock) (one (units s) (s .components .color) (s .tree .parent)) (λ (x : Ran). x .made) (into s)
+    → Stage 6 (units s) true (λ (x : Ran). x .clock) (one (units s) (s .components .color) (s .tree .parent))
+    (λ (x : Ran). x .made) (into s)
 unfolding one lastAt Step.lastRound Step.ranking Step.places
 stage s =
     record {
@@ -57,7 +58,8 @@ stage s =
     made x = one (units s) (s .components .color) (s .tree .parent) x
 
     steps : (x : Ran) → x .clock .stage ≡ 6
-        → (lastAt (units s) (rankingEnds (2 * units s) (x .jump)) (x .clock) ≡ true) ⊎ (lastAt (units s) (rankingEnds (2 * units s) (x .jump)) (x .clock) ≡ false)
+        → (lastAt (units s) (rankingEnds (2 * units s) (x .jump)) (x .clock) ≡ true)
+        ⊎ (lastAt (units s) (rankingEnds (2 * units s) (x .jump)) (x .clock) ≡ false)
         → into s (made x) ≡ Step.step (into s x)
     steps x e (inl h) = rw (step-by 6 tt (into s x) e, ends-at 6 (into s x) e, h)
     steps x e (inr h) = rw (step-by 6 tt (into s x) e, ends-at 6 (into s x) e, h)

@@ -122,7 +122,8 @@ fn number_if<'a>(
 )
     requires { ⌜ units ≤ 256 ⌝ }
     ensures { λ _. ⌜ now (pre .exit)
-        ≡ cond last (preRound units (now (color .entry)) (now (parent .entry)) (now (sum .entry)) (now (pre .entry))) (now (pre .entry)) ⌝ }
+        ≡ cond last (preRound units (now (color .entry)) (now (parent .entry)) (now (sum .entry)) (now (pre .entry)))
+        (now (pre .entry)) ⌝ }
 {
     if !last {
         return;
@@ -139,7 +140,8 @@ fn number<'a>(
     pre: &mut [u16; 256],
 )
     requires { ⌜ units ≤ 256 ⌝ }
-    ensures { λ _. ⌜ now (pre .exit) ≡ preRound units (now (color .entry)) (now (parent .entry)) (now (sum .entry)) (now (pre .entry)) ⌝ }
+    ensures { λ _. ⌜ now (pre .exit) ≡ preRound units (now (color .entry)) (now (parent .entry)) (now (sum .entry))
+        (now (pre .entry)) ⌝ }
 {
     let bucket = counts::below_table(units, color);
     let absent = counts::count_at(true, units, color, ABSENT);

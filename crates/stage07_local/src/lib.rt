@@ -1,4 +1,5 @@
-// The first round of stage 7: local values by one pass over the links, the unit at each place by buckets, then passes over places and units.
+// The first round of stage 7: local values by one pass over the links, the unit at each place by buckets, then passes
+// over places and units.
 use table::ABSENT;
 use table_values::bounds;
 use table_values::firsts;
@@ -45,9 +46,11 @@ fn hear_off<'a>(
 )
     requires { ⌜ (a < 256) × (b < 256) ⌝ }
     ensures low { λ _. ⌜ now (low .exit)
-        ≡ cond (offTree (now (parent .entry)) a b) (hears false maxUnits (now (pre .entry)) a b (now (low .entry))) (now (low .entry)) ⌝ }
+        ≡ cond (offTree (now (parent .entry)) a b) (hears false maxUnits (now (pre .entry)) a b (now (low .entry)))
+        (now (low .entry)) ⌝ }
     ensures high { λ _. ⌜ now (high .exit)
-        ≡ cond (offTree (now (parent .entry)) a b) (hears true maxUnits (now (pre .entry)) a b (now (high .entry))) (now (high .entry)) ⌝ }
+        ≡ cond (offTree (now (parent .entry)) a b) (hears true maxUnits (now (pre .entry)) a b (now (high .entry)))
+        (now (high .entry)) ⌝ }
 {
     let at_a = a as usize;
     let at_b = b as usize;
@@ -68,8 +71,10 @@ fn locals<'a>(
     pre: &'a [u16; 256],
 ) -> Local
     requires { ⌜ (n ≤ 256) × EndsWithin n links (now ends) ⌝ }
-    ensures low { λ r. ⌜ r .low ≡ localTable false links (now (ends .entry)) (now (parent .entry)) (now (pre .entry)) ⌝ }
-    ensures high { λ r. ⌜ r .high ≡ localTable true links (now (ends .entry)) (now (parent .entry)) (now (pre .entry)) ⌝ }
+    ensures low { λ r. ⌜ r .low ≡ localTable false links (now (ends .entry)) (now (parent .entry))
+        (now (pre .entry)) ⌝ }
+    ensures high { λ r. ⌜ r .high ≡ localTable true links (now (ends .entry)) (now (parent .entry))
+        (now (pre .entry)) ⌝ }
 {
     let mut low = *pre;
     let mut high = *pre;
@@ -94,8 +99,10 @@ fn segments_begin<'a>(
     greatest: &mut [u16; 256],
 )
     requires { ⌜ n ≤ 256 ⌝ }
-    ensures least { λ _. ⌜ now (least .exit) ≡ over n (localBy (now (first .entry)) (now (lows .entry))) (now (least .entry)) ⌝ }
-    ensures greatest { λ _. ⌜ now (greatest .exit) ≡ over n (localBy (now (first .entry)) (now (highs .entry))) (now (greatest .entry)) ⌝ }
+    ensures least { λ _. ⌜ now (least .exit)
+        ≡ over n (localBy (now (first .entry)) (now (lows .entry))) (now (least .entry)) ⌝ }
+    ensures greatest { λ _. ⌜ now (greatest .exit)
+        ≡ over n (localBy (now (first .entry)) (now (highs .entry))) (now (greatest .entry)) ⌝ }
 {
     let count = n as usize;
     let mut q: usize = 0;
@@ -142,9 +149,11 @@ fn units_begin<'a>(
 )
     requires { ⌜ n ≤ 256 ⌝ }
     ensures low { λ _. ⌜ now (low .exit)
-        ≡ over n (beginBy n (now (first .entry)) (now (lows .entry)) (now (nd .entry)) (now (pre .entry))) (now (low .entry)) ⌝ }
+        ≡ over n (beginBy n (now (first .entry)) (now (lows .entry)) (now (nd .entry)) (now (pre .entry)))
+        (now (low .entry)) ⌝ }
     ensures high { λ _. ⌜ now (high .exit)
-        ≡ over n (beginBy n (now (first .entry)) (now (highs .entry)) (now (nd .entry)) (now (pre .entry))) (now (high .entry)) ⌝ }
+        ≡ over n (beginBy n (now (first .entry)) (now (highs .entry)) (now (nd .entry)) (now (pre .entry)))
+        (now (high .entry)) ⌝ }
 {
     let count = n as usize;
     let mut v: usize = 0;
@@ -188,7 +197,8 @@ fn ends_begin<'a>(
     }
 }
 
-// All tables after the first round. Of more than 256 units, or where an end is none of them, as in no state, nothing is changed.
+// All tables after the first round. Of more than 256 units, or where an end is none of them, as in no state, nothing is
+// changed.
 pub fn begin<'a>(
     n: u16,
     links: u16,
@@ -204,17 +214,27 @@ pub fn begin<'a>(
     greatest: &mut [u16; 256],
 )
     ensures low { λ _. ⌜ now (low .exit)
-        ≡ cond (fits n links (now (ends .entry))) (rangeFirst min n links (now (ends .entry)) (now (parent .entry)) (now (nd .entry)) (now (pre .entry)) (now (low .entry))) (now (low .entry)) ⌝ }
+        ≡ cond (fits n links (now (ends .entry)))
+        (rangeFirst min n links (now (ends .entry)) (now (parent .entry)) (now (nd .entry)) (now (pre .entry))
+        (now (low .entry))) (now (low .entry)) ⌝ }
     ensures high { λ _. ⌜ now (high .exit)
-        ≡ cond (fits n links (now (ends .entry))) (rangeFirst max n links (now (ends .entry)) (now (parent .entry)) (now (nd .entry)) (now (pre .entry)) (now (high .entry))) (now (high .entry)) ⌝ }
+        ≡ cond (fits n links (now (ends .entry)))
+        (rangeFirst max n links (now (ends .entry)) (now (parent .entry)) (now (nd .entry)) (now (pre .entry))
+        (now (high .entry))) (now (high .entry)) ⌝ }
     ensures little { λ _. ⌜ now (little .exit)
-        ≡ cond (fits n links (now (ends .entry))) (littleFirst n (now (pre .entry)) (now (little .entry))) (now (little .entry)) ⌝ }
+        ≡ cond (fits n links (now (ends .entry))) (littleFirst n (now (pre .entry)) (now (little .entry)))
+        (now (little .entry)) ⌝ }
     ensures big { λ _. ⌜ now (big .exit)
-        ≡ cond (fits n links (now (ends .entry))) (bigFirst n (now (nd .entry)) (now (pre .entry)) (now (big .entry))) (now (big .entry)) ⌝ }
+        ≡ cond (fits n links (now (ends .entry))) (bigFirst n (now (nd .entry)) (now (pre .entry)) (now (big .entry)))
+        (now (big .entry)) ⌝ }
     ensures least { λ _. ⌜ now (least .exit)
-        ≡ cond (fits n links (now (ends .entry))) (globalFirst min n links (now (ends .entry)) (now (parent .entry)) (now (pre .entry)) (now (least .entry))) (now (least .entry)) ⌝ }
+        ≡ cond (fits n links (now (ends .entry)))
+        (globalFirst min n links (now (ends .entry)) (now (parent .entry)) (now (pre .entry)) (now (least .entry)))
+        (now (least .entry)) ⌝ }
     ensures greatest { λ _. ⌜ now (greatest .exit)
-        ≡ cond (fits n links (now (ends .entry))) (globalFirst max n links (now (ends .entry)) (now (parent .entry)) (now (pre .entry)) (now (greatest .entry))) (now (greatest .entry)) ⌝ }
+        ≡ cond (fits n links (now (ends .entry)))
+        (globalFirst max n links (now (ends .entry)) (now (parent .entry)) (now (pre .entry))
+        (now (greatest .entry))) (now (greatest .entry)) ⌝ }
 {
     let fit = table_values::both(n <= 256, bounds::links_fit(n, links, ends));
     if !fit {

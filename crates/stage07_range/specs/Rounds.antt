@@ -13,7 +13,8 @@ use Rattle.base_log2.specs.Lg.{lg}
 use Rattle.base_log2.specs.LgLaws.{lg-least}
 use Rattle.table.specs.Passes.{passes}
 use Rattle.spec_rules.specs.Fits.{linksFit}
-use Rattle.spec_rules.specs.Range.{globalFirst, rangeFirst, littleFirst, bigFirst, rangeLater, littleLater, bigLater, globalLater, rangeEnds}
+use Rattle.spec_rules.specs.Range.{globalFirst, rangeFirst, littleFirst, bigFirst, rangeLater, littleLater, bigLater}
+use Rattle.spec_rules.specs.Range.{globalLater, rangeEnds}
 use Rattle.spec_state.specs.declared.groups.Clock.{Clock}
 use Rattle.spec_machine.specs.State
 use Rattle.spec_machine.specs.State.{State, units, links, FINISHED}
@@ -58,21 +59,45 @@ one n m ends parent nd pre x =
     })
 
 -- a round by its tables and its clock: the first, and a later one
-module _ (n m : ℕ) (ends parent nd pre : List ℕ) (x : Ran) (low high little big least greatest : List ℕ) (clock : Clock) where
+module _ (n m : ℕ) (ends parent nd pre : List ℕ) (x : Ran) (low high little big least greatest : List ℕ)
+    (clock : Clock) where
   pub begun : x .clock .made ≡ 0 → low ≡ rangeFirst min n m ends parent nd pre (x .low)
-      → high ≡ rangeFirst max n m ends parent nd pre (x .high) → little ≡ littleFirst n pre (x .little) → big ≡ bigFirst n nd pre (x .big)
-      → least ≡ globalFirst min n m ends parent pre (x .least) → greatest ≡ globalFirst max n m ends parent pre (x .greatest)
+      → high ≡ rangeFirst max n m ends parent nd pre (x .high) → little ≡ littleFirst n pre (x .little) →
+      big ≡ bigFirst n nd pre (x .big)
+      → least ≡ globalFirst min n m ends parent pre (x .least) →
+      greatest ≡ globalFirst max n m ends parent pre (x .greatest)
       → clock ≡ nextClock (lastAt n (rangeEnds n (x .clock .made)) (x .clock)) 0 (x .clock)
-      → record { low = low; high = high; little = little; big = big; least = least; greatest = greatest; clock = clock; made = x .made + 1 } ≡ one n m ends parent nd pre x
+      → record {
+        low = low;
+        high = high;
+        little = little;
+        big = big;
+        least = least;
+        greatest = greatest;
+        clock = clock;
+        made = x .made + 1;
+      } ≡ one n m ends parent nd pre x
   unfolding one
   begun h a b c d e f k = rw (a, b, c, d, e, f, k, eq-eqb (x .clock .made) 0 h)
 
-  pub turned : (x .clock .made ≡ 0 → ⊥) → low ≡ rangeLater min (min (x .clock .made - 1) 16) n (x .least) (x .little) (x .big) (x .low)
+  pub turned : (x .clock .made ≡ 0 → ⊥) →
+      low ≡ rangeLater min (min (x .clock .made - 1) 16) n (x .least) (x .little) (x .big) (x .low)
       → high ≡ rangeLater max (min (x .clock .made - 1) 16) n (x .greatest) (x .little) (x .big) (x .high)
-      → little ≡ littleLater (min (x .clock .made - 1) 16) n (x .big) (x .little) → big ≡ bigLater (min (x .clock .made - 1) 16) n (x .little) (x .big)
-      → least ≡ globalLater min (min (x .clock .made - 1) 16) n (x .least) → greatest ≡ globalLater max (min (x .clock .made - 1) 16) n (x .greatest)
+      → little ≡ littleLater (min (x .clock .made - 1) 16) n (x .big) (x .little) →
+      big ≡ bigLater (min (x .clock .made - 1) 16) n (x .little) (x .big)
+      → least ≡ globalLater min (min (x .clock .made - 1) 16) n (x .least) →
+      greatest ≡ globalLater max (min (x .clock .made - 1) 16) n (x .greatest)
       → clock ≡ nextClock (lastAt n (rangeEnds n (x .clock .made)) (x .clock)) 0 (x .clock)
-      → record { low = low; high = high; little = little; big = big; least = least; greatest = greatest; clock = clock; made = x .made + 1 } ≡ one n m ends parent nd pre x
+      → record {
+        low = low;
+        high = high;
+        little = little;
+        big = big;
+        least = least;
+        greatest = greatest;
+        clock = clock;
+        made = x .made + 1;
+      } ≡ one n m ends parent nd pre x
   unfolding one
   turned h a b c d e f k = rw (a, b, c, d, e, f, k, ne-eqb (x .clock .made) 0 h)
 
@@ -85,17 +110,20 @@ into s x =
 
 pub stage : (s : State)
     → Stage 7 (units s) (linksFit (units s) (links s) (s .table .ends)) (λ (x : Ran). x .clock)
-    (one (units s) (links s) (s .table .ends) (s .tree .parent) (s .order .nd) (s .order .pre)) (λ (x : Ran). x .made) (into s)
+    (one (units s) (links s) (s .table .ends) (s .tree .parent) (s .order .nd) (s .order .pre)) (λ (x : Ran). x .made)
+    (into s)
 unfolding one lastAt Step.range Step.rangeBegun Step.rangeDoubled
 stage s =
-    on-links s (omega arith) (λ x. refl) (λ x. refl) (λ x. cond-keeps (λ (y : Ran). y .made ≡ x .made + 1) (eqb (x .clock .made) 0) _ _ refl refl)
+    on-links s (omega arith) (λ x. refl) (λ x. refl)
+    (λ x. cond-keeps (λ (y : Ran). y .made ≡ x .made + 1) (eqb (x .clock .made) 0) _ _ refl refl)
     (λ x w e. steps x w e (either (eqb (x .clock .made) 0)))
   where
     made : Ran → Ran
     made x = one (units s) (links s) (s .table .ends) (s .tree .parent) (s .order .nd) (s .order .pre) x
 
     -- at most 256 units: at most 8 doublings
-    doublings : (x : Ran) → wellFormed (into s x) ≡ true → x .clock .stage ≡ 7 → min (x .clock .made - 1) 16 ≡ x .clock .made - 1
+    doublings : (x : Ran) → wellFormed (into s x) ≡ true → x .clock .stage ≡ 7 →
+        min (x .clock .made - 1) 16 ≡ x .clock .made - 1
     doublings x w e =
         let k : Kept (into s x) = kept-exact (into s x) .0 w in
         let below : x .clock .made < 1 + lg (units s)

@@ -36,7 +36,16 @@ pub fn run<'a>(
 ) -> Ran
     ensures { λ r. ⌜ r ≡ stageRun (on units links (now (ends .entry)))
         (one units links (now (ends .entry)) (now (parent .entry)) (now (nd .entry)) (now (pre .entry))) budget
-        (record { low = low; high = high; little = little; big = big; least = least; greatest = greatest; clock = clock; made = 0 }) ⌝ }
+        (record {
+          low = low;
+          high = high;
+          little = little;
+          big = big;
+          least = least;
+          greatest = greatest;
+          clock = clock;
+          made = 0;
+        }) ⌝ }
 {
     let fits = bounds::links_fit(units, links, ends);
     let most = base_log2::lg(units);

@@ -19,7 +19,8 @@ use Rattle.spec_rules.specs.MoveLaws.{globalBy}
 
 module _ (op : ℕ → ℕ → ℕ) (span period n : ℕ) (old : List ℕ) where
   -- at a multiple with a segment a span on
-  joins : (q : ℕ) → Multiple period q → q + span < n → globalBy op span period n old q ≡ op (at old q) (at old (q + span))
+  joins : (q : ℕ) → Multiple period q → q + span < n →
+      globalBy op span period n old q ≡ op (at old q) (at old (q + span))
   joins q m h = rw (multiple-remainder period q m, lt-ltb (q + span) n h)
 
   -- at no multiple
@@ -36,7 +37,8 @@ module _ (op : ℕ → ℕ → ℕ) (span period n : ℕ) (old : List ℕ) where
 
   -- a turn: from a multiple to the next
   pub stride : (q : ℕ) (t new : List ℕ) (own next x : ℕ) → 0 < period → Multiple period q → q + span < n
-      → t ≡ over q (globalBy op span period n old) old → own ≡ getD t q 0 → next ≡ getD t (q + span) 0 → x ≡ op own next → new ≡ set t q x
+      → t ≡ over q (globalBy op span period n old) old → own ≡ getD t q 0 → next ≡ getD t (q + span) 0 →
+      x ≡ op own next → new ≡ set t q x
       → new ≡ over (q + period) (globalBy op span period n old) old
   stride q t new own next x wide m h was is-own is-next is put =
       over-ext 0 (q + period) (globalBy op span period n old) old new same below past
@@ -59,7 +61,8 @@ module _ (op : ℕ → ℕ → ℕ) (span period n : ℕ) (old : List ℕ) where
       other : (i : ℕ) → (i ≡ q → ⊥) → getD new i 0 ≡ getD t i 0
       other i ne = rw put (getD-set-other t q i x 0 ne)
 
-      go : (i : ℕ) → i < q + period → i < length old → Dec (i < q) → Dec (i ≡ q) → getD new i 0 ≡ globalBy op span period n old i
+      go : (i : ℕ) → i < q + period → i < length old → Dec (i < q) → Dec (i ≡ q) →
+          getD new i 0 ≡ globalBy op span period n old i
       go i u l (yes b) e =
           other i (λ (s : i ≡ q). omega arith) ∙ rw was (getD-over q (globalBy op span period n old) old i 0 b l)
       go i u l (no b) (yes e) = rw (e, put) (getD-set-same t q x 0 (omega (arith, length-t)) ∙ value)

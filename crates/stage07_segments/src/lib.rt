@@ -1,5 +1,6 @@
-// A later round of stage 7: `span` is the length of a segment and `mask` one less than twice that. `greatest` asks for high, else low.
-// Rounds past the sixteenth, which no state makes, count as the sixteenth: a segment then is longer than any table.
+// A later round of stage 7: `span` is the length of a segment and `mask` one less than twice that. `greatest` asks for
+// high, else low. Rounds past the sixteenth, which no state makes, count as the sixteenth: a segment then is longer
+// than any table.
 ghost use mathlib.Core.Path.{_≡_};
 ghost use mathlib.Core.Bool.{not, cond};
 ghost use Prim.Native.Nat.{_+_, _-_, _^_, _≤_, min, max};
@@ -79,7 +80,8 @@ fn take(
     with_segment(greatest, right, n, global, back, y)
 }
 
-// A round of the units' tables in place: a unit's entries are read before they are made anew. Where little is not before big nothing moves.
+// A round of the units' tables in place: a unit's entries are read before they are made anew. Where little is not
+// before big nothing moves.
 fn units_move<'a>(
     i: u16,
     n: u16,
@@ -92,9 +94,11 @@ fn units_move<'a>(
 )
     requires { ⌜ n ≤ 256 ⌝ }
     ensures low { λ _. ⌜ now (low .exit)
-        ≡ rangeLater min (min i 16) n (now (least .entry)) (now (little .entry)) (now (big .entry)) (now (low .entry)) ⌝ }
+        ≡ rangeLater min (min i 16) n (now (least .entry)) (now (little .entry)) (now (big .entry))
+        (now (low .entry)) ⌝ }
     ensures high { λ _. ⌜ now (high .exit)
-        ≡ rangeLater max (min i 16) n (now (greatest .entry)) (now (little .entry)) (now (big .entry)) (now (high .entry)) ⌝ }
+        ≡ rangeLater max (min i 16) n (now (greatest .entry)) (now (little .entry)) (now (big .entry))
+        (now (high .entry)) ⌝ }
     ensures little { λ _. ⌜ now (little .exit) ≡ littleLater (min i 16) n (now (big .entry)) (now (little .entry)) ⌝ }
     ensures big { λ _. ⌜ now (big .exit) ≡ bigLater (min i 16) n (now (little .entry)) (now (big .entry)) ⌝ }
 {
@@ -152,7 +156,8 @@ fn segments_move(i: u16, n: u16, low: &mut [u16; 256], high: &mut [u16; 256])
     }
 }
 
-// Round `i` of all tables, the units' by the segments as they stand before it. Of more than 256 units, which no state has, nothing is changed.
+// Round `i` of all tables, the units' by the segments as they stand before it. Of more than 256 units, which no state
+// has, nothing is changed.
 pub fn double(
     i: u16,
     n: u16,
@@ -164,13 +169,19 @@ pub fn double(
     greatest: &mut [u16; 256],
 )
     ensures low { λ _. ⌜ now (low .exit)
-        ≡ cond (leb n 256) (rangeLater min (min i 16) n (now (least .entry)) (now (little .entry)) (now (big .entry)) (now (low .entry))) (now (low .entry)) ⌝ }
+        ≡ cond (leb n 256) (rangeLater min (min i 16) n (now (least .entry)) (now (little .entry)) (now (big .entry))
+        (now (low .entry))) (now (low .entry)) ⌝ }
     ensures high { λ _. ⌜ now (high .exit)
-        ≡ cond (leb n 256) (rangeLater max (min i 16) n (now (greatest .entry)) (now (little .entry)) (now (big .entry)) (now (high .entry))) (now (high .entry)) ⌝ }
-    ensures little { λ _. ⌜ now (little .exit) ≡ cond (leb n 256) (littleLater (min i 16) n (now (big .entry)) (now (little .entry))) (now (little .entry)) ⌝ }
-    ensures big { λ _. ⌜ now (big .exit) ≡ cond (leb n 256) (bigLater (min i 16) n (now (little .entry)) (now (big .entry))) (now (big .entry)) ⌝ }
-    ensures least { λ _. ⌜ now (least .exit) ≡ cond (leb n 256) (globalLater min (min i 16) n (now (least .entry))) (now (least .entry)) ⌝ }
-    ensures greatest { λ _. ⌜ now (greatest .exit) ≡ cond (leb n 256) (globalLater max (min i 16) n (now (greatest .entry))) (now (greatest .entry)) ⌝ }
+        ≡ cond (leb n 256) (rangeLater max (min i 16) n (now (greatest .entry)) (now (little .entry)) (now (big .entry))
+        (now (high .entry))) (now (high .entry)) ⌝ }
+    ensures little { λ _. ⌜ now (little .exit)
+        ≡ cond (leb n 256) (littleLater (min i 16) n (now (big .entry)) (now (little .entry))) (now (little .entry)) ⌝ }
+    ensures big { λ _. ⌜ now (big .exit)
+        ≡ cond (leb n 256) (bigLater (min i 16) n (now (little .entry)) (now (big .entry))) (now (big .entry)) ⌝ }
+    ensures least { λ _. ⌜ now (least .exit)
+        ≡ cond (leb n 256) (globalLater min (min i 16) n (now (least .entry))) (now (least .entry)) ⌝ }
+    ensures greatest { λ _. ⌜ now (greatest .exit)
+        ≡ cond (leb n 256) (globalLater max (min i 16) n (now (greatest .entry))) (now (greatest .entry)) ⌝ }
 {
     if 256 < n {
         return;

@@ -30,11 +30,13 @@ one n m ends parent nd pre low high x =
 
 -- the state with these tables and clock
 abbrev pub into : State → Ran → State
-into s x = State.withClock (x .clock) (State.withAux (record { parents = x .parents; links = x .links; color = s .aux .color }) s)
+into s x = State.withClock (x .clock) (State.withAux
+    (record { parents = x .parents; links = x .links; color = s .aux .color }) s)
 
 pub stage : (s : State)
     → Stage 8 (units s) (linksFit (units s) (links s) (s .table .ends)) (λ (x : Ran). x .clock)
-    (one (units s) (links s) (s .table .ends) (s .tree .parent) (s .order .nd) (s .order .pre) (s .range .low) (s .range .high)) (λ (x : Ran). x .made) (into s)
+    (one (units s) (links s) (s .table .ends) (s .tree .parent) (s .order .nd) (s .order .pre) (s .range .low)
+    (s .range .high)) (λ (x : Ran). x .made) (into s)
 unfolding one lastAt Step.auxEdges
 stage s =
     on-links s (omega arith) (λ x. refl) (λ x. refl) (λ x. refl) (λ x w e. rw (step-by 8 tt (into s x) e))

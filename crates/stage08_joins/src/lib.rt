@@ -36,7 +36,8 @@ pub fn run<'a>(
     linked: [u16; 1024],
 ) -> Ran
     ensures { λ r. ⌜ r ≡ stageRun (on units links (now (ends .entry)))
-        (one units links (now (ends .entry)) (now (parent .entry)) (now (nd .entry)) (now (pre .entry)) (now (low .entry)) (now (high .entry))) budget
+        (one units links (now (ends .entry)) (now (parent .entry)) (now (nd .entry))
+        (now (pre .entry)) (now (low .entry)) (now (high .entry))) budget
         (record { parents = parents; links = linked; clock = clock; made = 0 }) ⌝ }
 {
     let fits = bounds::links_fit(units, links, ends);
@@ -72,7 +73,8 @@ fn link_joins<'a>(
     marks: [u16; 1024],
 ) -> [u16; 1024]
     requires { ⌜ (units ≤ 256) × (links ≤ 1024) × EndsWithin units links (now ends) ⌝ }
-    ensures { λ r. ⌜ r ≡ linkJoinsRound links (now (ends .entry)) (now (parent .entry)) (now (nd .entry)) (now (pre .entry)) marks ⌝ }
+    ensures { λ r. ⌜ r ≡ linkJoinsRound links (now (ends .entry)) (now (parent .entry)) (now (nd .entry))
+        (now (pre .entry)) marks ⌝ }
 {
     let mut new = marks;
     let mut j = 0;
@@ -124,7 +126,8 @@ fn parent_joins<'a>(
     marks: [u16; 256],
 ) -> [u16; 256]
     requires { ⌜ units ≤ 256 ⌝ }
-    ensures { λ r. ⌜ r ≡ parentJoinsRound units (now (parent .entry)) (now (nd .entry)) (now (pre .entry)) (now (low .entry)) (now (high .entry)) marks ⌝ }
+    ensures { λ r. ⌜ r ≡ parentJoinsRound units (now (parent .entry)) (now (nd .entry)) (now (pre .entry))
+        (now (low .entry)) (now (high .entry)) marks ⌝ }
 {
     let mut new = marks;
     let mut u = 0;
@@ -146,7 +149,8 @@ fn joins_parent<'a>(
     u: u16,
 ) -> bool
     requires { ⌜ u < 256 ⌝ }
-    ensures { λ r. ⌜ r ≡ joinsParent (now (parent .entry)) (now (nd .entry)) (now (pre .entry)) (now (low .entry)) (now (high .entry)) u ⌝ }
+    ensures { λ r. ⌜ r ≡ joinsParent (now (parent .entry)) (now (nd .entry)) (now (pre .entry)) (now (low .entry))
+        (now (high .entry)) u ⌝ }
 {
     let at = u as usize;
     let p = parent[at];

@@ -27,7 +27,10 @@ least-rest (suc m) k f x l rest =
     go (yes h) before =
         let all : k ≡ suc m = omega arith in
         rw all
-    go (no h) before = rw (before (omega arith), rest m (omega arith) (le-refl (suc m))) (omega (arith, least-start m f x))
+    go (no h) before = rw (
+      before (omega arith),
+      rest m (omega arith) (le-refl (suc m)),
+    ) (omega (arith, least-start m f x))
 
 -- one of the family, c at v, lowers besides: it may as well come last
 pub least-aside : (k v c : ℕ) (f g : ℕ → ℕ) (x most : ℕ) → x ≤ most → v < k
@@ -48,7 +51,8 @@ least-aside (suc k) v c f g x most h l here there =
         rw (least-alike k f g x most h (λ (i z : ℕ) (a : i < k). there i z (le-step a) (λ (q : i ≡ v). omega arith)))
         (ends (least k g x) low)
 
-    go : Dec (v < k) → (v < k → min (least k f x) c ≡ least k g x) → min (min (least k f x) (f k)) c ≡ min (least k g x) (g k)
+    go : Dec (v < k) → (v < k → min (least k f x) c ≡ least k g x) →
+        min (min (least k f x) (f k)) c ≡ min (least k g x) (g k)
     go (yes a) before =
         omega (arith, before a, there k (least k g x) (le-refl (suc k)) (λ (q : k ≡ v). omega arith) low)
     go (no a) before = last (omega arith)

@@ -21,9 +21,11 @@ use Rattle.spec_rules.specs.BoundLaws.{Names, name-exact, names-at}
 use Rattle.stage09_heads.specs.Heads.{headOf, Heads}
 use Rattle.stage09_classes.specs.Propagation.{toHeads}
 
-pub heads-exist : (n : ℕ) (parent marks heads : List ℕ) → every (nameOk n) parent ≡ true → ((u : ℕ) → u < n → at heads u ≡ headOf parent marks u)
+pub heads-exist : (n : ℕ) (parent marks heads : List ℕ) → every (nameOk n) parent ≡ true →
+    ((u : ℕ) → u < n → at heads u ≡ headOf parent marks u)
     → Heads n parent marks heads
-heads-exist n parent marks heads fit are = record { are = are; exist = λ u h. rw (are u h) (go u h (either (eqb (at marks u) 0 || isRoot parent u))) }
+heads-exist n parent marks heads fit are =
+    record { are = are; exist = λ u h. rw (are u h) (go u h (either (eqb (at marks u) 0 || isRoot parent u))) }
   where
     names : All (Names n) parent
     names = every-exact (nameOk n) (Names n) (name-exact n) parent .0 fit
@@ -32,9 +34,11 @@ heads-exist n parent marks heads fit are = record { are = are; exist = λ u h. r
     named u (inl h) e = h
     named u (inr q) e = absurd (true≢false (sym (eq-eqb (at parent u) ABSENT q) ∙ e))
 
-    go : (u : ℕ) → u < n → ((eqb (at marks u) 0 || isRoot parent u) ≡ true) ⊎ ((eqb (at marks u) 0 || isRoot parent u) ≡ false) → headOf parent marks u < n
+    go : (u : ℕ) → u < n → ((eqb (at marks u) 0 || isRoot parent u) ≡ true)
+        ⊎ ((eqb (at marks u) 0 || isRoot parent u) ≡ false) → headOf parent marks u < n
     go u h (inl e) = rw e h
-    go u h (inr e) = rw e (named u (names-at n parent u (omega (arith, h)) names) (or-false-right (eqb (at marks u) 0) (isRoot parent u) e))
+    go u h (inr e) = rw e (named u (names-at n parent u (omega (arith, h)) names)
+        (or-false-right (eqb (at marks u) 0) (isRoot parent u) e))
 
 module _ (n : ℕ) (heads said : List ℕ) where
   pub to-none : (old : List ℕ) → old ≡ toHeads 0 n heads said old
@@ -53,6 +57,8 @@ module _ (n : ℕ) (heads said : List ℕ) where
   to-over zero before own = refl
   to-over (suc k) before own =
       rw (to-over k before own)
-      (single-over false n (λ (v : ℕ). least k (λ (u : ℕ). cond (eqb (at heads u) v) (at said u) (at said v)) (before v)) (at said) said
+      (single-over false n (λ (v : ℕ). least k (λ (u : ℕ). cond (eqb (at heads u) v) (at said u) (at said v))
+      (before v)) (at said) said
       (at heads k) (at said k)
-      (λ (v : ℕ). fold-absorbs false k (λ (u : ℕ). cond (eqb (at heads u) v) (at said u) (at said v)) (before v) (at said v) (own v)))
+      (λ (v : ℕ). fold-absorbs false k (λ (u : ℕ). cond (eqb (at heads u) v) (at said u) (at said v)) (before v)
+      (at said v) (own v)))

@@ -46,7 +46,8 @@ RootsAbsent n parent value = (n ≤ length value) × ((v : ℕ) → v < n → is
 
 -- ---- what roots hear, and what is heard of them
 
-root-choice : (unmarked root-a root-b is-a is-b : Bool) (x y own : ℕ) → (is-a ≡ true → root-a ≡ true) → (is-b ≡ true → root-b ≡ true)
+root-choice : (unmarked root-a root-b is-a is-b : Bool) (x y own : ℕ) → (is-a ≡ true → root-a ≡ true) →
+    (is-b ≡ true → root-b ≡ true)
     → cond (not unmarked && not root-a && not root-b) (cond is-a y (cond is-b x own)) own ≡ own
 root-choice true ra rb ia ib x y own pa pb = refl
 root-choice false true rb ia ib x y own pa pb = refl
@@ -55,7 +56,8 @@ root-choice false false false true ib x y own pa pb = absurd (true≢false (sym 
 root-choice false false false false true x y own pa pb = absurd (true≢false (sym (pb refl)))
 root-choice false false false false false x y own pa pb = refl
 
-alike-choice : (unmarked root-a root-b is-a is-b : Bool) (x y own x′ y′ own′ : ℕ) → own′ ≡ own → (root-a ≡ false → x′ ≡ x) → (root-b ≡ false → y′ ≡ y)
+alike-choice : (unmarked root-a root-b is-a is-b : Bool) (x y own x′ y′ own′ : ℕ) → own′ ≡ own →
+    (root-a ≡ false → x′ ≡ x) → (root-b ≡ false → y′ ≡ y)
     → cond (not unmarked && not root-a && not root-b) (cond is-a y′ (cond is-b x′ own′)) own′
     ≡ cond (not unmarked && not root-a && not root-b) (cond is-a y (cond is-b x own)) own
 alike-choice true ra rb ia ib x y own x′ y′ own′ e pa pb = e
@@ -73,23 +75,29 @@ module _ (parent : List ℕ) (v : ℕ) where
     -- a root hears itself
     root-hears : (mark a b : ℕ) → heardOver parent value mark a b v ≡ at value v
     root-hears mark a b =
-        root-choice (eqb mark 0) (isRoot parent a) (isRoot parent b) (eqb a v) (eqb b v) (at value a) (at value b) (at value v) (is-root a) (is-root b)
+        root-choice (eqb mark 0) (isRoot parent a) (isRoot parent b) (eqb a v) (eqb b v) (at value a) (at value b)
+        (at value v) (is-root a) (is-root b)
 
-    root-joins : (k m : ℕ) (ends linked parents : List ℕ) → joinsHeard k m ends parent linked parents value v ≡ at value v
+    root-joins : (k m : ℕ) (ends linked parents : List ℕ) →
+        joinsHeard k m ends parent linked parents value v ≡ at value v
     unfolding linksHeard joinsHeard
     root-joins k m ends linked parents =
         let links : at value v ≡ linksHeard m ends parent linked value v =
-        least-rest m 0 (λ (j : ℕ). heardOver parent value (at linked j) (endA ends j) (endB ends j) v) (at value v) (omega arith)
+        least-rest m 0 (λ (j : ℕ). heardOver parent value (at linked j) (endA ends j) (endB ends j) v) (at value v)
+        (omega arith)
         (λ (j : ℕ) (l : 0 ≤ j) (h : j < m). root-hears (at linked j) (endA ends j) (endB ends j)) in
         sym (links
-        ∙ least-rest k 0 (λ (u : ℕ). heardOver parent value (at parents u) u (at parent u) v) (linksHeard m ends parent linked value v) (omega arith)
+        ∙ least-rest k 0 (λ (u : ℕ). heardOver parent value (at parents u) u (at parent u) v)
+        (linksHeard m ends parent linked value v) (omega arith)
         (λ (u : ℕ) (l : 0 ≤ u) (h : u < k). root-hears (at parents u) u (at parent u) ∙ links))
 
   -- what roots say does not matter to others
-  module _ (unit : isRoot parent v ≡ false) (value said : List ℕ) (says : (i : ℕ) → isRoot parent i ≡ false → at said i ≡ at value i) where
+  module _ (unit : isRoot parent v ≡ false) (value said : List ℕ) (says : (i : ℕ) → isRoot parent i ≡ false →
+      at said i ≡ at value i) where
     alike : (mark a b : ℕ) → heardOver parent said mark a b v ≡ heardOver parent value mark a b v
     alike mark a b =
-        alike-choice (eqb mark 0) (isRoot parent a) (isRoot parent b) (eqb a v) (eqb b v) (at value a) (at value b) (at value v) (at said a) (at said b) (at said v)
+        alike-choice (eqb mark 0) (isRoot parent a) (isRoot parent b) (eqb a v) (eqb b v) (at value a) (at value b)
+        (at value v) (at said a) (at said b) (at said v)
         (says v unit) (says a) (says b)
 
     joins-alike : (k m : ℕ) (ends linked parents : List ℕ)
@@ -112,11 +120,13 @@ module _ (n : ℕ) (parent value : List ℕ) (long : n ≤ length value) where
   unit-says i e = go (decLt i n)
     where
       go : Dec (i < n) → at (unrooted n parent value) i ≡ at value i
-      go (yes h) = getD-over n (saidBy parent value) value i 0 h (omega (arith, h, long)) ∙ cond-false (isRoot parent i) ABSENT (at value i) e
+      go (yes h) = getD-over n (saidBy parent value) value i 0 h (omega (arith, h, long))
+          ∙ cond-false (isRoot parent i) ABSENT (at value i) e
       go (no h) = getD-over-past n (saidBy parent value) value i 0 (omega arith)
 
   root-says : (i : ℕ) → i < n → isRoot parent i ≡ true → at (unrooted n parent value) i ≡ ABSENT
-  root-says i h e = getD-over n (saidBy parent value) value i 0 h (omega (arith, h, long)) ∙ cond-true (isRoot parent i) ABSENT (at value i) e
+  root-says i h e = getD-over n (saidBy parent value) value i 0 h (omega (arith, h, long))
+      ∙ cond-true (isRoot parent i) ABSENT (at value i) e
 
   pub roots-absent : RootsAbsent n parent (unrooted n parent value)
   roots-absent = (omega (arith, long, length-over n (saidBy parent value) value), root-says)
@@ -124,7 +134,8 @@ module _ (n : ℕ) (parent value : List ℕ) (long : n ≤ length value) where
 -- ---- a round
 
 module _ (n m : ℕ) (ends parent linked parents : List ℕ) where
-  joined-root : (value : List ℕ) (v : ℕ) → isRoot parent v ≡ true → leastJoined n m ends parent linked parents value v ≡ ABSENT
+  joined-root : (value : List ℕ) (v : ℕ) → isRoot parent v ≡ true →
+      leastJoined n m ends parent linked parents value v ≡ ABSENT
   unfolding leastJoined
   joined-root value v e = rw e refl
 
@@ -140,15 +151,19 @@ module _ (n m : ℕ) (ends parent linked parents : List ℕ) where
     heard-joined value long v h = hears (unrooted n parent value) v ∙ go (either (isRoot parent v))
       where
         go : (isRoot parent v ≡ true) ⊎ (isRoot parent v ≡ false)
-            → joinsHeard n m ends parent linked parents (unrooted n parent value) v ≡ leastJoined n m ends parent linked parents value v
+            → joinsHeard n m ends parent linked parents (unrooted n parent value) v
+            ≡ leastJoined n m ends parent linked parents value v
         go (inl e) =
-            root-joins parent v e (unrooted n parent value) n m ends linked parents ∙ root-says n parent value long v h e ∙ sym (joined-root value v e)
+            root-joins parent v e (unrooted n parent value) n m ends linked parents
+            ∙ root-says n parent value long v h e ∙ sym (joined-root value v e)
         go (inr e) =
-            joins-alike parent v e value (unrooted n parent value) (unit-says n parent value long) n m ends linked parents ∙ sym (joined-unit value v e)
+            joins-alike parent v e value (unrooted n parent value)
+            (unit-says n parent value long) n m ends linked parents ∙ sym (joined-unit value v e)
 
     -- roots that are absent say so
     absent-said : (value : List ℕ) → RootsAbsent n parent value → unrooted n parent value ≡ value
-    absent-said value fine = sym (over-same 0 n (saidBy parent value) value (λ (v : ℕ) (h : v < n). go v h (either (isRoot parent v))))
+    absent-said value fine = sym (over-same 0 n (saidBy parent value) value
+        (λ (v : ℕ) (h : v < n). go v h (either (isRoot parent v))))
       where
         go : (v : ℕ) → v < n → (isRoot parent v ≡ true) ⊎ (isRoot parent v ≡ false) → at value v ≡ saidBy parent value v
         go v h (inl e) = fine .1 v h e ∙ sym (cond-true (isRoot parent v) ABSENT (at value v) e)
@@ -171,9 +186,11 @@ module _ (n m : ℕ) (ends parent linked parents : List ℕ) where
     round-first color made e long =
         let far : n ≤ length (over n (λ (v : ℕ). v) color) = omega (arith, long, length-over n (λ (v : ℕ). v) color) in
         rw e
-        (over-cong n (leastJoined n m ends parent linked parents (over n (λ (v : ℕ). v) color)) (leastHeard c pairs (numbers n parent color)) color
+        (over-cong n (leastJoined n m ends parent linked parents (over n (λ (v : ℕ). v) color))
+        (leastHeard c pairs (numbers n parent color)) color
         (λ (v : ℕ) (h : v < n). sym (heard-joined (over n (λ (v : ℕ). v) color) far v h))
-        ∙ sym (over-over n (leastHeard c pairs (numbers n parent color)) (saidBy parent (over n (λ (v : ℕ). v) color)) (over n (λ (v : ℕ). v) color)
+        ∙ sym (over-over n (leastHeard c pairs (numbers n parent color)) (saidBy parent (over n (λ (v : ℕ). v) color))
+        (over n (λ (v : ℕ). v) color)
         ∙ over-over n (leastHeard c pairs (numbers n parent color)) (λ (v : ℕ). v) color))
 
     round-later : (color : List ℕ) (made : ℕ) → (made ≡ 0 → ⊥) → RootsAbsent n parent color
@@ -182,10 +199,12 @@ module _ (n m : ℕ) (ends parent linked parents : List ℕ) where
     round-later color made h fine =
         rw (ne-eqb made 0 h)
         (over-cong n (leastJoined n m ends parent linked parents color) (leastHeard c pairs color) color
-        (λ (v : ℕ) (l : v < n). sym (ap (λ (t : List ℕ). leastHeard c pairs t v) (sym (absent-said color fine)) ∙ heard-joined color (fine .0) v l)))
+        (λ (v : ℕ) (l : v < n). sym (ap (λ (t : List ℕ). leastHeard c pairs t v) (sym (absent-said color fine))
+        ∙ heard-joined color (fine .0) v l)))
 
     pub spreads : fits n m ends parent ≡ true
-        → Spreads ran (on n m ends parent) (one n m ends parent linked parents) n c 9 pairs (numbers n parent) (RootsAbsent n parent)
+        → Spreads ran (on n m ends parent) (one n m ends parent linked parents) n c 9 pairs (numbers n parent)
+        (RootsAbsent n parent)
     unfolding one auxEnds
     spreads fit =
         record {
@@ -193,12 +212,22 @@ module _ (n m : ℕ) (ends parent linked parents : List ℕ) where
           to = omega arith;
           runs = λ color c made inside. and-true (fits n m ends parent) (inStage n 9 c) fit inside;
           rests = λ color c made e.
-              refuted (fits n m ends parent && inStage n 9 c) (λ t. omega (arith, e, stands n 9 c (and-right (fits n m ends parent) (inStage n 9 c) t)));
-          first = λ color c made e fine. rw (round-first color (c .made) e (long color fine), eq-eqb (c .made) 0 e) refl;
+              refuted (fits n m ends parent && inStage n 9 c)
+              (λ t. omega (arith, e, stands n 9 c (and-right (fits n m ends parent) (inStage n 9 c) t)));
+          first = λ color c made e fine. rw (
+            round-first color (c .made) e (long color fine),
+            eq-eqb (c .made) 0 e,
+          ) refl;
           later = λ color c made h fine. rw (round-later color (c .made) h fine, ne-eqb (c .made) 0 h) refl;
           keeps = absent-stays;
         }
       where
         long : (color : List ℕ) → RootsAbsent n parent (numbers n parent color) → n ≤ length color
         long color fine =
-            omega (arith, fine .0, length-over n (saidBy parent (over n (λ (v : ℕ). v) color)) (over n (λ (v : ℕ). v) color), length-over n (λ (v : ℕ). v) color)
+            omega (
+              arith,
+              fine .0,
+              length-over n (saidBy parent (over n (λ (v : ℕ). v) color))
+                  (over n (λ (v : ℕ). v) color),
+              length-over n (λ (v : ℕ). v) color,
+            )

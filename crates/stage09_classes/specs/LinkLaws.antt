@@ -30,7 +30,8 @@ module _ (n : ℕ) (ends marks said : List ℕ) where
   unfolding overLinks
   links-more j t new was put =
       rw (put, was, add-one j)
-      (hears-over-if (not (eqb (at marks j) 0)) false n said (endA ends j) (endB ends j) (overLinks j ends marks said) said
+      (hears-over-if (not (eqb (at marks j) 0)) false n said (endA ends j) (endB ends j)
+      (overLinks j ends marks said) said
       (λ (v : ℕ). fold-again false j (λ (i : ℕ). heardIf said (at marks i) (endA ends i) (endB ends i) v) (at said v)))
 
   unmarked : (mark a b v : ℕ) → mark ≡ 0 → heardIf said mark a b v ≡ at said v
@@ -48,7 +49,8 @@ module _ (n : ℕ) (ends marks said : List ℕ) where
       (λ (i : ℕ) (a : k ≤ i) (b : i < m). unmarked (at marks i) (endA ends i) (endB ends i) v (none i a b)))
 
 -- a test of some mark from `from` on, one more
-pub none-more : (from k : ℕ) (marks : List ℕ) (any new : Bool) → (any ≡ false → (i : ℕ) → from ≤ i → i < k → at marks i ≡ 0)
+pub none-more : (from k : ℕ) (marks : List ℕ) (any new : Bool) →
+    (any ≡ false → (i : ℕ) → from ≤ i → i < k → at marks i ≡ 0)
     → new ≡ (any || not (eqb (at marks k) 0)) → new ≡ false → (i : ℕ) → from ≤ i → i < k + 1 → at marks i ≡ 0
 none-more from k marks any new before put e i a l = go (decLt i k)
   where
@@ -56,7 +58,8 @@ none-more from k marks any new before put e i a l = go (decLt i k)
     failed = sym put ∙ e
 
     last : i ≡ k → at marks i ≡ 0
-    last q = rw q (eqb-true (at marks k) 0 (not-false (eqb (at marks k) 0) (or-false-right any (not (eqb (at marks k) 0)) failed)))
+    last q = rw q (eqb-true (at marks k) 0
+        (not-false (eqb (at marks k) 0) (or-false-right any (not (eqb (at marks k) 0)) failed)))
 
     go : Dec (i < k) → at marks i ≡ 0
     go (yes h) = before (or-false-left any (not (eqb (at marks k) 0)) failed) i a h
@@ -64,7 +67,8 @@ none-more from k marks any new before put e i a l = go (decLt i k)
 
 -- a link of two units, as the code lowers their entries
 pub hears-within : (n : ℕ) (said t new : List ℕ) (a b : ℕ) → a < n → b < n
-    → new ≡ set (set t a (min (getD t a 0) (at said b))) b (min (getD (set t a (min (getD t a 0) (at said b))) b 0) (at said a))
+    → new ≡ set (set t a (min (getD t a 0) (at said b))) b
+    (min (getD (set t a (min (getD t a 0) (at said b))) b 0) (at said a))
     → new ≡ hears false n said a b t
 unfolding hears takesIn
 hears-within n said t new a b ha hb put = rw (lt-ltb a n ha, lt-ltb b n hb) put

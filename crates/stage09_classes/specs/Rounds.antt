@@ -37,11 +37,13 @@ one n m ends parent linked parents x =
 
 -- the state with this table and clock
 abbrev pub into : State → Ran → State
-into s x = State.withClock (x .clock) (State.withAux (record { parents = s .aux .parents; links = s .aux .links; color = x .color }) s)
+into s x = State.withClock (x .clock) (State.withAux
+    (record { parents = s .aux .parents; links = s .aux .links; color = x .color }) s)
 
 pub stage : (s : State)
     → Stage 9 (units s) (fits (units s) (links s) (s .table .ends) (s .tree .parent)) (λ (x : Ran). x .clock)
-    (one (units s) (links s) (s .table .ends) (s .tree .parent) (s .aux .links) (s .aux .parents)) (λ (x : Ran). x .made) (into s)
+    (one (units s) (links s) (s .table .ends) (s .tree .parent) (s .aux .links) (s .aux .parents))
+    (λ (x : Ran). x .made) (into s)
 unfolding one lastAt Step.auxComponents
 stage s =
     record {

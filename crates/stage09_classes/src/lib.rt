@@ -95,7 +95,8 @@ fn leapt<'a>(
     color: [u16; 256],
 ) -> Landed
     requires { ⌜ fit ≡ fits units links (now ends) (now parent) ⌝ }
-    ensures { λ r. ⌜ (r .right ≡ true → ran (r .value) (r .clock) (r .made) ≡ stageRun (on units links (now (ends .entry)) (now (parent .entry)))
+    ensures { λ r. ⌜ (r .right ≡ true → ran (r .value) (r .clock) (r .made)
+        ≡ stageRun (on units links (now (ends .entry)) (now (parent .entry)))
         (one units links (now (ends .entry)) (now (parent .entry)) (now (linked .entry)) (now (parents .entry))) budget
         (record { color = color; clock = clock; made = 0 })) ⌝ }
 {
@@ -121,8 +122,9 @@ fn leapt<'a>(
     )
 }
 
-// Whether a leap pays: the stage begins, the budget covers a round for each unit, as many as there can be, and few rounds are not to be expected, as of few
-// units or where no unit joins its parent. But for the first no more than a guess: what a run leaves does not hang on it.
+// Whether a leap pays: the stage begins, the budget covers a round for each unit, as many as there can be, and few
+// rounds are not to be expected, as of few units or where no unit joins its parent. But for the first no more than a
+// guess: what a run leaves does not hang on it.
 fn pays(units: u16, budget: u16, made: u16, parents: &[u16; 256]) -> bool
     ensures { λ r. ⌜ (r ≡ true → made ≡ 0) ⌝ }
 {
@@ -158,8 +160,10 @@ fn over_pairs<'a>(
     clock: Clock,
     color: [u16; 256],
 ) -> Landed
-    requires { ⌜ (units ≤ 256) × (fits units links (now ends) (now parent) ≡ true) × (inStage units 9 clock ≡ true) × (clock .made ≡ 0) ⌝ }
-    ensures { λ r. ⌜ (r .right ≡ true → ran (r .value) (r .clock) (r .made) ≡ stageRun (on units links (now (ends .entry)) (now (parent .entry)))
+    requires { ⌜ (units ≤ 256) × (fits units links (now ends) (now parent) ≡ true) × (inStage units 9 clock ≡ true)
+        × (clock .made ≡ 0) ⌝ }
+    ensures { λ r. ⌜ (r .right ≡ true → ran (r .value) (r .clock) (r .made)
+        ≡ stageRun (on units links (now (ends .entry)) (now (parent .entry)))
         (one units links (now (ends .entry)) (now (parent .entry)) (now (linked .entry)) (now (parents .entry))) budget
         (record { color = color; clock = clock; made = 0 })) ⌝ }
 {
@@ -208,7 +212,8 @@ fn rounds<'a>(
     }
 }
 
-// The classes after a round. A root says the absent mark, which lowers no word: so no join asks for roots, and what they took in is written over at the end.
+// The classes after a round. A root says the absent mark, which lowers no word: so no join asks for roots, and what
+// they took in is written over at the end.
 fn round<'a>(
     units: u16,
     links: u16,
@@ -219,7 +224,8 @@ fn round<'a>(
     heads: &'a [u16; 256],
     color: [u16; 256],
 ) -> [u16; 256]
-    requires { ⌜ (units ≤ 256) × (links ≤ 1024) × EndsWithin units links (now ends) × ((u : ℕ) → u < units → getD (now heads) u 0 < units) ⌝ }
+    requires { ⌜ (units ≤ 256) × (links ≤ 1024) × EndsWithin units links (now ends)
+        × ((u : ℕ) → u < units → getD (now heads) u 0 < units) ⌝ }
     ensures { λ r. ⌜ ((marks : List ℕ) → Heads units (now (parent .entry)) marks (now (heads .entry))
         → r ≡ auxRound units links made (now (ends .entry)) (now (parent .entry)) (now (linked .entry)) marks color) ⌝ }
 {

@@ -19,7 +19,8 @@ pub(crate) fn propagate<'a>(
 )
     requires { ⌜ (units ≤ 256) × (links ≤ 1024) × EndsWithin units links (now ends) ⌝ }
     ensures { λ _. ⌜ (now (t .entry) ≡ now (said .entry)
-        → now (t .exit) ≡ over units (overLinks links (now (ends .entry)) (now (linked .entry)) (now (said .entry))) (now (said .entry))) ⌝ }
+        → now (t .exit) ≡ over units (overLinks links (now (ends .entry)) (now (linked .entry)) (now (said .entry)))
+        (now (said .entry))) ⌝ }
 {
     let mut j = 0;
     while j < links {
@@ -58,7 +59,8 @@ fn any_marked(linked: &[u16; 1024], from: u16, to: u16) -> bool
     any
 }
 
-// Over the links from `from` on, before `to`, after those before them. The ends of a link that is not marked are not read.
+// Over the links from `from` on, before `to`, after those before them. The ends of a link that is not marked are not
+// read.
 fn over_span<'a>(
     units: u16,
     ends: &'a [u16; 2048],
@@ -69,8 +71,10 @@ fn over_span<'a>(
     t: &mut [u16; 256],
 )
     requires { ⌜ (units ≤ 256) × (from ≤ to) × (to ≤ 1024) × EndsWithin units to (now ends) ⌝ }
-    ensures { λ _. ⌜ (now (t .entry) ≡ over units (overLinks from (now (ends .entry)) (now (linked .entry)) (now (said .entry))) (now (said .entry))
-        → now (t .exit) ≡ over units (overLinks to (now (ends .entry)) (now (linked .entry)) (now (said .entry))) (now (said .entry))) ⌝ }
+    ensures { λ _. ⌜ (now (t .entry) ≡ over units
+        (overLinks from (now (ends .entry)) (now (linked .entry)) (now (said .entry))) (now (said .entry))
+        → now (t .exit) ≡ over units (overLinks to (now (ends .entry)) (now (linked .entry)) (now (said .entry)))
+        (now (said .entry))) ⌝ }
 {
     let mut j = from;
     while j < to {

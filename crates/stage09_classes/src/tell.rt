@@ -5,7 +5,8 @@ ghost use Prim.Native.Nat.{ℕ, _≤_, _<_};
 ghost use lib.ListN.{getD};
 ghost use Rattle.stage09_classes.specs.Propagation.{toHeads, byHead};
 
-// Each unit tells its head what it says, and is told what the head says. One pass for both: the one that follows reads nothing by another unit's number.
+// Each unit tells its head what it says, and is told what the head says. One pass for both: the one that follows reads
+// nothing by another unit's number.
 pub(crate) fn propagate<'a>(
     units: u16,
     heads: &'a [u16; 256],

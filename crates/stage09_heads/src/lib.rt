@@ -1,4 +1,5 @@
-// Stage 9, unit by unit: each unit's head, with which its join with its parent is made; what the units say, and what they take in. At most 256 units count.
+// Stage 9, unit by unit: each unit's head, with which its join with its parent is made; what the units say, and what
+// they take in. At most 256 units count.
 use table::ABSENT;
 use table_values::tables;
 ghost use mathlib.Core.Path.{_≡_};
@@ -10,9 +11,11 @@ ghost use Rattle.base_lists.specs.Tables.{over};
 ghost use Rattle.spec_rules.specs.Basics.{ABSENT};
 ghost use Rattle.stage09_heads.specs.Heads.{saidBy, headOf, leastOf};
 
-// Each unit's head: its parent where `parents` marks their join; itself where it does not, or where the unit is a root. Absent past the units.
+// Each unit's head: its parent where `parents` marks their join; itself where it does not, or where the unit is a root.
+// Absent past the units.
 pub fn of<'a>(units: u16, parent: &'a [u16; 256], parents: &'a [u16; 256]) -> [u16; 256]
-    ensures { λ r. ⌜ ((u : ℕ) → u < 256 → getD r u 0 ≡ cond (ltb u (min units 256)) (headOf (now (parent .entry)) (now (parents .entry)) u) ABSENT) ⌝ }
+    ensures { λ r. ⌜ ((u : ℕ) → u < 256 →
+        getD r u 0 ≡ cond (ltb u (min units 256)) (headOf (now (parent .entry)) (now (parents .entry)) u) ABSENT) ⌝ }
 {
     let count = table_values::least_of(units, 256);
     let mut new = tables::blank();
@@ -42,7 +45,8 @@ pub fn least<'a>(
     t: &'a [u16; 256],
     old: [u16; 256],
 ) -> [u16; 256]
-    ensures { λ r. ⌜ r ≡ over (min units 256) (leastOf (now (parent .entry)) (now (told .entry)) (now (t .entry))) old ⌝ }
+    ensures { λ r. ⌜ r ≡ over (min units 256)
+        (leastOf (now (parent .entry)) (now (told .entry)) (now (t .entry))) old ⌝ }
 {
     let count = table_values::least_of(units, 256);
     let mut new = old;

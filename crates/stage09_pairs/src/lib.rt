@@ -19,7 +19,9 @@ pub fn joins<'a>(
     parents: &'a [u16; 256],
     pairs: &mut [u16; 2560],
 ) -> u16
-    ensures heard { λ r. ⌜ Hears r (now (pairs .exit)) (joinsHeard (min units 256) (min links 1024) (now (ends .entry)) (now (parent .entry)) (now (linked .entry)) (now (parents .entry))) ⌝ }
+    ensures heard { λ r. ⌜ Hears r (now (pairs .exit))
+        (joinsHeard (min units 256) (min links 1024) (now (ends .entry)) (now (parent .entry)) (now (linked .entry))
+        (now (parents .entry))) ⌝ }
     ensures room { λ _. ⌜ length (now (pairs .exit)) ≡ 2560 ⌝ }
 {
     let most = table_values::least_of(links, 1024);
@@ -38,7 +40,8 @@ fn of_links<'a>(
 ) -> u16
     requires { ⌜ (links ≤ 1024) × (length (now pairs) ≡ 2560) ⌝ }
     ensures few { λ r. ⌜ r ≤ links ⌝ }
-    ensures heard { λ r. ⌜ Hears r (now (pairs .exit)) (linksHeard links (now (ends .entry)) (now (parent .entry)) (now (linked .entry))) ⌝ }
+    ensures heard { λ r. ⌜ Hears r (now (pairs .exit))
+        (linksHeard links (now (ends .entry)) (now (parent .entry)) (now (linked .entry))) ⌝ }
 {
     let mut count = 0;
     let mut j = 0;
@@ -65,7 +68,8 @@ fn of_parents<'a>(
     had: u16,
 ) -> u16
     requires { ⌜ (units ≤ 256) × (had ≤ 1024) × (length (now pairs) ≡ 2560) ⌝ }
-    ensures { λ r. ⌜ ((m : ℕ) (ends linked : List ℕ) → Hears had (now (pairs .entry)) (linksHeard m ends (now (parent .entry)) linked)
+    ensures { λ r. ⌜ ((m : ℕ) (ends linked : List ℕ) →
+        Hears had (now (pairs .entry)) (linksHeard m ends (now (parent .entry)) linked)
         → Hears r (now (pairs .exit)) (joinsHeard units m ends (now (parent .entry)) linked (now (parents .entry)))) ⌝ }
 {
     let mut count = had;

@@ -14,7 +14,8 @@ place-last true true a b = refl
 place-last true false a b = refl
 place-last false before a b = refl
 
-picked-within : (up down before : Bool) (a b k : ℕ) → a < k → b < k → cond (up && down) (min a b) (cond down b (cond up a (cond before a b))) < k
+picked-within : (up down before : Bool) (a b k : ℕ) → a < k → b < k →
+    cond (up && down) (min a b) (cond down b (cond up a (cond before a b))) < k
 picked-within true true before a b k l h = omega arith
 picked-within true false before a b k l h = l
 picked-within false true before a b k l h = h
@@ -24,4 +25,5 @@ picked-within false false false a b k l h = h
 -- the unit that names a link of two units exists
 pub naming-within : (parent pre : List ℕ) (a b k : ℕ) → a < k → b < k → namingUnit parent pre a b < k
 unfolding namingUnit
-naming-within parent pre a b k l h = picked-within (eqb (at parent a) b) (eqb (at parent b) a) (ltb (at pre b) (at pre a)) a b k l h
+naming-within parent pre a b k l h = picked-within (eqb (at parent a) b) (eqb (at parent b) a)
+    (ltb (at pre b) (at pre a)) a b k l h

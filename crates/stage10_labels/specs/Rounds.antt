@@ -27,7 +27,12 @@ unfoldable pub one : ℕ → ℕ → List ℕ → List ℕ → List ℕ → List
 one n m ends parent pre color x =
     let after = nextClock (lastAt n (eqb (x .clock .made) 1) (x .clock)) 0 (x .clock) in
     cond (eqb (x .clock .made) 0)
-    (record { class = classRound m ends parent pre color (x .class); label = x .label; clock = after; made = x .made + 1 })
+    (record {
+      class = classRound m ends parent pre color (x .class);
+      label = x .label;
+      clock = after;
+      made = x .made + 1;
+    })
     (record { class = x .class; label = labelRound m (x .class) (x .label); clock = after; made = x .made + 1 })
 
 -- the state with these tables and clock
@@ -36,15 +41,18 @@ into s x = State.withClock (x .clock) (State.withLabels (record { class = x .cla
 
 pub stage : (s : State)
     → Stage 10 (units s) (linksFit (units s) (links s) (s .table .ends)) (λ (x : Ran). x .clock)
-    (one (units s) (links s) (s .table .ends) (s .tree .parent) (s .order .pre) (s .aux .color)) (λ (x : Ran). x .made) (into s)
+    (one (units s) (links s) (s .table .ends) (s .tree .parent) (s .order .pre) (s .aux .color)) (λ (x : Ran). x .made)
+    (into s)
 unfolding one lastAt Step.labels Step.labelClasses Step.labelPositions
 stage s =
-    on-links s (omega arith) (λ x. refl) (λ x. refl) (λ x. cond-keeps (λ (y : Ran). y .made ≡ x .made + 1) (eqb (x .clock .made) 0) _ _ refl refl)
+    on-links s (omega arith) (λ x. refl) (λ x. refl)
+    (λ x. cond-keeps (λ (y : Ran). y .made ≡ x .made + 1) (eqb (x .clock .made) 0) _ _ refl refl)
     (λ x w e. steps x e (either (eqb (x .clock .made) 0)))
   where
     round : Ran → Ran
     round x = one (units s) (links s) (s .table .ends) (s .tree .parent) (s .order .pre) (s .aux .color) x
 
-    steps : (x : Ran) → x .clock .stage ≡ 10 → (eqb (x .clock .made) 0 ≡ true) ⊎ (eqb (x .clock .made) 0 ≡ false) → into s (round x) ≡ Step.step (into s x)
+    steps : (x : Ran) → x .clock .stage ≡ 10 → (eqb (x .clock .made) 0 ≡ true) ⊎ (eqb (x .clock .made) 0 ≡ false) →
+        into s (round x) ≡ Step.step (into s x)
     steps x e (inl h) = rw (step-by 10 tt (into s x) e, h)
     steps x e (inr h) = rw (step-by 10 tt (into s x) e, h)

@@ -74,7 +74,8 @@ fn class_round<'a>(
     class: [u16; 1024],
 ) -> [u16; 1024]
     requires { ⌜ (units ≤ 256) × (links ≤ 1024) × EndsWithin units links (now ends) ⌝ }
-    ensures { λ r. ⌜ r ≡ classRound links (now (ends .entry)) (now (parent .entry)) (now (pre .entry)) (now (color .entry)) class ⌝ }
+    ensures { λ r. ⌜ r ≡ classRound links (now (ends .entry)) (now (parent .entry)) (now (pre .entry))
+        (now (color .entry)) class ⌝ }
 {
     let mut new = class;
     let mut j = 0;
@@ -103,8 +104,8 @@ fn naming<'a>(parent: &'a [u16; 256], pre: &'a [u16; 256], a: u16, b: u16) -> u1
     named(up, down, before, a, b)
 }
 
-// The same, by whether `b` is the parent of `a`, `a` that of `b`, and `b` has the lesser place. The place, known last and up to chance, picks from what a
-// parent picked: the compiler makes no branch of that.
+// The same, by whether `b` is the parent of `a`, `a` that of `b`, and `b` has the lesser place. The place, known last
+// and up to chance, picks from what a parent picked: the compiler makes no branch of that.
 fn named(up: bool, down: bool, before: bool, a: u16, b: u16) -> u16
     ensures { λ r. ⌜ r ≡ cond (up && down) (min a b) (cond down b (cond up a (cond before a b))) ⌝ }
 {

@@ -14,7 +14,8 @@ ceiling-ranking n stage (inl e) = rw e refl
 ceiling-ranking n stage (inr e) = rw e refl
 
 -- the stages left have two rounds: 3, 5 and 10
-low-left : (k : ℕ) → 1 ≤ k → k ≤ 6 → (k ≡ 1 → ⊥) → (k ≡ 2 → ⊥) → (k ≡ 4 → ⊥) → (k ≡ 6 → ⊥) → Dec (k ≡ 3) → (k ≡ 3) ⊎ (k ≡ 5)
+low-left : (k : ℕ) → 1 ≤ k → k ≤ 6 → (k ≡ 1 → ⊥) → (k ≡ 2 → ⊥) → (k ≡ 4 → ⊥) → (k ≡ 6 → ⊥) → Dec (k ≡ 3) →
+    (k ≡ 3) ⊎ (k ≡ 5)
 low-left k f t not1 not2 not4 not6 (yes e) = inl e
 low-left k f t not1 not2 not4 not6 (no h) = inr (omega arith)
 
@@ -30,7 +31,8 @@ ceiling-two n k f t not1 not2 not46 not7 not8 not9 = go (decLe k 6)
     low (inr e) = rw e refl
 
     go : Dec (k ≤ 6) → ceiling n k ≡ 2
-    go (yes l) = low (low-left k f l not1 not2 (λ (e : k ≡ 4). not46 (inl e)) (λ (e : k ≡ 6). not46 (inr e)) (ℕ-discrete k 3))
+    go (yes l) = low (low-left k f l not1 not2 (λ (e : k ≡ 4). not46 (inl e)) (λ (e : k ≡ 6). not46 (inr e))
+        (ℕ-discrete k 3))
     go (no h) = rw (high-left k (gt h) t not7 not8 not9) refl
       where
         gt : (k ≤ 6 → ⊥) → 6 < k

@@ -41,7 +41,8 @@ pub(crate) fn stage_ceiling(units: u16, stage: u16) -> u16
     ceiling(count, stage)
 }
 
-// The rounds still to come at most: the ceilings from this stage on, less the rounds made of it. At most 256 units count.
+// The rounds still to come at most: the ceilings from this stage on, less the rounds made of it. At most 256 units
+// count.
 pub fn countdown(units: u16, stage: u16, made: u16) -> u16
     ensures { λ r. ⌜ r ≡ countdown (min units 256) stage made ⌝ }
 {

@@ -1,4 +1,5 @@
-// The kept test of a state's table and clock (document 01: n and links pass 4 to 9, the stage is 1 to 11, the counts are within their limits).
+// The kept test of a state's table and clock (document 01: n and links pass 4 to 9, the stage is 1 to 11, the counts
+// are within their limits).
 use super::ceilings;
 use spec_state::Clock;
 ghost use mathlib.Core.Path.{_≡_};

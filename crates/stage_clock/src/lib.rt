@@ -1,4 +1,5 @@
-// The clock of a survey as code: ceilings and countdown, whether a stage makes a round more, the tick, and the kept test of table and clock.
+// The clock of a survey as code: ceilings and countdown, whether a stage makes a round more, the tick, and the kept
+// test of table and clock.
 mod ceilings;
 mod kept;
 mod tick;

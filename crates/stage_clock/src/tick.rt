@@ -41,7 +41,8 @@ pub fn is_last(units: u16, ends: bool, c: Clock) -> bool
     table_values::either(ends, most <= c.made as u32 + 1)
 }
 
-// The clock of a stage after a round that ends it by its rule or does not, with so many requests; as it was where it stands in another stage.
+// The clock of a stage after a round that ends it by its rule or does not, with so many requests; as it was where it
+// stands in another stage.
 pub fn ticked(units: u16, stage: u16, ends: bool, requests: u16, c: Clock) -> Clock
     ensures { λ r. ⌜ r ≡ cond (inStage units stage c) (nextClock (lastAt units ends c) requests c) c ⌝ }
 {

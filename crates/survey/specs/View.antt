@@ -5,7 +5,20 @@ use Rattle.survey.specs.declared.whole.Survey.{Survey}
 use Rattle.survey.specs.declared.answer.Answer.{Answer}
 
 abbrev pub of : Survey → State
-of s = record { table = s .table; clock = s .clock; components = s .components; plan = s .plan; tree = s .tree; tour = s .tour; ranking = s .ranking; order = s .order; range = s .range; global = s .global; aux = s .aux; labels = s .labels }
+of s = record {
+  table = s .table;
+  clock = s .clock;
+  components = s .components;
+  plan = s .plan;
+  tree = s .tree;
+  tour = s .tour;
+  ranking = s .ranking;
+  order = s .order;
+  range = s .range;
+  global = s .global;
+  aux = s .aux;
+  labels = s .labels;
+}
 
 abbrev pub answerOf : Answer → Calls.Answer
 answerOf a = record { state = of (a .survey); reply = a .reply }

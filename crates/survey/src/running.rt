@@ -1,5 +1,5 @@
-// Rounds and runs. A run goes from stage to stage: the tables that a stage changes are taken out, its rounds are made on them, and they are put back; the
-// rest of the state stays where it is.
+// Rounds and runs. A run goes from stage to stage: the tables that a stage changes are taken out, its rounds are made
+// on them, and they are put back; the rest of the state stays where it is.
 use super::answer::Answer;
 use super::whole::Survey;
 use spec_state::Aux;

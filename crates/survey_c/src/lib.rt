@@ -1,5 +1,6 @@
-// The survey for callers in C: the state is an array of words that the caller lends (words_layout/specs/Layout.antt), a reply an array of its fixed size. A
-// number that comes back is document 01's number of the refusal, 0 where the call was not refused; on a refusal nothing lent is altered.
+// The survey for callers in C: the state is an array of words that the caller lends (words_layout/specs/Layout.antt), a
+// reply an array of its fixed size. A number that comes back is document 01's number of the refusal, 0 where the call
+// was not refused; on a refusal nothing lent is altered.
 mod asked;
 mod live_tables;
 
@@ -9,7 +10,8 @@ ghost use Prim.Native.Nat.{ℕ};
 ghost use lib.ListN.{length};
 ghost use Rattle.spec_machine.specs.Calls.{numberOf, loadAnswer, storedLoadAnswer, plannedLoadAnswer};
 ghost use Rattle.words_layout.specs.Layout.{stateOf};
-ghost use Rattle.file_spec.specs.File.{linesOf, unitsIn, linkFrames, readRefusal, readWords, readLevels, writeRefusal, writtenFile};
+ghost use Rattle.file_spec.specs.File.{linesOf, unitsIn, linkFrames, readRefusal, readWords, readLevels, writeRefusal};
+ghost use Rattle.file_spec.specs.File.{writtenFile};
 ghost use Rattle.words_calls.specs.FileFace.{wordSaid};
 ghost use Rattle.spec_claim.specs.Play;
 ghost use Rattle.words_claim.specs.Exchange.{numberTo, stateAfter, lentAfter, madeAfter};
@@ -18,7 +20,8 @@ ghost use Rattle.handset_lines.specs.Lines.{foremanAnswer, foremanShown, servic
 ghost use Rattle.spec_channel.specs.Office.{tickRefusal, tick, seatRefusal, loadSeat};
 ghost use Rattle.words_seats.specs.Lent.{officeOf};
 
-// No state: what the program prints for the bytes of a file, at the front of `out`, and the number of bytes; nothing and 0 where `out` is too short.
+// No state: what the program prints for the bytes of a file, at the front of `out`, and the number of bytes; nothing
+// and 0 where `out` is too short.
 #[no_mangle]
 pub extern "C" fn link_survey_report(input: &[u8], out: &mut [u8]) -> u32
     ensures count { λ r. ⌜ r ≡ laidCount (printed (now (input .entry))) (length (now (out .entry))) ⌝ }
@@ -35,8 +38,12 @@ pub extern "C" fn link_survey_load(
     table: &[u16],
     levels: &[i16],
 ) -> u32
-    ensures number { λ r. ⌜ r ≡ numberOf (loadAnswer (record { units = units; words = now (table .entry); levels = now (levels .entry) }) (stateOf (now (state .entry))) .reply) ⌝ }
-    ensures words { λ _. ⌜ stateOf (now (state .exit)) ≡ loadAnswer (record { units = units; words = now (table .entry); levels = now (levels .entry) }) (stateOf (now (state .entry))) .state ⌝ }
+    ensures number { λ r. ⌜ r ≡ numberOf
+        (loadAnswer (record { units = units; words = now (table .entry); levels = now (levels .entry) })
+        (stateOf (now (state .entry))) .reply) ⌝ }
+    ensures words { λ _. ⌜ stateOf (now (state .exit))
+        ≡ loadAnswer (record { units = units; words = now (table .entry); levels = now (levels .entry) })
+        (stateOf (now (state .entry))) .state ⌝ }
 {
     words_calls::load(state, units, table, levels)
 }
@@ -49,8 +56,12 @@ pub extern "C" fn link_survey_load_stored(
     table: &[u16],
     levels: &[i16],
 ) -> u32
-    ensures number { λ r. ⌜ r ≡ numberOf (storedLoadAnswer (record { units = units; words = now (table .entry); levels = now (levels .entry) }) (stateOf (now (state .entry))) .reply) ⌝ }
-    ensures words { λ _. ⌜ stateOf (now (state .exit)) ≡ storedLoadAnswer (record { units = units; words = now (table .entry); levels = now (levels .entry) }) (stateOf (now (state .entry))) .state ⌝ }
+    ensures number { λ r. ⌜ r ≡ numberOf
+        (storedLoadAnswer (record { units = units; words = now (table .entry); levels = now (levels .entry) })
+        (stateOf (now (state .entry))) .reply) ⌝ }
+    ensures words { λ _. ⌜ stateOf (now (state .exit))
+        ≡ storedLoadAnswer (record { units = units; words = now (table .entry); levels = now (levels .entry) })
+        (stateOf (now (state .entry))) .state ⌝ }
 {
     words_calls::load_stored(state, units, table, levels)
 }
@@ -64,8 +75,12 @@ pub extern "C" fn link_survey_load_planned(
     levels: &[i16],
     parents: &[u16],
 ) -> u32
-    ensures number { λ r. ⌜ r ≡ numberOf (plannedLoadAnswer (record { units = units; words = now (table .entry); levels = now (levels .entry) }) (now (parents .entry)) (stateOf (now (state .entry))) .reply) ⌝ }
-    ensures words { λ _. ⌜ stateOf (now (state .exit)) ≡ plannedLoadAnswer (record { units = units; words = now (table .entry); levels = now (levels .entry) }) (now (parents .entry)) (stateOf (now (state .entry))) .state ⌝ }
+    ensures number { λ r. ⌜ r ≡ numberOf
+        (plannedLoadAnswer (record { units = units; words = now (table .entry); levels = now (levels .entry) })
+        (now (parents .entry)) (stateOf (now (state .entry))) .reply) ⌝ }
+    ensures words { λ _. ⌜ stateOf (now (state .exit))
+        ≡ plannedLoadAnswer (record { units = units; words = now (table .entry); levels = now (levels .entry) })
+        (now (parents .entry)) (stateOf (now (state .entry))) .state ⌝ }
 {
     words_calls::load_planned(state, units, table, levels, parents)
 }
@@ -123,7 +138,8 @@ pub extern "C" fn link_survey_link(
     reply: &mut [u16; 3],
 ) -> u32
     ensures number { λ r. ⌜ r ≡ numberTo (Play.link position) (now (state .entry)) ⌝ }
-    ensures said { λ _. ⌜ now (reply .exit) ≡ lentAfter (Play.link position) (now (state .entry)) (now (reply .entry)) ⌝ }
+    ensures said { λ _. ⌜ now (reply .exit)
+        ≡ lentAfter (Play.link position) (now (state .entry)) (now (reply .entry)) ⌝ }
 {
     words_calls::link(state, position, reply)
 }
@@ -132,7 +148,8 @@ pub extern "C" fn link_survey_link(
 #[no_mangle]
 pub extern "C" fn link_survey_state_report(state: &[u16; STATE_WORDS], out: &mut [u8]) -> u32
     ensures number { λ r. ⌜ r ≡ numberTo (Play.report (now (out .entry))) (now (state .entry)) ⌝ }
-    ensures bytes { λ _. ⌜ now (out .exit) ≡ lentAfter (Play.report (now (out .entry))) (now (state .entry)) (now (out .entry)) ⌝ }
+    ensures bytes { λ _. ⌜ now (out .exit)
+        ≡ lentAfter (Play.report (now (out .entry))) (now (state .entry)) (now (out .entry)) ⌝ }
 {
     words_calls::report(state, out)
 }
@@ -140,7 +157,8 @@ pub extern "C" fn link_survey_state_report(state: &[u16; STATE_WORDS], out: &mut
 // The foreman's line at the front of `out`, at every stage (T-06): 10, 14.
 #[no_mangle]
 pub extern "C" fn link_survey_foreman_line(state: &[u16; STATE_WORDS], out: &mut [u8]) -> u32
-    ensures number { λ r. ⌜ r ≡ numberOf (foremanAnswer (length (now (out .entry))) (stateOf (now (state .entry))) .reply) ⌝ }
+    ensures number { λ r. ⌜ r ≡ numberOf
+        (foremanAnswer (length (now (out .entry))) (stateOf (now (state .entry))) .reply) ⌝ }
     ensures bytes { λ _. ⌜ now (out .exit) ≡ foremanShown (stateOf (now (state .entry))) (now (out .entry)) ⌝ }
 {
     words_handsets::foreman_line(state, out)
@@ -149,13 +167,15 @@ pub extern "C" fn link_survey_foreman_line(state: &[u16; STATE_WORDS], out: &mut
 // The service line, in the same way: 10, 14.
 #[no_mangle]
 pub extern "C" fn link_survey_service_line(state: &[u16; STATE_WORDS], out: &mut [u8]) -> u32
-    ensures number { λ r. ⌜ r ≡ numberOf (serviceAnswer (length (now (out .entry))) (stateOf (now (state .entry))) .reply) ⌝ }
+    ensures number { λ r. ⌜ r ≡ numberOf
+        (serviceAnswer (length (now (out .entry))) (stateOf (now (state .entry))) .reply) ⌝ }
     ensures bytes { λ _. ⌜ now (out .exit) ≡ serviceShown (stateOf (now (state .entry))) (now (out .entry)) ⌝ }
 {
     words_handsets::service_line(state, out)
 }
 
-// No state: the ends of a file to the front of `table` and its levels to the front of `levels`, its unit count and its number of links: 1, 2, 3, 6, 16, 14.
+// No state: the ends of a file to the front of `table` and its levels to the front of `levels`, its unit count and its
+// number of links: 1, 2, 3, 6, 16, 14.
 #[no_mangle]
 pub extern "C" fn link_survey_read(
     input: &[u8],
@@ -164,13 +184,18 @@ pub extern "C" fn link_survey_read(
     units: &mut u16,
     links: &mut u16,
 ) -> u32
-    ensures number { λ r. ⌜ r ≡ readRefusal (linesOf (now (input .entry))) (length (now (table .entry))) (length (now (levels .entry))) ⌝ }
-    ensures words { λ _. ⌜ now (table .exit) ≡ readWords (now (input .entry)) (now (table .entry)) (length (now (levels .entry))) ⌝ }
-    ensures levels { λ _. ⌜ now (levels .exit) ≡ readLevels (now (input .entry)) (length (now (table .entry))) (now (levels .entry)) ⌝ }
+    ensures number { λ r. ⌜ r ≡ readRefusal (linesOf (now (input .entry))) (length (now (table .entry)))
+        (length (now (levels .entry))) ⌝ }
+    ensures words { λ _. ⌜ now (table .exit)
+        ≡ readWords (now (input .entry)) (now (table .entry)) (length (now (levels .entry))) ⌝ }
+    ensures levels { λ _. ⌜ now (levels .exit)
+        ≡ readLevels (now (input .entry)) (length (now (table .entry))) (now (levels .entry)) ⌝ }
     ensures units { λ _. ⌜ now (units .exit)
-        ≡ wordSaid (readRefusal (linesOf (now (input .entry))) (length (now (table .entry))) (length (now (levels .entry)))) (unitsIn (linesOf (now (input .entry)))) (now (units .entry)) ⌝ }
+        ≡ wordSaid (readRefusal (linesOf (now (input .entry))) (length (now (table .entry)))
+        (length (now (levels .entry)))) (unitsIn (linesOf (now (input .entry)))) (now (units .entry)) ⌝ }
     ensures links { λ _. ⌜ now (links .exit)
-        ≡ wordSaid (readRefusal (linesOf (now (input .entry))) (length (now (table .entry))) (length (now (levels .entry)))) (linkFrames (linesOf (now (input .entry)))) (now (links .entry)) ⌝ }
+        ≡ wordSaid (readRefusal (linesOf (now (input .entry))) (length (now (table .entry)))
+        (length (now (levels .entry)))) (linkFrames (linesOf (now (input .entry)))) (now (links .entry)) ⌝ }
 {
     words_calls::read(input, table, levels, units, links)
 }
@@ -183,8 +208,10 @@ pub extern "C" fn link_survey_write(
     levels: &[i16],
     out: &mut [u8],
 ) -> u32
-    ensures number { λ r. ⌜ r ≡ writeRefusal units (now (table .entry)) (now (levels .entry)) (length (now (out .entry))) ⌝ }
-    ensures bytes { λ _. ⌜ now (out .exit) ≡ writtenFile units (now (table .entry)) (now (levels .entry)) (now (out .entry)) ⌝ }
+    ensures number { λ r. ⌜ r ≡ writeRefusal units (now (table .entry)) (now (levels .entry))
+        (length (now (out .entry))) ⌝ }
+    ensures bytes { λ _. ⌜ now (out .exit)
+        ≡ writtenFile units (now (table .entry)) (now (levels .entry)) (now (out .entry)) ⌝ }
 {
     words_calls::write(units, table, levels, out)
 }
@@ -198,9 +225,11 @@ pub extern "C" fn link_survey_seat_load(
     table: &[u16],
     levels: &[i16],
 ) -> u32
-    ensures number { λ r. ⌜ r ≡ seatRefusal seat (record { units = units; words = now (table .entry); levels = now (levels .entry) }) ⌝ }
+    ensures number { λ r. ⌜ r ≡ seatRefusal seat
+        (record { units = units; words = now (table .entry); levels = now (levels .entry) }) ⌝ }
     ensures seats { λ _. ⌜ ((last : ℕ) → officeOf last (now (seats .exit))
-        ≡ loadSeat seat (record { units = units; words = now (table .entry); levels = now (levels .entry) }) (officeOf last (now (seats .entry)))) ⌝ }
+        ≡ loadSeat seat (record { units = units; words = now (table .entry); levels = now (levels .entry) })
+        (officeOf last (now (seats .entry)))) ⌝ }
 {
     words_seats::load(seats, seat, units, table, levels)
 }
@@ -209,7 +238,8 @@ pub extern "C" fn link_survey_seat_load(
 #[no_mangle]
 pub extern "C" fn link_survey_tick(last: &mut u16, seats: &mut [[u16; STATE_WORDS]; 8]) -> u32
     ensures number { λ r. ⌜ r ≡ tickRefusal (officeOf (now (last .entry)) (now (seats .entry))) ⌝ }
-    ensures office { λ _. ⌜ officeOf (now (last .exit)) (now (seats .exit)) ≡ tick (officeOf (now (last .entry)) (now (seats .entry))) ⌝ }
+    ensures office { λ _. ⌜ officeOf (now (last .exit)) (now (seats .exit))
+        ≡ tick (officeOf (now (last .entry)) (now (seats .entry))) ⌝ }
 {
     let r = words_seats::serve(*last, seats);
     *last = r.last;

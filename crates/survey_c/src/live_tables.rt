@@ -12,9 +12,14 @@ pub extern "C" fn link_survey_live_open(
     table: &[u16],
     levels: &[i16],
 ) -> u32
-    ensures number { λ r. ⌜ r ≡ openAnswer (record { units = units; words = now (table .entry); levels = now (levels .entry) }) .number ⌝ }
-    ensures words { λ _. ⌜ now (live .exit) ≡ wordsLeft (openAnswer (record { units = units; words = now (table .entry); levels = now (levels .entry) })) (now (live .entry)) ⌝ }
-    ensures live { λ _. ⌜ liveIn (now (live .exit)) ≡ liveLeft (openAnswer (record { units = units; words = now (table .entry); levels = now (levels .entry) })) (liveIn (now (live .entry))) ⌝ }
+    ensures number { λ r. ⌜ r ≡ openAnswer
+        (record { units = units; words = now (table .entry); levels = now (levels .entry) }) .number ⌝ }
+    ensures words { λ _. ⌜ now (live .exit)
+        ≡ wordsLeft (openAnswer (record { units = units; words = now (table .entry); levels = now (levels .entry) }))
+        (now (live .entry)) ⌝ }
+    ensures live { λ _. ⌜ liveIn (now (live .exit))
+        ≡ liveLeft (openAnswer (record { units = units; words = now (table .entry); levels = now (levels .entry) }))
+        (liveIn (now (live .entry))) ⌝ }
 {
     words_live::opened(live, units, table, levels)
 }
@@ -28,7 +33,8 @@ pub extern "C" fn link_survey_live_add(
     level: i16,
 ) -> u32
     ensures number { λ r. ⌜ r ≡ addAnswer a b level (liveIn (now (live .entry))) .number ⌝ }
-    ensures words { λ _. ⌜ now (live .exit) ≡ wordsLeft (addAnswer a b level (liveIn (now (live .entry)))) (now (live .entry)) ⌝ }
+    ensures words { λ _. ⌜ now (live .exit)
+        ≡ wordsLeft (addAnswer a b level (liveIn (now (live .entry)))) (now (live .entry)) ⌝ }
     ensures live { λ _. ⌜ liveIn (now (live .exit)) ≡ addAnswer a b level (liveIn (now (live .entry))) .live ⌝ }
 {
     words_live::add(live, a, b, level)
@@ -38,7 +44,8 @@ pub extern "C" fn link_survey_live_add(
 #[no_mangle]
 pub extern "C" fn link_survey_live_withdraw(live: &mut [u16; LIVE_WORDS], a: u16, b: u16) -> u32
     ensures number { λ r. ⌜ r ≡ withdrawAnswer a b (liveIn (now (live .entry))) .number ⌝ }
-    ensures words { λ _. ⌜ now (live .exit) ≡ wordsLeft (withdrawAnswer a b (liveIn (now (live .entry)))) (now (live .entry)) ⌝ }
+    ensures words { λ _. ⌜ now (live .exit)
+        ≡ wordsLeft (withdrawAnswer a b (liveIn (now (live .entry)))) (now (live .entry)) ⌝ }
     ensures live { λ _. ⌜ liveIn (now (live .exit)) ≡ withdrawAnswer a b (liveIn (now (live .entry))) .live ⌝ }
 {
     words_live::withdraw(live, a, b)

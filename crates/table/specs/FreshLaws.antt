@@ -1,5 +1,5 @@
--- Why a fresh table is refused (document 02, T-10): for a stored table's causes, and last because a unit has no link. 22 in words, that its test decides it,
--- and the two laws that bind every number to its cause.
+-- Why a fresh table is refused (document 02, T-10): for a stored table's causes, and last because a unit has no link.
+-- 22 in words, that its test decides it, and the two laws that bind every number to its cause.
 use mathlib.Core.Path.{_≡_, refl, sym, ap, _∙_}
 use mathlib.Core.Bool.{Bool, true, false, cond, not, _&&_, _||_, false≢true}
 use mathlib.Core.Logic.{_⊎_, inl, inr, _↔_}
@@ -13,10 +13,12 @@ use lib.IntN.{ℤ}
 use borrow.Author.Tests.{leb-true, le-leb, eqb-true, eq-eqb, not-true}
 use Rattle.base_lists.specs.Tests.{or-cases, or-left, or-right, and-left, and-right, and-true, not-both, refuted}
 use Rattle.table.specs.Refusals.{firstOf}
-use Rattle.table.specs.RefusalLaws.{Reason, FirstCause, SomeCause, first-cause, some-cause, tests, first-some, first-none, passed-test}
+use Rattle.table.specs.RefusalLaws.{Reason, FirstCause, SomeCause, first-cause, some-cause, tests, first-some}
+use Rattle.table.specs.RefusalLaws.{first-none, passed-test}
 use Rattle.table.specs.TableLaws.{endA-later, endB-later}
 use Rattle.table.specs.TableCauses.{storedReasons}
-use Rattle.table.specs.Table.{linkCount, endA, endB, isEnd, unlinkedBelow, unlinkedUnit, unitTests, storedTests, freshTests, storedRefusal, freshRefusal, refusalAs}
+use Rattle.table.specs.Table.{linkCount, endA, endB, isEnd, unlinkedBelow, unlinkedUnit, unitTests, storedTests}
+use Rattle.table.specs.Table.{freshTests, storedRefusal, freshRefusal, refusalAs}
 
 -- ---- the cause
 
@@ -48,7 +50,8 @@ end-forth u (a ∷ b ∷ t) e = go (end-forth u t) (or-cases (eqb u a) (eqb u b 
         let l : p .0 < linkCount t = p .1 in
         (suc (p .0), omega arith, rw (endA-later a b t (p .0), endB-later a b t (p .0)) (p .2))
 
-    go : (isEnd u t ≡ true → (j : ℕ) × (j < linkCount t) × EndOf t u j) → (eqb u a ≡ true) ⊎ ((eqb u b || isEnd u t) ≡ true)
+    go : (isEnd u t ≡ true → (j : ℕ) × (j < linkCount t) × EndOf t u j) →
+        (eqb u a ≡ true) ⊎ ((eqb u b || isEnd u t) ≡ true)
         → (j : ℕ) × (j < linkCount (a ∷ b ∷ t)) × EndOf (a ∷ b ∷ t) u j
     go rest (inl h) = (zero, omega arith, inl (eqb-true u a h))
     go rest (inr h) = later rest (or-cases (eqb u b) (isEnd u t) h)
@@ -58,7 +61,8 @@ unfolding isEnd
 end-back u [] j l e = absurd (omega arith)
 end-back u (a ∷ []) j l e = absurd (omega arith)
 end-back u (a ∷ b ∷ t) zero l (inl e) = or-left (eqb u a) (eqb u b || isEnd u t) (eq-eqb u a e)
-end-back u (a ∷ b ∷ t) zero l (inr e) = or-right (eqb u a) (eqb u b || isEnd u t) (or-left (eqb u b) (isEnd u t) (eq-eqb u b e))
+end-back u (a ∷ b ∷ t) zero l (inr e) = or-right (eqb u a) (eqb u b || isEnd u t)
+    (or-left (eqb u b) (isEnd u t) (eq-eqb u b e))
 end-back u (a ∷ b ∷ t) (suc j) l e =
     or-right (eqb u a) (eqb u b || isEnd u t)
     (or-right (eqb u b) (isEnd u t) (end-back u t j (omega arith) (rw (endA-later a b t j, endB-later a b t j) at e)))
@@ -68,7 +72,8 @@ unfolding unlinkedBelow
 below-forth zero t e = absurd (false≢true e)
 below-forth (suc k) t e = go (below-forth k t) (or-cases (unlinkedBelow k t) (not (isEnd k t)) e)
   where
-    go : (unlinkedBelow k t ≡ true → (u : ℕ) × (u < k) × Unlinked t u) → (unlinkedBelow k t ≡ true) ⊎ (not (isEnd k t) ≡ true)
+    go : (unlinkedBelow k t ≡ true → (u : ℕ) × (u < k) × Unlinked t u) →
+        (unlinkedBelow k t ≡ true) ⊎ (not (isEnd k t) ≡ true)
         → (u : ℕ) × (u < suc k) × Unlinked t u
     go rest (inl h) = let p = rest h in let l : p .0 < k = p .1 in (p .0, omega arith, p .2)
     go rest (inr h) = (k, omega arith, λ j l q. not-both (isEnd k t) (end-back k t j l q) (not-true (isEnd k t) h))
@@ -97,21 +102,25 @@ unlinked-exact n t = (
 
 -- 22
 abbrev pub unitReasons : ℕ → List ℕ → List Reason
-unitReasons n t = record { number = 22; test = unlinkedUnit n t; cause = UnlinkedUnit n t; exact = unlinked-exact n t } ∷ []
+unitReasons n t = record { number = 22; test = unlinkedUnit n t; cause = UnlinkedUnit n t; exact = unlinked-exact n t }
+    ∷ []
 
 unfoldable pub freshReasons : ℕ → List ℕ → List ℤ → List Reason
 freshReasons n t ls = storedReasons n t ls ++ unitReasons n t
 
-pub freshRefusal-tests : (n : ℕ) (t : List ℕ) (ls : List ℤ) → freshRefusal n t ls ≡ firstOf (tests (freshReasons n t ls))
+pub freshRefusal-tests : (n : ℕ) (t : List ℕ) (ls : List ℤ) →
+    freshRefusal n t ls ≡ firstOf (tests (freshReasons n t ls))
 unfolding freshRefusal freshReasons storedReasons
 freshRefusal-tests n t ls = refl
 
 -- the reply is k exactly when cause k holds and no earlier one does
-pub fresh-first-cause : (n : ℕ) (t : List ℕ) (ls : List ℤ) (k : ℕ) → (k ≡ 0 → ⊥) → (freshRefusal n t ls ≡ k) ↔ FirstCause (freshReasons n t ls) k
+pub fresh-first-cause : (n : ℕ) (t : List ℕ) (ls : List ℤ) (k : ℕ) → (k ≡ 0 → ⊥) →
+    (freshRefusal n t ls ≡ k) ↔ FirstCause (freshReasons n t ls) k
 fresh-first-cause n t ls k h = rw freshRefusal-tests (first-cause (freshReasons n t ls) k h)
 
 -- a fresh table is refused exactly when some cause holds
-pub fresh-some-cause : (n : ℕ) (t : List ℕ) (ls : List ℤ) → (freshRefusal n t ls ≡ 0 → ⊥) ↔ SomeCause (freshReasons n t ls)
+pub fresh-some-cause : (n : ℕ) (t : List ℕ) (ls : List ℤ) →
+    (freshRefusal n t ls ≡ 0 → ⊥) ↔ SomeCause (freshReasons n t ls)
 unfolding freshReasons storedReasons
 fresh-some-cause n t ls = rw freshRefusal-tests (some-cause (freshReasons n t ls) (omega arith))
 
@@ -138,7 +147,8 @@ module _ (n : ℕ) (t : List ℕ) (ls : List ℤ) where
 
   pub fresh-linked : freshRefusal n t ls ≡ 0 → UnlinkedUnit n t → ⊥
   fresh-linked e c =
-      not-both (unlinkedUnit n t) (unlinked-exact n t .1 c) (passed-test (unlinkedUnit n t) 22 0 (omega arith) (sym (fresh-last (fresh-accepted e)) ∙ e) .0)
+      not-both (unlinkedUnit n t) (unlinked-exact n t .1 c)
+      (passed-test (unlinkedUnit n t) 22 0 (omega arith) (sym (fresh-last (fresh-accepted e)) ∙ e) .0)
 
 -- ---- either, as the table is taken
 

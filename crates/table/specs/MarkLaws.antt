@@ -15,7 +15,8 @@ use borrow.Author.Tests.{leb-false}
 use Rattle.base_lists.specs.Tests.{either, not-both, or-false-left, or-false-right, or-swap}
 use Rattle.base_lists.specs.Rests.{rest-two}
 use Rattle.table.specs.BitLaws.{bit, set-same, set-other}
-use Rattle.table.specs.Table.{endMissing, sameEnds, samePair, joinedIn, repeatedBy, repeatedLink, repeatedPair, repeatedAs}
+use Rattle.table.specs.Table.{endMissing, sameEnds, samePair, joinedIn, repeatedBy, repeatedLink, repeatedPair}
+use Rattle.table.specs.Table.{repeatedAs}
 use Rattle.table.specs.TableCauses.{SameEnds, sameEnds-exact, samePair-exact}
 use Rattle.table.specs.Marks.{pairAt, orderedAt, placeAs, marked, mark, foundFrom}
 
@@ -70,10 +71,12 @@ tells-ends = record { within = λ a b ha hb. omega arith; place-same = there; sa
 pub tells-pairs : Tells orderedAt samePair
 tells-pairs = record { within = λ a b ha hb. omega arith; place-same = there; same-place = back }
   where
-    there : (a b c d : ℕ) → a < 256 → b < 256 → c < 256 → d < 256 → samePair a b c d ≡ true → orderedAt a b ≡ orderedAt c d
+    there : (a b c d : ℕ) → a < 256 → b < 256 → c < 256 → d < 256 → samePair a b c d ≡ true →
+        orderedAt a b ≡ orderedAt c d
     there a b c d ha hb hc hd e = let p = samePair-exact a b c d .0 e in omega (arith, p .0, p .1)
 
-    back : (a b c d : ℕ) → a < 256 → b < 256 → c < 256 → d < 256 → orderedAt a b ≡ orderedAt c d → samePair a b c d ≡ true
+    back : (a b c d : ℕ) → a < 256 → b < 256 → c < 256 → d < 256 → orderedAt a b ≡ orderedAt c d →
+        samePair a b c d ≡ true
     back a b c d ha hb hc hd e = samePair-exact a b c d .1 (omega arith)
 
 -- ---- what marks say
@@ -128,7 +131,8 @@ module _ (place : ℕ → ℕ → ℕ) (same : ℕ → ℕ → ℕ → ℕ → B
 
   module _ (m : List ℕ) (full : length m ≡ 8192) (a b : ℕ) (ha : a < 256) (hb : b < 256) where
     -- a link after the mark is marked that was marked before, or that is the same
-    mark-one : (c d : ℕ) → c < 256 → d < 256 → marked (mark m (place a b)) (place c d) ≡ (marked m (place c d) || same a b c d)
+    mark-one : (c d : ℕ) → c < 256 → d < 256 →
+        marked (mark m (place a b)) (place c d) ≡ (marked m (place c d) || same a b c d)
     mark-one c d hc hd = go (either (same a b c d))
       where
         go : (same a b c d ≡ true) ⊎ (same a b c d ≡ false)
@@ -137,11 +141,13 @@ module _ (place : ℕ → ℕ → ℕ) (same : ℕ → ℕ → ℕ → ℕ → B
             let q : place c d ≡ place a b = sym (T .place-same a b c d ha hb hc hd e) in
             rw (e, or-true, q) (mark-same m full (place a b) (T .within a b ha hb))
         go (inr e) =
-            let n : place c d ≡ place a b → ⊥ = λ q. not-both (same a b c d) (T .same-place a b c d ha hb hc hd (sym q)) e in
+            let n : place c d ≡ place a b →
+            ⊥ = λ q. not-both (same a b c d) (T .same-place a b c d ha hb hc hd (sym q)) e in
             rw (e, or-false) (mark-other m full (place a b) (T .within a b ha hb) (place c d) n)
 
     -- a table after the mark: some link was marked before, or is the same
-    mark-all : (t : List ℕ) → endMissing 256 t ≡ false → markedIn (mark m (place a b)) t ≡ (markedIn m t || joinedIn same a b t)
+    mark-all : (t : List ℕ) → endMissing 256 t ≡ false →
+        markedIn (mark m (place a b)) t ≡ (markedIn m t || joinedIn same a b t)
     unfolding markedIn joinedIn endMissing
     mark-all [] h = refl
     mark-all (c ∷ []) h = refl
@@ -153,7 +159,8 @@ module _ (place : ℕ → ℕ → ℕ) (same : ℕ → ℕ → ℕ → ℕ → B
         (or-swap (marked m (place c d)) (same a b c d) (markedIn m t) (joinedIn same a b t))
 
   -- the search finds a link that is marked at the start, or one that is repeated
-  found-exact : (t m : List ℕ) → length m ≡ 8192 → endMissing 256 t ≡ false → foundFrom place m t ≡ (markedIn m t || repeatedBy same t)
+  found-exact : (t m : List ℕ) → length m ≡ 8192 → endMissing 256 t ≡ false →
+      foundFrom place m t ≡ (markedIn m t || repeatedBy same t)
   unfolding foundFrom markedIn endMissing
   found-exact [] m full h = refl
   found-exact (a ∷ []) m full h = refl
@@ -184,7 +191,10 @@ getD-blank (suc n) (suc i) = getD-blank n i
 blank-by : (place : ℕ → ℕ → ℕ) (same : ℕ → ℕ → ℕ → ℕ → Bool) → Tells place same → (n : ℕ) → n ≡ 8192 → (t : List ℕ)
     → endMissing 256 t ≡ false → foundFrom place (replicate n 0) t ≡ repeatedBy same t
 blank-by place same T n e t h =
-    rw (found-exact place same T t (replicate n 0) (length-replicate n 0 ∙ e) h, blank-none place same T t (replicate n 0) (getD-blank n))
+    rw (
+      found-exact place same T t (replicate n 0) (length-replicate n 0 ∙ e) h,
+      blank-none place same T t (replicate n 0) (getD-blank n),
+    )
 
 -- from blank marks it finds exactly a repeated link
 pub found-blank : (ordered : Bool) (n : ℕ) → n ≡ 8192 → (t : List ℕ) → endMissing 256 t ≡ false

@@ -1,4 +1,5 @@
--- What a table that passes the checks 4 to 9 is like: no cause of a refusal holds. With levels: it passes alone, and each link has a level in range.
+-- What a table that passes the checks 4 to 9 is like: no cause of a refusal holds. With levels: it passes alone, and
+-- each link has a level in range.
 use mathlib.Core.Path.{_≡_, refl, sym, _∙_}
 use mathlib.Core.Bool.{Bool, true, false, not}
 use mathlib.Core.Logic.{_⊎_, inl, inr}
@@ -12,7 +13,9 @@ use lib.IntN.{ℤ}
 use borrow.Author.Tests.{eqb-true, not-false}
 use Rattle.base_lists.specs.Folds.{every}
 use Rattle.table_levels.specs.Level.{inRange}
-use Rattle.table.specs.Table.{maxUnits, maxLinks, linkCount, endA, endB, levelsDiffer, levelOutside, countTests, levelTests, endTests, countRefusal, levelRefusal, endRefusal, bareRefusal, storedRefusal}
+use Rattle.table.specs.Table.{maxUnits, maxLinks, linkCount, endA, endB, levelsDiffer, levelOutside, countTests}
+use Rattle.table.specs.Table.{levelTests, endTests, countRefusal, levelRefusal, endRefusal, bareRefusal}
+use Rattle.table.specs.Table.{storedRefusal}
 use Rattle.table.specs.RefusalLaws.{SomeCause, passed-test, first-none}
 use Rattle.table.specs.TableLaws.{table-counts, table-levels, table-ends}
 use Rattle.table.specs.TableCauses.{SameEnds, bareReasons, bare-some-cause}
@@ -24,7 +27,8 @@ pub record Passes (n : ℕ) (t : List ℕ) : Type 0 where
   pub fewLinks : linkCount t ≤ maxLinks
   pub endsExist : (i : ℕ) → i < length t → getD t i 0 < n
   pub endsDiffer : (j : ℕ) → j < linkCount t → endA t j ≡ endB t j → ⊥
-  pub once : (j k : ℕ) → (j ≡ k → ⊥) → j < linkCount t → k < linkCount t → SameEnds (endA t j) (endB t j) (endA t k) (endB t k) → ⊥
+  pub once : (j k : ℕ) → (j ≡ k → ⊥) → j < linkCount t → k < linkCount t →
+      SameEnds (endA t j) (endB t j) (endA t k) (endB t k) → ⊥
 
 pub passes : (n : ℕ) (t : List ℕ) → bareRefusal n t ≡ 0 → Passes n t
 unfolding bareReasons
@@ -88,10 +92,12 @@ module _ (n : ℕ) (t : List ℕ) (ls : List ℤ) (e : storedRefusal n t ls ≡ 
   pub table-levelled : length ls ≡ linkCount t
   unfolding levelRefusal
   table-levelled =
-      eqb-true (length ls) (linkCount t) (not-false (eqb (length ls) (linkCount t)) (passed-test (levelsDiffer t ls) 15 _ (omega arith) levels .0))
+      eqb-true (length ls) (linkCount t)
+      (not-false (eqb (length ls) (linkCount t)) (passed-test (levelsDiffer t ls) 15 _ (omega arith) levels .0))
 
   -- each in range
   pub table-range : every inRange ls ≡ true
   unfolding levelRefusal
   table-range =
-      not-false (every inRange ls) (passed-test (levelOutside ls) 16 _ (omega arith) (passed-test (levelsDiffer t ls) 15 _ (omega arith) levels .1) .0)
+      not-false (every inRange ls) (passed-test (levelOutside ls) 16 _ (omega arith)
+      (passed-test (levelsDiffer t ls) 15 _ (omega arith) levels .1) .0)

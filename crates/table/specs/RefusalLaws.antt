@@ -1,5 +1,5 @@
--- Each refusal is bound to its cause, and only that: for tests that decide their causes, the reply is number k exactly when cause k holds
--- and no earlier one does, and some number comes back exactly when some cause holds.
+-- Each refusal is bound to its cause, and only that: for tests that decide their causes, the reply is number k exactly
+-- when cause k holds and no earlier one does, and some number comes back exactly when some cause holds.
 use mathlib.Core.Path.{_≡_, refl, sym}
 use mathlib.Core.Bool.{Bool, true, false, cond, false≢true}
 use mathlib.Core.Logic.{_⊎_, inl, inr, _↔_}
@@ -64,7 +64,8 @@ step-none false C x n m S h later = (λ (e : m ≡ 0 → ⊥). inr (later .0 e),
 pub some-cause : (rs : List Reason) → Numbered rs → (firstOf (tests rs) ≡ 0 → ⊥) ↔ SomeCause rs
 some-cause [] h = (λ e. e refl, λ (b : ⊥). absurd b)
 some-cause (r ∷ rs) h =
-    step-none (r .test) (r .cause) (r .exact) (r .number) (firstOf (tests rs)) (SomeCause rs) (h .0) (some-cause rs (h .1))
+    step-none (r .test) (r .cause) (r .exact) (r .number) (firstOf (tests rs)) (SomeCause rs) (h .0)
+    (some-cause rs (h .1))
 
 -- where nothing is refused, each test in turn fails
 pub passed-test : (b : Bool) (n m : ℕ) → (n ≡ 0 → ⊥) → cond b n m ≡ 0 → (b ≡ false) × (m ≡ 0)

@@ -60,7 +60,8 @@ none-of true false true r = refl
 none-of true false false r = refl
 
 -- after all links a mark is blank that was blank before, and where no link ends
-blank-seen : (t m : List ℕ) (v : ℕ) → v < length m → eqb (getD (endsSeen m t) v 0) 0 ≡ (eqb (getD m v 0) 0 && not (isEnd v t))
+blank-seen : (t m : List ℕ) (v : ℕ) → v < length m →
+    eqb (getD (endsSeen m t) v 0) 0 ≡ (eqb (getD m v 0) 0 && not (isEnd v t))
 unfolding endsSeen isEnd
 blank-seen [] m v l = and-always (eqb (getD m v 0) 0)
 blank-seen (a ∷ []) m v l = and-always (eqb (getD m v 0) 0)
@@ -71,7 +72,8 @@ blank-seen (a ∷ b ∷ t) m v l =
     ∙ rw (blank-set (set m a 1) b v (omega arith), blank-set m a v l)
     (none-of (eqb (getD m v 0) 0) (eqb v a) (eqb v b) (isEnd v t))
 
-blank-below : (k : ℕ) (t m : List ℕ) → k ≤ length m → ((i : ℕ) → getD m i 0 ≡ 0) → someBlank k (endsSeen m t) ≡ unlinkedBelow k t
+blank-below : (k : ℕ) (t m : List ℕ) → k ≤ length m → ((i : ℕ) → getD m i 0 ≡ 0) →
+    someBlank k (endsSeen m t) ≡ unlinkedBelow k t
 unfolding someBlank unlinkedBelow
 blank-below zero t m l z = refl
 blank-below (suc k) t m l z = rw (blank-below k t m (omega arith) z, blank-seen t m k (omega arith), z k) refl
@@ -84,9 +86,11 @@ getD-blank (suc n) (suc i) = getD-blank n i
 -- ---- the search
 
 -- from blank marks it finds exactly a unit without a link
-pub blank-unlinked : (n size : ℕ) (t : List ℕ) → n ≤ size → 2 ≤ n → someBlank n (endsSeen (replicate size 0) t) ≡ unlinkedUnit n t
+pub blank-unlinked : (n size : ℕ) (t : List ℕ) → n ≤ size → 2 ≤ n →
+    someBlank n (endsSeen (replicate size 0) t) ≡ unlinkedUnit n t
 blank-unlinked n size t l h =
-    blank-below n t (replicate size 0) (omega (arith, length-replicate {A = ℕ} size 0)) (getD-blank size) ∙ rw (le-leb 2 n h) refl
+    blank-below n t (replicate size 0) (omega (arith, length-replicate {A = ℕ} size 0)) (getD-blank size)
+    ∙ rw (le-leb 2 n h) refl
 
 -- a single unit passes
 pub alone-linked : (n : ℕ) (t : List ℕ) → n < 2 → false ≡ unlinkedUnit n t

@@ -1,5 +1,6 @@
--- The causes 4 to 9 in the words of document 01 and 15 and 16 in those of document 02, and that each test decides its cause. So the reply of the table check is number k exactly
--- when cause k holds and no earlier one does, and a table is refused exactly when some cause holds.
+-- The causes 4 to 9 in the words of document 01 and 15 and 16 in those of document 02, and that each test decides its
+-- cause. So the reply of the table check is number k exactly when cause k holds and no earlier one does, and a table is
+-- refused exactly when some cause holds.
 use mathlib.Core.Path.{_≡_, refl, sym, ap}
 use mathlib.Core.Bool.{Bool, true, false, not, _&&_, false≢true, true≢false}
 use mathlib.Core.Logic.{_⊎_, inl, inr, _↔_}
@@ -13,13 +14,16 @@ use borrow.Author.Tests.{leb-true, le-leb, ltb-true, lt-ltb, eqb-true, eqb-false
 use lib.IntN.{ℤ}
 use Rattle.base_lists.specs.Folds.{every}
 use Rattle.base_lists.specs.All.{every-at}
-use Rattle.base_lists.specs.Tests.{either, or-cases, or-left, or-right, and-left, and-right, and-true, not-both, refuted}
+use Rattle.base_lists.specs.Tests.{either, or-cases, or-left, or-right, and-left, and-right, and-true, not-both}
+use Rattle.base_lists.specs.Tests.{refuted}
 use Rattle.table_levels.specs.Level.{HIGHEST, inRange}
 use Rattle.table_levels.specs.LevelLaws.{InRange, range-exact}
 use Rattle.table.specs.Refusals.{firstOf}
 use Rattle.table.specs.RefusalLaws.{Reason, FirstCause, SomeCause, first-cause, some-cause, tests}
 use Rattle.table.specs.TableLaws.{endA-later, endB-later}
-use Rattle.table.specs.Table.{maxUnits, maxLinks, linkCount, endA, endB, badUnitCount, oddWords, tooManyLinks, levelsDiffer, levelOutside, endMissing, equalEnds, sameEnds, joinedIn, repeatedLink, bareRefusal, storedRefusal, samePair, repeatedBy, repeatedPair, pairRefusal}
+use Rattle.table.specs.Table.{maxUnits, maxLinks, linkCount, endA, endB, badUnitCount, oddWords, tooManyLinks}
+use Rattle.table.specs.Table.{levelsDiffer, levelOutside, endMissing, equalEnds, sameEnds, joinedIn, repeatedLink}
+use Rattle.table.specs.Table.{bareRefusal, storedRefusal, samePair, repeatedBy, repeatedPair, pairRefusal}
 
 -- ---- the causes
 
@@ -49,7 +53,8 @@ SamePair a b c d = (a ≡ c) × (b ≡ d)
 -- two links are the same
 abbrev RepeatedBy : (ℕ → ℕ → ℕ → ℕ → Type 0) → List ℕ → Type 0
 RepeatedBy Same t =
-    (j : ℕ) × (k : ℕ) × (j ≡ k → ⊥) × (j < linkCount t) × (k < linkCount t) × Same (endA t j) (endB t j) (endA t k) (endB t k)
+    (j : ℕ) × (k : ℕ) × (j ≡ k → ⊥) × (j < linkCount t) × (k < linkCount t)
+    × Same (endA t j) (endB t j) (endA t k) (endB t k)
 
 abbrev RepeatedLink : List ℕ → Type 0
 RepeatedLink t = RepeatedBy SameEnds t
@@ -101,7 +106,8 @@ endMissing-back : (n : ℕ) (t : List ℕ) (i : ℕ) → i < length t → n ≤ 
 unfolding endMissing
 endMissing-back n [] i l h = absurd (not-suc-le-zero l)
 endMissing-back n (x ∷ t) zero l h = or-left (leb n x) (endMissing n t) (le-leb n x h)
-endMissing-back n (x ∷ t) (suc i) l h = or-right (leb n x) (endMissing n t) (endMissing-back n t i (le-of-suc-le-suc l) h)
+endMissing-back n (x ∷ t) (suc i) l h = or-right (leb n x) (endMissing n t)
+    (endMissing-back n t i (le-of-suc-le-suc l) h)
 
 pub endMissing-exact : (n : ℕ) (t : List ℕ) → (endMissing n t ≡ true) ↔ EndMissing n t
 endMissing-exact n t = (endMissing-forth n t, λ c. endMissing-back n t (c .0) (c .1) (c .2))
@@ -127,7 +133,8 @@ equalEnds-back [] j l e = absurd (omega arith)
 equalEnds-back (a ∷ []) j l e = absurd (omega arith)
 equalEnds-back (a ∷ b ∷ t) zero l e = or-left (eqb a b) (equalEnds t) (eq-eqb a b e)
 equalEnds-back (a ∷ b ∷ t) (suc j) l e =
-    or-right (eqb a b) (equalEnds t) (equalEnds-back t j (omega arith) (rw (endA-later a b t j, endB-later a b t j) at e))
+    or-right (eqb a b) (equalEnds t) (equalEnds-back t j (omega arith)
+    (rw (endA-later a b t j, endB-later a b t j) at e))
 
 pub equalEnds-exact : (t : List ℕ) → (equalEnds t ≡ true) ↔ EqualEnds t
 equalEnds-exact t = (equalEnds-forth t, λ c. equalEnds-back t (c .0) (c .1) (c .2))
@@ -155,7 +162,8 @@ SameEnds-sym : (a b c d : ℕ) → SameEnds a b c d → SameEnds c d a b
 SameEnds-sym a b c d (inl p) = inl (sym (p .0), sym (p .1))
 SameEnds-sym a b c d (inr p) = inr (sym (p .1), sym (p .0))
 
-module _ (same : ℕ → ℕ → ℕ → ℕ → Bool) (Same : ℕ → ℕ → ℕ → ℕ → Type 0) (exact : (a b c d : ℕ) → (same a b c d ≡ true) ↔ Same a b c d)
+module _ (same : ℕ → ℕ → ℕ → ℕ → Bool) (Same : ℕ → ℕ → ℕ → ℕ → Type 0) (exact : (a b c d : ℕ) →
+    (same a b c d ≡ true) ↔ Same a b c d)
     (turn : (a b c d : ℕ) → Same a b c d → Same c d a b) where
   -- some link of the table is the same as (a, b)
   abbrev JoinedIn : ℕ → ℕ → List ℕ → Type 0
@@ -167,37 +175,58 @@ module _ (same : ℕ → ℕ → ℕ → ℕ → Bool) (Same : ℕ → ℕ → �
   joined-forth a b (c ∷ []) e = absurd (false≢true e)
   joined-forth a b (c ∷ d ∷ t) e = go (joined-forth a b t) (or-cases (same a b c d) (joinedIn same a b t) e)
     where
-      go : (joinedIn same a b t ≡ true → JoinedIn a b t) → (same a b c d ≡ true) ⊎ (joinedIn same a b t ≡ true) → JoinedIn a b (c ∷ d ∷ t)
+      go : (joinedIn same a b t ≡ true → JoinedIn a b t) → (same a b c d ≡ true) ⊎ (joinedIn same a b t ≡ true) →
+          JoinedIn a b (c ∷ d ∷ t)
       go later (inl h) = (zero, omega arith, exact a b c d .0 h)
       go later (inr h) =
           let p = later h in
           let l : p .0 < linkCount t = p .1 in
           (suc (p .0), omega arith, rw (endA-later c d t (p .0), endB-later c d t (p .0)) (p .2))
 
-  joined-back : (a b : ℕ) (t : List ℕ) (k : ℕ) → k < linkCount t → Same a b (endA t k) (endB t k) → joinedIn same a b t ≡ true
+  joined-back : (a b : ℕ) (t : List ℕ) (k : ℕ) → k < linkCount t → Same a b (endA t k) (endB t k) →
+      joinedIn same a b t ≡ true
   unfolding joinedIn
   joined-back a b [] k l s = absurd (omega arith)
   joined-back a b (c ∷ []) k l s = absurd (omega arith)
   joined-back a b (c ∷ d ∷ t) zero l s = or-left (same a b c d) (joinedIn same a b t) (exact a b c d .1 s)
   joined-back a b (c ∷ d ∷ t) (suc k) l s =
-      or-right (same a b c d) (joinedIn same a b t) (joined-back a b t k (omega arith) (rw (endA-later c d t k, endB-later c d t k) at s))
+      or-right (same a b c d) (joinedIn same a b t)
+      (joined-back a b t k (omega arith) (rw (endA-later c d t k, endB-later c d t k) at s))
 
   repeated-forth : (t : List ℕ) → repeatedBy same t ≡ true → RepeatedBy Same t
   repeated-forth [] e = absurd (false≢true e)
   repeated-forth (a ∷ []) e = absurd (false≢true e)
   repeated-forth (a ∷ b ∷ t) e = go (repeated-forth t) (or-cases (joinedIn same a b t) (repeatedBy same t) e)
     where
-      go : (repeatedBy same t ≡ true → RepeatedBy Same t) → (joinedIn same a b t ≡ true) ⊎ (repeatedBy same t ≡ true) → RepeatedBy Same (a ∷ b ∷ t)
+      go : (repeatedBy same t ≡ true → RepeatedBy Same t) → (joinedIn same a b t ≡ true) ⊎ (repeatedBy same t ≡ true) →
+          RepeatedBy Same (a ∷ b ∷ t)
       go later (inl h) =
           let p = joined-forth a b t h in
-          let l : p .0 < linkCount t = p .1 in
-          (zero, suc (p .0), omega arith, omega arith, omega arith, rw (endA-later a b t (p .0), endB-later a b t (p .0)) (p .2))
+          let l : p .0 < linkCount t = p .1 in (
+            zero,
+            suc (p .0),
+            omega arith,
+            omega arith,
+            omega arith,
+            rw (endA-later a b t (p .0), endB-later a b t (p .0)) (p .2),
+          )
       go later (inr h) =
           let p = later h in
           let l : p .0 < linkCount t = p .3 in
           let m : p .1 < linkCount t = p .4 in
-          let n : p .0 ≡ p .1 → ⊥ = p .2 in
-          (suc (p .0), suc (p .1), omega arith, omega arith, omega arith, rw (endA-later a b t (p .0), endB-later a b t (p .0), endA-later a b t (p .1), endB-later a b t (p .1)) (p .5))
+          let n : p .0 ≡ p .1 → ⊥ = p .2 in (
+            suc (p .0),
+            suc (p .1),
+            omega arith,
+            omega arith,
+            omega arith,
+            rw (
+              endA-later a b t (p .0),
+              endB-later a b t (p .0),
+              endA-later a b t (p .1),
+              endB-later a b t (p .1),
+            ) (p .5),
+          )
 
   repeated-back : (t : List ℕ) (j k : ℕ) → (j ≡ k → ⊥) → j < linkCount t → k < linkCount t
       → Same (endA t j) (endB t j) (endA t k) (endB t k) → repeatedBy same t ≡ true
@@ -205,10 +234,12 @@ module _ (same : ℕ → ℕ → ℕ → ℕ → Bool) (Same : ℕ → ℕ → �
   repeated-back (a ∷ []) j k n l m s = absurd (omega arith)
   repeated-back (a ∷ b ∷ t) zero zero n l m s = absurd (n refl)
   repeated-back (a ∷ b ∷ t) zero (suc k) n l m s =
-      or-left (joinedIn same a b t) (repeatedBy same t) (joined-back a b t k (omega arith) (rw (endA-later a b t k, endB-later a b t k) at s))
+      or-left (joinedIn same a b t) (repeatedBy same t)
+      (joined-back a b t k (omega arith) (rw (endA-later a b t k, endB-later a b t k) at s))
   repeated-back (a ∷ b ∷ t) (suc j) zero n l m s =
       or-left (joinedIn same a b t) (repeatedBy same t)
-      (joined-back a b t j (omega arith) (turn (endA t j) (endB t j) a b (rw (endA-later a b t j, endB-later a b t j) at s)))
+      (joined-back a b t j (omega arith)
+      (turn (endA t j) (endB t j) a b (rw (endA-later a b t j, endB-later a b t j) at s)))
   repeated-back (a ∷ b ∷ t) (suc j) (suc k) n l m s =
       or-right (joinedIn same a b t) (repeatedBy same t)
       (repeated-back t j k (λ e. n (ap suc e)) (omega arith) (omega arith)
@@ -244,7 +275,8 @@ outside-forth (z ∷ ls) e = go (outside-forth ls) (either (inRange z))
 pub levelOutside-exact : (ls : List ℤ) → (levelOutside ls ≡ true) ↔ LevelOutside ls
 levelOutside-exact ls = (
   λ e. outside-forth ls (not-true (every inRange ls) e),
-  λ c. rw (refuted (every inRange ls) (λ e. c .2 (range-exact (getD ls (c .0) HIGHEST) .0 (every-at inRange ls (c .0) HIGHEST e (c .1))))),
+  λ c. rw (refuted (every inRange ls) (λ e. c .2
+      (range-exact (getD ls (c .0) HIGHEST) .0 (every-at inRange ls (c .0) HIGHEST e (c .1))))),
 )
 
 -- ---- each number is bound to its cause, and only that
@@ -294,18 +326,25 @@ storedReasons n t ls =
 unfoldable pub pairReasons : ℕ → List ℕ → List Reason
 pairReasons n t =
     countReasons n t
-    ++ endReasons n t (record { number = 9; test = repeatedPair t; cause = RepeatedPair t; exact = repeatedPair-exact t })
+    ++ endReasons n t (record {
+      number = 9;
+      test = repeatedPair t;
+      cause = RepeatedPair t;
+      exact = repeatedPair-exact t;
+    })
 
 storedRefusal-tests : (n : ℕ) (t : List ℕ) (ls : List ℤ) → storedRefusal n t ls ≡ firstOf (tests (storedReasons n t ls))
 unfolding storedRefusal storedReasons
 storedRefusal-tests n t ls = refl
 
 -- the reply is k exactly when cause k holds and no earlier one does
-pub stored-first-cause : (n : ℕ) (t : List ℕ) (ls : List ℤ) (k : ℕ) → (k ≡ 0 → ⊥) → (storedRefusal n t ls ≡ k) ↔ FirstCause (storedReasons n t ls) k
+pub stored-first-cause : (n : ℕ) (t : List ℕ) (ls : List ℤ) (k : ℕ) → (k ≡ 0 → ⊥) →
+    (storedRefusal n t ls ≡ k) ↔ FirstCause (storedReasons n t ls) k
 stored-first-cause n t ls k h = rw storedRefusal-tests (first-cause (storedReasons n t ls) k h)
 
 -- a table is refused exactly when some cause holds
-pub stored-some-cause : (n : ℕ) (t : List ℕ) (ls : List ℤ) → (storedRefusal n t ls ≡ 0 → ⊥) ↔ SomeCause (storedReasons n t ls)
+pub stored-some-cause : (n : ℕ) (t : List ℕ) (ls : List ℤ) →
+    (storedRefusal n t ls ≡ 0 → ⊥) ↔ SomeCause (storedReasons n t ls)
 unfolding storedReasons
 stored-some-cause n t ls =
     rw storedRefusal-tests (some-cause (storedReasons n t ls) (omega arith))
@@ -315,7 +354,8 @@ unfolding pairRefusal pairReasons
 pairRefusal-tests n t = refl
 
 -- the same of ordered pairs
-pub pair-first-cause : (n : ℕ) (t : List ℕ) (k : ℕ) → (k ≡ 0 → ⊥) → (pairRefusal n t ≡ k) ↔ FirstCause (pairReasons n t) k
+pub pair-first-cause : (n : ℕ) (t : List ℕ) (k : ℕ) → (k ≡ 0 → ⊥) →
+    (pairRefusal n t ≡ k) ↔ FirstCause (pairReasons n t) k
 pair-first-cause n t k h = rw pairRefusal-tests (first-cause (pairReasons n t) k h)
 
 pub pair-some-cause : (n : ℕ) (t : List ℕ) → (pairRefusal n t ≡ 0 → ⊥) ↔ SomeCause (pairReasons n t)

@@ -14,8 +14,10 @@ use Rattle.base_lists.specs.Rests.{rest-one, rest-two}
 use Rattle.base_lists.specs.Tests.{or-false-left, or-false-right}
 use Rattle.base_lists.specs.Folds.{every}
 use Rattle.table_levels.specs.Level.{inRange}
-use Rattle.table.specs.Table.{maxUnits, endA, endB, badUnitCount, oddWords, tooManyLinks, levelsDiffer, endMissing, equalEnds, repeatedLink, repeatedPair, repeatedAs}
-use Rattle.table.specs.Table.{countTests, levelTests, endTests, countRefusal, levelRefusal, endRefusal, bareRefusal, storedRefusal, endTestsBy, pairRefusal, unlevelledAs}
+use Rattle.table.specs.Table.{maxUnits, endA, endB, badUnitCount, oddWords, tooManyLinks, levelsDiffer}
+use Rattle.table.specs.Table.{endMissing, equalEnds, repeatedLink, repeatedPair, repeatedAs}
+use Rattle.table.specs.Table.{countTests, levelTests, endTests, countRefusal, levelRefusal, endRefusal}
+use Rattle.table.specs.Table.{bareRefusal, storedRefusal, endTestsBy, pairRefusal, unlevelledAs}
 use Rattle.table.specs.RefusalLaws.{first-some, first-none}
 
 -- ---- a link more at the front
@@ -32,7 +34,8 @@ endB-later a b t j = let e : 2 * suc j + 1 ≡ suc (suc (2 * j + 1)) = omega ari
 pub endMissing-next : (n : ℕ) (t : List ℕ) (i : ℕ) (missing : Bool) → i < length t
     → (missing || endMissing n (drop i t)) ≡ ((missing || leb n (getD t i 0)) || endMissing n (drop (i + 1) t))
 unfolding endMissing
-endMissing-next n t i missing h = rw (rest-one t i 0 h) (sym (or-assoc missing (leb n (getD t i 0)) (endMissing n (drop (i + 1) t))))
+endMissing-next n t i missing h = rw (rest-one t i 0 h)
+    (sym (or-assoc missing (leb n (getD t i 0)) (endMissing n (drop (i + 1) t))))
 
 pub endMissing-end : (n : ℕ) (t : List ℕ) (i : ℕ) → length t ≤ i → endMissing n (drop i t) ≡ false
 unfolding endMissing
@@ -130,7 +133,8 @@ module _ (n : ℕ) (t : List ℕ) where
   unlevelled-counts true h = sym (first-some (countTests n t) (endTestsBy n t (repeatedPair t)) h)
   unlevelled-counts false h = sym (first-some (countTests n t) (endTests n t) h)
 
-  pub unlevelled-ends : (ordered : Bool) → countRefusal n t ≡ 0 → endRefusal n t (repeatedAs ordered t) ≡ unlevelledAs ordered n t
+  pub unlevelled-ends : (ordered : Bool) → countRefusal n t ≡ 0 →
+      endRefusal n t (repeatedAs ordered t) ≡ unlevelledAs ordered n t
   unfolding countRefusal endRefusal pairRefusal bareRefusal
   unlevelled-ends true p = sym (first-none (countTests n t) (endTestsBy n t (repeatedPair t)) (omega arith) p)
   unlevelled-ends false p = sym (first-none (countTests n t) (endTests n t) (omega arith) p)
@@ -144,9 +148,11 @@ module _ (n : ℕ) (t : List ℕ) (ls : List ℤ) where
   pub table-levels : countRefusal n t ≡ 0 → (levelRefusal t ls ≡ 0 → ⊥) → levelRefusal t ls ≡ storedRefusal n t ls
   unfolding countRefusal levelRefusal storedRefusal
   table-levels p h =
-      sym (first-none (countTests n t) (levelTests t ls ++ endTests n t) (omega arith) p ∙ first-some (levelTests t ls) (endTests n t) h)
+      sym (first-none (countTests n t) (levelTests t ls ++ endTests n t) (omega arith) p
+      ∙ first-some (levelTests t ls) (endTests n t) h)
 
-  pub table-ends : countRefusal n t ≡ 0 → levelRefusal t ls ≡ 0 → endRefusal n t (repeatedAs false t) ≡ storedRefusal n t ls
+  pub table-ends : countRefusal n t ≡ 0 → levelRefusal t ls ≡ 0 →
+      endRefusal n t (repeatedAs false t) ≡ storedRefusal n t ls
   unfolding countRefusal levelRefusal endRefusal storedRefusal
   table-ends p q =
       sym

@@ -2,7 +2,9 @@
 ghost use mathlib.Core.Path.{_≡_};
 ghost use mathlib.Core.Bool.{false, _||_};
 ghost use Prim.Native.Nat.{_≤_};
-ghost use Rattle.table.specs.Table.{maxUnits, endMissing, equalEnds, repeatedLink, countRefusal, levelRefusal, endRefusal, bareRefusal, storedRefusal, refusalAs, repeatedAs, pairRefusal, unlevelledAs, unlinkedUnit};
+ghost use Rattle.table.specs.Table.{maxUnits, endMissing, equalEnds, repeatedLink, countRefusal, levelRefusal};
+ghost use Rattle.table.specs.Table.{endRefusal, bareRefusal, storedRefusal, refusalAs, repeatedAs, pairRefusal};
+ghost use Rattle.table.specs.Table.{unlevelledAs, unlinkedUnit};
 
 mod marks;
 mod seen;
@@ -15,7 +17,8 @@ pub const MAX_LINKS: usize = 1024;
 // The mark "absent".
 pub const ABSENT: u16 = 65535;
 
-// The number of the first check that fails, 0 where the table passes with its levels: of a stored table 4 to 6, 15, 16, 7 to 9, of a fresh one last 22.
+// The number of the first check that fails, 0 where the table passes with its levels: of a stored table 4 to 6, 15, 16,
+// 7 to 9, of a fresh one last 22.
 pub fn refusal(fresh: bool, units: u16, table: &[u16], levels: &[i16]) -> u8
     ensures { λ r. ⌜ r ≡ refusalAs fresh units (now (table .entry)) (now (levels .entry)) ⌝ }
 {

@@ -1,4 +1,5 @@
-// Units without a link by marks, a byte a unit, in time linear in the links and the units: the definitions are in specs/Seen.antt.
+// Units without a link by marks, a byte a unit, in time linear in the links and the units: the definitions are in
+// specs/Seen.antt.
 ghost use mathlib.Core.Path.{_≡_};
 ghost use Rattle.table.specs.Seen.{endsSeen, someBlank};
 

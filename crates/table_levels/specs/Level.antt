@@ -1,4 +1,5 @@
--- A level (document 02, T-01): the received signal of a link, a signed number of dBm from −127 to 0, and its two's complement in a byte or a word.
+-- A level (document 02, T-01): the received signal of a link, a signed number of dBm from −127 to 0, and its two's
+-- complement in a byte or a word.
 use mathlib.Core.Bool.{Bool, cond, _&&_}
 use mathlib.Core.List.{List, [], _∷_}
 use Prim.Native.Nat.{ℕ, _+_, _-_, _/_, _%_}

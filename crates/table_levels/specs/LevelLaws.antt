@@ -109,7 +109,8 @@ twos-signed power x h e = go (decLt x (power / 2))
         rw (signed-many power x (omega arith)) (rw (mod-eq-of-lt low) (omega arith))
 
 -- and so does a signed number that has its place in the power
-pub signed-twos : (power : ℕ) (z : ℤ) → power ≡ power / 2 + power / 2 → mag z < power / 2 → signed power (twos power z) ≡ z
+pub signed-twos : (power : ℕ) (z : ℤ) → power ≡ power / 2 + power / 2 → mag z < power / 2 →
+    signed power (twos power z) ≡ z
 unfolding twos
 signed-twos power (pos n) e h = let low : n < power = omega arith in rw (mod-eq-of-lt low) (signed-few power n h)
 signed-twos power (negsuc n) e h =
@@ -143,14 +144,19 @@ byte-bad b h n = go (decLt b 128) (decLe b 128)
     go : Dec (b < 128) → Dec (b ≤ 128) → leb b 128 ≡ not (inRange (byteLevel b))
     go (yes l) m = rw (signed-few 256 b l, le-leb b 128 (omega arith), lt-leb b 0 (omega arith)) refl
     go (no l) (yes m) = rw (signed-many 256 b (omega arith), le-leb b 128 m, lt-leb (255 - b) 126 (omega arith)) refl
-    go (no l) (no m) = rw (signed-many 256 b (omega arith), lt-leb b 128 (omega arith), le-leb (255 - b) 126 (omega arith)) refl
+    go (no l) (no m) = rw (
+      signed-many 256 b (omega arith),
+      lt-leb b 128 (omega arith),
+      le-leb (255 - b) 126 (omega arith),
+    ) refl
 
 -- ---- all levels, from a place on
 
 pub range-next : (ls : List ℤ) (i : ℕ) (b : Bool) → i < length ls
     → (b && every inRange (drop i ls)) ≡ ((b && inRange (getD ls i (pos 0))) && every inRange (drop (i + 1) ls))
 range-next ls i b h =
-    ap (λ (t : List ℤ). b && every inRange t) (rest-one ls i (pos 0) h) ∙ sym (and-assoc b (inRange (getD ls i (pos 0))) (every inRange (drop (i + 1) ls)))
+    ap (λ (t : List ℤ). b && every inRange t) (rest-one ls i (pos 0) h)
+    ∙ sym (and-assoc b (inRange (getD ls i (pos 0))) (every inRange (drop (i + 1) ls)))
 
 pub range-end : (ls : List ℤ) (i : ℕ) (b : Bool) → length ls ≤ i → (b && every inRange (drop i ls)) ≡ b
 range-end ls i b h = rw (drop-of-length-le ls {i = i} h) (and-true b)

@@ -38,15 +38,19 @@ unfolding fromWords
 levels-one a w = levels-append a (w ∷ [])
 
 -- one level more laid down as a word
-pub words-next : (ls : List ℤ) (to : List ℕ) (i w : ℕ) → w ≡ levelWord (getD ls i (pos 0)) → i < length ls → length ls ≡ length to
+pub words-next : (ls : List ℤ) (to : List ℕ) (i w : ℕ) → w ≡ levelWord (getD ls i (pos 0)) → i < length ls →
+    length ls ≡ length to
     → set (toWords (take i ls) ++ drop i to) i w ≡ toWords (take (i + 1) ls) ++ drop (i + 1) to
 words-next ls to i w e h l =
-    put-one (toWords (take i ls)) to i w (length-words (take i ls) ∙ length-take-le i ls (omega arith)) (omega (arith, l))
+    put-one (toWords (take i ls)) to i w (length-words (take i ls)
+    ∙ length-take-le i ls (omega arith)) (omega (arith, l))
     ∙ ap (λ (x : List ℕ). x ++ drop (i + 1) to)
-    (ap (λ (x : ℕ). toWords (take i ls) ++ x ∷ []) e ∙ sym (words-one (take i ls) (getD ls i (pos 0))) ∙ ap toWords (sym (rw (add-one i) (take-suc ls i (pos 0) h))))
+    (ap (λ (x : ℕ). toWords (take i ls) ++ x ∷ []) e ∙ sym (words-one (take i ls) (getD ls i (pos 0)))
+    ∙ ap toWords (sym (rw (add-one i) (take-suc ls i (pos 0) h))))
 
 -- a level of 16 bits comes back
-pub back-next : (ls : List ℤ) (i : ℕ) → i < length ls → mag (getD ls i (pos 0)) < 32768 → fromWords (toWords (take i ls)) ≡ take i ls
+pub back-next : (ls : List ℤ) (i : ℕ) → i < length ls → mag (getD ls i (pos 0)) < 32768 →
+    fromWords (toWords (take i ls)) ≡ take i ls
     → fromWords (toWords (take (i + 1) ls)) ≡ take (i + 1) ls
 back-next ls i h f e =
     let z = getD ls i (pos 0) in
@@ -68,7 +72,8 @@ none-words to = refl
 pub words-kept : (ws : List ℕ) → ((i : ℕ) → getD ws i 0 < 65536) → toWords (fromWords ws) ≡ ws
 unfolding toWords fromWords
 words-kept [] h = refl
-words-kept (w ∷ ws) h = ap₂ (λ (x : ℕ) (l : List ℕ). x ∷ l) (twos-signed 65536 w (h zero) refl) (words-kept ws (λ (i : ℕ). h (suc i)))
+words-kept (w ∷ ws) h = ap₂ (λ (x : ℕ) (l : List ℕ). x ∷ l) (twos-signed 65536 w (h zero) refl)
+    (words-kept ws (λ (i : ℕ). h (suc i)))
 
 -- all in range, told by the words
 pub words-range : (ws : List ℕ) → every (λ (w : ℕ). inRange (wordLevel w)) ws ≡ every inRange (fromWords ws)

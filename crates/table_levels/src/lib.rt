@@ -3,7 +3,8 @@ ghost use mathlib.Core.Path.{_≡_};
 ghost use mathlib.Core.Bool.{_&&_};
 ghost use lib.ListN.{length};
 ghost use Rattle.base_lists.specs.Folds.{every};
-ghost use Rattle.table_levels.specs.Level.{raisedOf, inRange, levelByte, byteLevel, levelWord, wordLevel, toWords, fromWords};
+ghost use Rattle.table_levels.specs.Level.{raisedOf, inRange, levelByte, byteLevel, levelWord, wordLevel};
+ghost use Rattle.table_levels.specs.Level.{toWords, fromWords};
 
 // The level of a link that came without one (a link line of kind 02).
 pub const LOWEST: i16 = -127;

@@ -10,7 +10,8 @@ use lib.Dec.{eqb}
 use lib.ListN.{length, getD}
 use Rattle.base_lists.specs.Folds.{agree}
 
-agree-suc : (i : ℕ) (s t : List ℕ) → i < length s → i < length t → agree (suc i) s t ≡ (agree i s t && eqb (getD s i 0) (getD t i 0))
+agree-suc : (i : ℕ) (s t : List ℕ) → i < length s → i < length t →
+    agree (suc i) s t ≡ (agree i s t && eqb (getD s i 0) (getD t i 0))
 agree-suc i [] t h l = absurd (not-suc-le-zero h)
 agree-suc i (x ∷ s) [] h l = absurd (not-suc-le-zero l)
 agree-suc zero (x ∷ s) (y ∷ t) h l = and-true (eqb x y)
@@ -29,5 +30,6 @@ agree-least zero s t = let e : min 0 (min (length s) (length t)) ≡ 0 = omega a
 agree-least (suc n) [] t = let e : min (suc n) (min 0 (length t)) ≡ 0 = omega arith in rw e
 agree-least (suc n) (x ∷ s) [] = let e : min (suc n) (min (suc (length s)) 0) ≡ 0 = omega arith in rw e
 agree-least (suc n) (x ∷ s) (y ∷ t) =
-    let e : min (suc n) (min (suc (length s)) (suc (length t))) ≡ suc (min n (min (length s) (length t))) = omega arith in
+    let e : min (suc n) (min (suc (length s)) (suc (length t))) ≡ suc (min n (min (length s) (length t))) =
+    omega arith in
     rw e (ap (λ (b : Bool). eqb x y && b) (agree-least n s t))

@@ -1,4 +1,5 @@
--- The greatest entry is within a limit exactly when every entry is. Raised by 1, an absent entry is 0, which is within every limit.
+-- The greatest entry is within a limit exactly when every entry is. Raised by 1, an absent entry is 0, which is within
+-- every limit.
 use mathlib.Core.Path.{_≡_, refl}
 use mathlib.Core.Bool.{Bool, _&&_}
 use mathlib.Core.List.{List, [], _∷_}
@@ -39,11 +40,16 @@ both-within a b limit = go (decLe a limit) (decLe b limit)
     go (no h) l = rw (lt-leb a limit (omega arith)) (lt-leb (max a b) limit (omega arith))
 
 -- as a test tells that an entry passes whose raised word is within the limit
-pub top-every : (more limit : ℕ) (p : ℕ → Bool) → Tells more limit p → (t : List ℕ) → ((i : ℕ) → getD t i 0 < 65536) → leb (topOf more t) limit ≡ every p t
+pub top-every : (more limit : ℕ) (p : ℕ → Bool) → Tells more limit p → (t : List ℕ) → ((i : ℕ) → getD t i 0 < 65536) →
+    leb (topOf more t) limit ≡ every p t
 unfolding topOf
 top-every more limit p exact [] words = le-leb 0 limit (omega arith)
 top-every more limit p exact (x ∷ t) words =
-    rw (both-within (raised more x) (topOf more t) limit, exact x (words zero), top-every more limit p exact t (λ i. words (suc i)))
+    rw (
+      both-within (raised more x) (topOf more t) limit,
+      exact x (words zero),
+      top-every more limit p exact t (λ i. words (suc i)),
+    )
 
 -- ---- the tests
 
@@ -52,9 +58,15 @@ name-within count x w = go (decLt x ABSENT) (decLt x count)
   where
     go : Dec (x < ABSENT) → Dec (x < count) → leb (raised 1 x) count ≡ nameOk count x
     go (yes l) (yes h) = rw (lt-ltb x count h) (le-leb (raised 1 x) count (omega arith))
-    go (yes l) (no h) = rw (le-ltb x count (omega arith), ne-eqb x ABSENT (λ e. omega arith)) (lt-leb (raised 1 x) count (omega arith))
+    go (yes l) (no h) = rw (
+      le-ltb x count (omega arith),
+      ne-eqb x ABSENT (λ e. omega arith),
+    ) (lt-leb (raised 1 x) count (omega arith))
     go (no l) (yes h) = rw (lt-ltb x count h) (le-leb (raised 1 x) count (omega arith))
-    go (no l) (no h) = rw (le-ltb x count (omega arith), eq-eqb x ABSENT (omega arith)) (le-leb (raised 1 x) count (omega arith))
+    go (no l) (no h) = rw (
+      le-ltb x count (omega arith),
+      eq-eqb x ABSENT (omega arith),
+    ) (le-leb (raised 1 x) count (omega arith))
 
 pub number-within : Tells 0 MAX-NUMBER numberOk
 number-within x w = let e : raised 0 x ≡ x = omega arith in rw e
@@ -65,7 +77,10 @@ dist-within x w = go (decLe x MAX-NUMBER) (decLt x ABSENT)
     go : Dec (x ≤ MAX-NUMBER) → Dec (x < ABSENT) → leb (raised 1 x) 2049 ≡ distOk x
     go (yes h) l = rw (le-leb x MAX-NUMBER h) (le-leb (raised 1 x) 2049 (omega arith))
     go (no h) (yes l) =
-        rw (lt-leb x MAX-NUMBER (omega arith), ne-eqb x ABSENT (λ e. omega arith)) (lt-leb (raised 1 x) 2049 (omega arith))
+        rw (
+          lt-leb x MAX-NUMBER (omega arith),
+          ne-eqb x ABSENT (λ e. omega arith),
+        ) (lt-leb (raised 1 x) 2049 (omega arith))
     go (no h) (no l) =
         rw (lt-leb x MAX-NUMBER (omega arith), eq-eqb x ABSENT (omega arith)) (le-leb (raised 1 x) 2049 (omega arith))
 
@@ -77,9 +92,15 @@ level-within x w = go (decLt x 32768) (decLe x 0) (decLt x 65409)
     go (yes l) (yes z) m = rw (signed-few 65536 x l, le-leb x 0 z) (le-leb (raised 127 x) 127 (omega arith))
     go (yes l) (no z) m = rw (signed-few 65536 x l, lt-leb x 0 (omega arith)) (lt-leb (raised 127 x) 127 (omega arith))
     go (no l) z (yes m) =
-        rw (signed-many 65536 x (omega arith), lt-leb (65535 - x) 126 (omega arith)) (lt-leb (raised 127 x) 127 (omega arith))
+        rw (
+          signed-many 65536 x (omega arith),
+          lt-leb (65535 - x) 126 (omega arith),
+        ) (lt-leb (raised 127 x) 127 (omega arith))
     go (no l) z (no m) =
-        rw (signed-many 65536 x (omega arith), le-leb (65535 - x) 126 (omega arith)) (le-leb (raised 127 x) 127 (omega arith))
+        rw (
+          signed-many 65536 x (omega arith),
+          le-leb (65535 - x) 126 (omega arith),
+        ) (le-leb (raised 127 x) 127 (omega arith))
 
 pub below-within : (count : ℕ) → (count ≡ 0 → ⊥) → Tells 0 (count - 1) (λ (x : ℕ). ltb x count)
 below-within count some x w = go (decLt x count)

@@ -9,7 +9,8 @@ ghost use Rattle.spec_rules.specs.Bounds.{nameOk, numberOk, distOk};
 ghost use Rattle.spec_rules.specs.Fits.{linksFit};
 ghost use Rattle.table_values.specs.Tops.{Tells};
 
-// A test of entries: one passes that is at most `most` once it is raised by `more` within a word. Raised by 1, an absent entry is 0.
+// A test of entries: one passes that is at most `most` once it is raised by `more` within a word. Raised by 1, an
+// absent entry is 0.
 pub struct Limit {
     pub more: u16,
     pub most: u32,

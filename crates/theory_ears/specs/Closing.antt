@@ -27,7 +27,8 @@ use Rattle.theory_ears.specs.Growth.{Grown, Settled, stays}
 use Rattle.theory_ears.specs.Sides.{Leant, within, lower-all, higher-all}
 use Rattle.theory_ears.specs.Upright.{ringThrough, through-ring, through-second}
 
--- link k may be the second of the ring: link j itself, or, where j is the first link again, any other link within the order
+-- link k may be the second of the ring: link j itself, or, where j is the first link again, any other link within the
+-- order
 abbrev pub serves : (ℕ → Bool) → List ℕ → List ℕ → ℕ → ℕ → ℕ → Bool
 serves ok ends pos i j k = within ok ends pos k && cond (eqb i j) (not (eqb k i)) (eqb k j)
 
@@ -41,12 +42,17 @@ into E a (b ∷ l) w z (inl e) = (a, rw e (w .0))
 into E a (b ∷ l) w z (inr m) = into E b l (w .1) z m
 
 -- a ring has at most n units: so many places are enough
-pub shows-short : {n m : ℕ} {ends : List ℕ} {ok : ℕ → Bool} {i j : ℕ} {r : List ℕ} → Site n m ends → Shows ok m ends i j r → length r ≤ n
+pub shows-short : {n m : ℕ} {ends : List ℕ} {ok : ℕ → Bool} {i j : ℕ} {r : List ℕ} → Site n m ends →
+    Shows ok m ends i j r → length r ≤ n
 shows-short {n} {m} {ends} {ok} {r = r} site S =
     omega (
       arith,
       pigeonhole (λ i. true) n r (S .ring .different)
-          (λ z mz. let k = into (Present ok m ends) (lastOf r) r (ring-closed (S .ring)) z mz .1 in record { below = link-below site _ z (k .0, k .1, k .3) .1; passes = refl }),
+          (λ z mz. let k = into (Present ok m ends) (lastOf r) r
+          (ring-closed (S .ring)) z mz .1 in record {
+            below = link-below site _ z (k .0, k .1, k .3) .1;
+            passes = refl;
+          }),
       count-le n (λ i. true),
     )
 
@@ -81,7 +87,8 @@ module _
 
     -- ---- none
 
-    pub none-serves : Settled ok m ends parent pos held → (j : ℕ) → j < m → ((k : ℕ) → k < m → serves ok ends pos i j k ≡ false) → Ringed ok m ends i j → ⊥
+    pub none-serves : Settled ok m ends parent pos held → (j : ℕ) → j < m →
+        ((k : ℕ) → k < m → serves ok ends pos i j k ≡ false) → Ringed ok m ends i j → ⊥
     none-serves none j hj h (r, Q, p, q) = go (ℕ-discrete i j)
       where
         on-ring : (z : ℕ) → Mem z r → onOrder pos z ≡ true
@@ -96,7 +103,8 @@ module _
                 not-both (serves ok ends pos i j j)
                 (and-true (within ok ends pos j) (cond (eqb i j) (not (eqb j i)) (eqb j j))
                 (and-true (ok j) _ e (and-true (onOrder pos (endA ends j)) (onOrder pos (endB ends j))
-                (on-ring (endA ends j) (holds-first r (endA ends j) (endB ends j) q)) (on-ring (endB ends j) (holds-second r (endA ends j) (endB ends j) q))))
+                (on-ring (endA ends j) (holds-first r (endA ends j) (endB ends j) q))
+                (on-ring (endB ends j) (holds-second r (endA ends j) (endB ends j) q))))
                 (cond-false (eqb i j) (not (eqb j i)) (eqb j j) (ne-eqb i j ne) ∙ eq-eqb j j refl))
                 (h j hj)
 
@@ -113,8 +121,10 @@ module _
                 (h k hk)
               where
                 both : SameLink (endA ends k) (endB ends k) z u → within ok ends pos k ≡ true
-                both (inl (x, y)) = and-true (ok k) _ ok-k (and-true (onOrder pos (endA ends k)) (onOrder pos (endB ends k)) (rw x oz) (rw y ou))
-                both (inr (x, y)) = and-true (ok k) _ ok-k (and-true (onOrder pos (endA ends k)) (onOrder pos (endB ends k)) (rw x ou) (rw y oz))
+                both (inl (x, y)) = and-true (ok k) _ ok-k
+                    (and-true (onOrder pos (endA ends k)) (onOrder pos (endB ends k)) (rw x oz) (rw y ou))
+                both (inr (x, y)) = and-true (ok k) _ ok-k
+                    (and-true (onOrder pos (endA ends k)) (onOrder pos (endB ends k)) (rw x ou) (rw y oz))
 
                 mine : k ≡ i → SameLink (endA ends k) (endB ends k) z u → ⊥
                 mine f (inl (x, y)) = na (sym x ∙ ap (endA ends) f)
@@ -131,7 +141,8 @@ module _
 
     -- ---- one
 
-    module _ (low high : List ℕ) (H : Leant ok m ends pos low high m) (j k : ℕ) (hk : k < m) (t : serves ok ends pos i j k ≡ true) where
+    module _ (low high : List ℕ) (H : Leant ok m ends pos low high m) (j k : ℕ) (hk : k < m)
+        (t : serves ok ends pos i j k ≡ true) where
       here : within ok ends pos k ≡ true
       here = and-left (within ok ends pos k) (cond (eqb i j) (not (eqb k i)) (eqb k j)) t
 
@@ -154,7 +165,8 @@ module _
       room = omega (arith, O .full, count-le n (onOrder pos))
 
       pub places-apart : at pos (endA ends k) ≢ at pos (endB ends k)
-      places-apart q = ends-apart (present-graph site ok) (endA ends k) (endB ends k) lk (O .upright .once (endA ends k) (endB ends k) oc od q)
+      places-apart q = ends-apart (present-graph site ok) (endA ends k) (endB ends k) lk
+          (O .upright .once (endA ends k) (endB ends k) oc od q)
 
       -- it is another link than the first
       other : SameLink a b (endA ends k) (endB ends k) → ⊥
@@ -165,33 +177,44 @@ module _
           go (yes e) = by (either (eqb i j))
             where
               by : (eqb i j ≡ true) ⊎ (eqb i j ≡ false) → ⊥
-              by (inl x) = eqb-false k i (not-true (eqb k i) (sym (cond-true (eqb i j) (not (eqb k i)) (eqb k j) x) ∙ chosen)) (sym e)
-              by (inr x) = eqb-false i j x (e ∙ eqb-true k j (sym (cond-false (eqb i j) (not (eqb k i)) (eqb k j) x) ∙ chosen))
+              by (inl x) = eqb-false k i
+                  (not-true (eqb k i) (sym (cond-true (eqb i j) (not (eqb k i)) (eqb k j) x) ∙ chosen)) (sym e)
+              by (inr x) = eqb-false i j x (e
+                  ∙ eqb-true k j (sym (cond-false (eqb i j) (not (eqb k i)) (eqb k j) x) ∙ chosen))
 
-      shows : (r rest : List ℕ) → Ring (Present ok m ends) r → r ≡ a ∷ (b ∷ rest) → Holds r a b → Holds r (endA ends k) (endB ends k) → Shows ok m ends i j r
+      shows : (r rest : List ℕ) → Ring (Present ok m ends) r → r ≡ a ∷ (b ∷ rest) → Holds r a b →
+          Holds r (endA ends k) (endB ends k) → Shows ok m ends i j r
       shows r rest Q st f s = record { ring = Q; rest = rest; starts = st; first = f; second = go (either (eqb i j)) }
         where
           go : (eqb i j ≡ true) ⊎ (eqb i j ≡ false) → Holds r (endA ends j) (endB ends j)
           go (inl x) = subst (λ (z : ℕ). Holds r (endA ends z) (endB ends z)) (eqb-true i j x) f
-          go (inr x) = subst (λ (z : ℕ). Holds r (endA ends z) (endB ends z)) (eqb-true k j (sym (cond-false (eqb i j) (not (eqb k i)) (eqb k j) x) ∙ chosen)) s
+          go (inr x) = subst (λ (z : ℕ). Holds r (endA ends z) (endB ends z))
+              (eqb-true k j (sym (cond-false (eqb i j) (not (eqb k i)) (eqb k j) x) ∙ chosen)) s
 
       pub ring-shown : (s : Bool) → s ≡ ltb (at pos (endA ends k)) (at pos (endB ends k))
-          → Shows ok m ends i j (ringThrough (at low) (at high) n (endA ends i) (endB ends i) (cond s (endA ends k) (endB ends k)) (cond s (endB ends k) (endA ends k)))
+          → Shows ok m ends i j (ringThrough (at low) (at high) n (endA ends i) (endB ends i)
+          (cond s (endA ends k) (endB ends k)) (cond s (endB ends k) (endA ends k)))
       ring-shown true e =
           let less = ltb-true (at pos (endA ends k)) (at pos (endB ends k)) (sym e) in
           let L = lower-all site ok pos low high H (O .upright) in
           let G = higher-all site ok pos low high H (O .upright) in
           shows _ _
-          (through-ring (present-graph site ok) (O .upright) L G n (endA ends k) (endB ends k) room oc od less lk (λ f g. other (inl (sym f, sym g)))) refl
+          (through-ring (present-graph site ok) (O .upright) L G n (endA ends k) (endB ends k) room oc od less lk
+          (λ f g. other (inl (sym f, sym g)))) refl
           (inl (inl (inl (refl, refl))))
-          (through-second (present-graph site ok) (O .upright) L G n (endA ends k) (endB ends k) room oc od less lk (λ f g. other (inl (sym f, sym g))))
+          (through-second (present-graph site ok) (O .upright) L G n (endA ends k) (endB ends k) room oc od less lk
+          (λ f g. other (inl (sym f, sym g))))
       ring-shown false e =
-          let less : at pos (endB ends k) < at pos (endA ends k) = omega (arith, places-apart, ltb-false (at pos (endA ends k)) (at pos (endB ends k)) (sym e)) in
+          let less : at pos (endB ends k) < at pos (endA ends k) =
+          omega (arith, places-apart, ltb-false (at pos (endA ends k)) (at pos (endB ends k)) (sym e)) in
           let L = lower-all site ok pos low high H (O .upright) in
           let G = higher-all site ok pos low high H (O .upright) in
           let back = present-graph site ok .flip (endA ends k) (endB ends k) lk in
           shows _ _
-          (through-ring (present-graph site ok) (O .upright) L G n (endB ends k) (endA ends k) room od oc less back (λ f g. other (inr (sym f, sym g)))) refl
+          (through-ring (present-graph site ok) (O .upright) L G n (endB ends k) (endA ends k) room od oc less back
+          (λ f g. other (inr (sym f, sym g)))) refl
           (inl (inl (inl (refl, refl))))
-          (holds-flip (ringThrough (at low) (at high) n (endA ends i) (endB ends i) (endB ends k) (endA ends k)) (endB ends k) (endA ends k)
-          (through-second (present-graph site ok) (O .upright) L G n (endB ends k) (endA ends k) room od oc less back (λ f g. other (inr (sym f, sym g)))))
+          (holds-flip (ringThrough (at low) (at high) n (endA ends i) (endB ends i) (endB ends k) (endA ends k))
+          (endB ends k) (endA ends k)
+          (through-second (present-graph site ok) (O .upright) L G n (endB ends k) (endA ends k) room od oc less back
+          (λ f g. other (inr (sym f, sym g)))))

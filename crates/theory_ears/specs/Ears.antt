@@ -1,5 +1,5 @@
--- An ear: a way between two vertices of an order over vertices that are not on it. Put in right after its lower end, it leaves
--- an order of the same kind.
+-- An ear: a way between two vertices of an order over vertices that are not on it. Put in right after its lower end, it
+-- leaves an order of the same kind.
 use mathlib.Core.Path.{_≡_, refl, sym, ap, subst, _∙_}
 use mathlib.Core.Logic.{_⊎_, inl, inr, _≢_}
 use mathlib.Core.Bool.{Bool, true, false}
@@ -56,7 +56,8 @@ module _
     data Stands (z : ℕ) : Type 0 where
       under : on z ≡ true → pos z ≤ pos x → pos′ z ≡ pos z → Stands z
       past : on z ≡ true → pos x < pos z → pos′ z ≡ pos z + length l → Stands z
-      within : (s t : List ℕ) → l ≡ s ++ z ∷ t → pos′ z ≡ pos x + suc (length s) → length l ≡ length s + suc (length t) → Stands z
+      within : (s t : List ℕ) → l ≡ s ++ z ∷ t → pos′ z ≡ pos x + suc (length s) →
+          length l ≡ length s + suc (length t) → Stands z
 
     stands : (z : ℕ) → on′ z ≡ true → Stands z
     stands z o = go (I .only z o)
@@ -69,7 +70,8 @@ module _
             by (no k) = past h (omega arith) (I .high z h (omega arith))
         go (inr m) =
             let c = mem-split z l m in
-            within (c .0) (c .1) (c .2) (I .placed (c .0) (c .1) z (c .2)) (ap length (c .2) ∙ length-append (c .0) (z ∷ c .1))
+            within (c .0) (c .1) (c .2) (I .placed (c .0) (c .1) z (c .2)) (ap length (c .2)
+            ∙ length-append (c .0) (z ∷ c .1))
 
     -- what stood before stands before
     monotone : (v w : ℕ) → on v ≡ true → on w ≡ true → pos v < pos w → pos′ v < pos′ w
@@ -131,7 +133,8 @@ module _
         from : (s t : List ℕ) (v : ℕ) → l ≡ s ++ v ∷ t → Walk E (last x s) (v ∷ (t ++ y ∷ []))
         from s t v c =
             walk-right E x s (v ∷ (t ++ y ∷ []))
-            (subst (λ (q : List ℕ). Walk E x q) (ap (λ (q : List ℕ). q ++ y ∷ []) c ∙ append-assoc s (v ∷ t) (y ∷ [])) way)
+            (subst (λ (q : List ℕ). Walk E x q) (ap (λ (q : List ℕ). q ++ y ∷ []) c
+            ∙ append-assoc s (v ∷ t) (y ∷ [])) way)
 
         below : (v : ℕ) → v ≢ a → v ≢ b → Stands v → (u : ℕ) × (on′ u ≡ true) × E v u × (pos′ u < pos′ v)
         below v na nb (under o h e) = below-old v na nb o
@@ -141,11 +144,18 @@ module _
             back : E v (last x s)
             back = G .flip (last x s) v (from s t v c .0)
 
-            go : (s ≡ []) ⊎ ((q : List ℕ) × (s ≡ q ++ last x s ∷ [])) → (u : ℕ) × (on′ u ≡ true) × E v u × (pos′ u < pos′ v)
-            go (inl z) = (x, I .old x ox, subst (λ (q : List ℕ). E v (last x q)) z back, omega (arith, I .low x ox (omega arith)))
+            go : (s ≡ []) ⊎ ((q : List ℕ) × (s ≡ q ++ last x s ∷ [])) →
+                (u : ℕ) × (on′ u ≡ true) × E v u × (pos′ u < pos′ v)
+            go (inl z) = (
+              x,
+              I .old x ox,
+              subst (λ (q : List ℕ). E v (last x q)) z back,
+              omega (arith, I .low x ox (omega arith)),
+            )
             go (inr (q, z)) =
                 let w = last x s in
-                let split : l ≡ q ++ w ∷ (v ∷ t) = c ∙ ap (λ (k : List ℕ). k ++ v ∷ t) z ∙ append-assoc q (w ∷ []) (v ∷ t) in (
+                let split : l ≡ q ++ w ∷ (v ∷ t) =
+                c ∙ ap (λ (k : List ℕ). k ++ v ∷ t) z ∙ append-assoc q (w ∷ []) (v ∷ t) in (
                   w,
                   I .new w (rw split (mem-right w q (w ∷ (v ∷ t)) (inl refl))),
                   back,
@@ -157,7 +167,8 @@ module _
         above v na nb (past o h e) = above-old v na nb o
         above v na nb (within s t c e n) = go t c n
           where
-            go : (t : List ℕ) → l ≡ s ++ v ∷ t → length l ≡ length s + suc (length t) → (u : ℕ) × (on′ u ≡ true) × E v u × (pos′ v < pos′ u)
+            go : (t : List ℕ) → l ≡ s ++ v ∷ t → length l ≡ length s + suc (length t) →
+                (u : ℕ) × (on′ u ≡ true) × E v u × (pos′ v < pos′ u)
             go [] c n = (y, I .old y oy, from s [] v c .1 .0, omega (arith, I .high y oy before))
             go (w ∷ t) c n =
                 let split : l ≡ (s ++ v ∷ []) ++ w ∷ t = c ∙ sym (append-assoc s (v ∷ []) (w ∷ t)) in (

@@ -1,5 +1,5 @@
--- The order grows (T-04): from the two ends of the first link, by an ear for each link that ties; where none ties any more, every ring through the first
--- link stays on it. `held` tells of each unit of the tree its anchor.
+-- The order grows (T-04): from the two ends of the first link, by an ear for each link that ties; where none ties any
+-- more, every ring through the first link stays on it. `held` tells of each unit of the tree its anchor.
 use mathlib.Core.Path.{_≡_, refl, sym, ap, subst, _∙_}
 use mathlib.Core.Bool.{Bool, true, false, cond, not, _&&_}
 use mathlib.Core.Logic.{_⊎_, inl, inr, _≢_}
@@ -78,17 +78,23 @@ module _ (ok : ℕ → Bool) (ends parent pos held : List ℕ) (j : ℕ) where
 
   -- no tie, of a link of the tree that counts: one anchor, or both on the order
   tie-none : ties ok ends parent pos held j ≡ false → ok j ≡ true → seen parent (endA ends j) ≡ true
-      → (at held (endA ends j) ≡ at held (endB ends j)) ⊎ ((onOrder pos (endA ends j) ≡ true) × (onOrder pos (endB ends j) ≡ true))
+      → (at held (endA ends j) ≡ at held (endB ends j))
+      ⊎ ((onOrder pos (endA ends j) ≡ true) × (onOrder pos (endB ends j) ≡ true))
   unfolding A B C
   tie-none t o s = go (either B) (either C)
     where
       go : (B ≡ true) ⊎ (B ≡ false) → (C ≡ true) ⊎ (C ≡ false)
-          → (at held (endA ends j) ≡ at held (endB ends j)) ⊎ ((onOrder pos (endA ends j) ≡ true) × (onOrder pos (endB ends j) ≡ true))
+          → (at held (endA ends j) ≡ at held (endB ends j))
+          ⊎ ((onOrder pos (endA ends j) ≡ true) × (onOrder pos (endB ends j) ≡ true))
       go (inl e) c = inl (eqb-true _ _ e)
-      go (inr e) (inl c) = inr (and-left (onOrder pos (endA ends j)) (onOrder pos (endB ends j)) c, and-right (onOrder pos (endA ends j)) (onOrder pos (endB ends j)) c)
+      go (inr e) (inl c) = inr (
+        and-left (onOrder pos (endA ends j)) (onOrder pos (endB ends j)) c,
+        and-right (onOrder pos (endA ends j)) (onOrder pos (endB ends j)) c,
+      )
       go (inr e) (inr c) =
           absurd (not-both (ok j && A && not B && not C)
-          (and-true (ok j && A && not B) (not C) (and-true (ok j && A) (not B) (and-true (ok j) A o s) (ap not e)) (ap not c)) t)
+          (and-true (ok j && A && not B) (not C) (and-true (ok j && A) (not B) (and-true (ok j) A o s) (ap not e))
+          (ap not c)) t)
 
 module _
     {n m : ℕ} {ends : List ℕ} (site : Site n m ends) (ok : ℕ → Bool) (a b : ℕ) (parent seq : List ℕ) (k : ℕ)
@@ -96,7 +102,8 @@ module _
   where
     -- ---- the first order
 
-    module _ (lb : b < n) (l : Present ok m ends a b) (kb : Known n parent b) (blank : List ℕ) (room : length blank ≡ 256) (zeros : (i : ℕ) → i < 256 → at blank i ≡ 0) where
+    module _ (lb : b < n) (l : Present ok m ends a b) (kb : Known n parent b) (blank : List ℕ)
+        (room : length blank ≡ 256) (zeros : (i : ℕ) → i < 256 → at blank i ≡ 0) where
       abbrev first : List ℕ
       first = set (set blank a 1) b 2
 
@@ -107,13 +114,15 @@ module _
       la = T .root .0
 
       begun-a : at first a ≡ 1
-      begun-a = getD-set-other (set blank a 1) b a 2 0 apart ∙ getD-set-same blank a 1 0 (omega (arith, room, site .fewUnits, la))
+      begun-a = getD-set-other (set blank a 1) b a 2 0 apart
+          ∙ getD-set-same blank a 1 0 (omega (arith, room, site .fewUnits, la))
 
       begun-b : at first b ≡ 2
       begun-b = getD-set-same (set blank a 1) b 2 0 (omega (arith, length-set blank a 1, room, site .fewUnits))
 
       begun-other : (z : ℕ) → z ≢ a → z ≢ b → at first z ≡ 0
-      begun-other z na nb = getD-set-other (set blank a 1) b z 2 0 nb ∙ getD-set-other blank a z 1 0 na ∙ past (decLt z 256)
+      begun-other z na nb = getD-set-other (set blank a 1) b z 2 0 nb ∙ getD-set-other blank a z 1 0 na
+          ∙ past (decLt z 256)
         where
           past : Dec (z < 256) → at blank z ≡ 0
           past (yes h) = zeros z h
@@ -179,7 +188,10 @@ module _
 
           full : at first b ≤ count n (onOrder first)
           full =
-              let q = count-list n (a ∷ (b ∷ [])) none (onOrder first) (different, (λ x. x, tt)) both (λ z e. absurd (not-both (none z) e refl)) in
+              let q = count-list n (a ∷ (b ∷ [])) none (onOrder first) (
+                different,
+                (λ x. x, tt),
+              ) both (λ z e. absurd (not-both (none z) e refl)) in
               omega (arith, begun-b)
             where
               different : Mem a (b ∷ []) → ⊥
@@ -195,8 +207,10 @@ module _
       -- ---- the anchors, unit by unit as the tree has them
 
       module _ (pos : List ℕ) (O : Ordering n (Present ok m ends) a b parent pos) where
-        pub held-turn : (held new : List ℕ) (i v x : ℕ) → length held ≡ 256 → i < k → HeldTo n parent seq pos held i → v ≡ at seq i
-            → x ≡ cond (onOrder pos v) v (at held (at parent v)) → new ≡ set held v x → HeldTo n parent seq pos new (i + 1)
+        pub held-turn : (held new : List ℕ) (i v x : ℕ) → length held ≡ 256 → i < k → HeldTo n parent seq pos held i →
+            v ≡ at seq i
+            → x ≡ cond (onOrder pos v) v (at held (at parent v)) → new ≡ set held v x →
+            HeldTo n parent seq pos new (i + 1)
         held-turn held new i v x long h H ev ex en q hq = go (decLt q i)
           where
             kv : Known n parent (at seq i)
@@ -205,44 +219,54 @@ module _
             small : at seq i < 256
             small = omega (arith, kv .0, site .fewUnits)
 
-            moved : new ≡ set held (at seq i) (cond (onOrder pos (at seq i)) (at seq i) (at held (at parent (at seq i))))
+            moved : new ≡ set held (at seq i)
+                (cond (onOrder pos (at seq i)) (at seq i) (at held (at parent (at seq i))))
             moved = rw (en, ex, ev) refl
 
-            own : cond (onOrder pos (at seq i)) (at seq i) (at held (at parent (at seq i))) ≡ anchor (suc n) parent pos (at seq i)
+            own : cond (onOrder pos (at seq i)) (at seq i) (at held (at parent (at seq i)))
+                ≡ anchor (suc n) parent pos (at seq i)
             own = by (either (onOrder pos (at seq i)))
               where
                 by : (onOrder pos (at seq i) ≡ true) ⊎ (onOrder pos (at seq i) ≡ false)
-                    → cond (onOrder pos (at seq i)) (at seq i) (at held (at parent (at seq i))) ≡ anchor (suc n) parent pos (at seq i)
-                by (inl o) = cond-true (onOrder pos (at seq i)) (at seq i) _ o ∙ sym (cond-true (onOrder pos (at seq i)) (at seq i) _ o)
+                    → cond (onOrder pos (at seq i)) (at seq i) (at held (at parent (at seq i)))
+                    ≡ anchor (suc n) parent pos (at seq i)
+                by (inl o) = cond-true (onOrder pos (at seq i)) (at seq i) _ o
+                    ∙ sym (cond-true (onOrder pos (at seq i)) (at seq i) _ o)
                 by (inr o) =
                     let na : at seq i ≢ a = λ e. not-both (onOrder pos (at seq i)) (rw e (O .upright .first)) o in
                     let r = T .up (at seq i) kv na in
                     let p = T .placed (at parent (at seq i)) (r .0) in
                     let less : T .depth (at parent (at seq i)) < i = omega (arith, r .2, T .listed i h .1) in
                     let there : at held (at parent (at seq i)) ≡ anchor (suc n) parent pos (at parent (at seq i)) =
-                    subst (λ (z : ℕ). at held z ≡ anchor (suc n) parent pos z) (p .1) (H (T .depth (at parent (at seq i))) less) in
+                    subst (λ (z : ℕ). at held z ≡ anchor (suc n) parent pos z) (p .1)
+                    (H (T .depth (at parent (at seq i))) less) in
                     cond-false (onOrder pos (at seq i)) (at seq i) _ o ∙ there
-                    ∙ sym (ended-next (falls site ok (spanning T) W pos O) (suc n) (at seq i) kv (spanning T .bound (at seq i) kv) o)
+                    ∙ sym (ended-next (falls site ok (spanning T) W pos O) (suc n) (at seq i) kv
+                    (spanning T .bound (at seq i) kv) o)
 
             go : Dec (q < i) → at new (at seq q) ≡ anchor (suc n) parent pos (at seq q)
             go (yes b) =
                 rw moved
-                (getD-set-other held (at seq i) (at seq q) _ 0 (λ e. omega (arith, ap (T .depth) e, T .listed i h .1, T .listed q (omega arith) .1)) ∙ H q b)
+                (getD-set-other held (at seq i) (at seq q) _ 0
+                (λ e. omega (arith, ap (T .depth) e, T .listed i h .1, T .listed q (omega arith) .1)) ∙ H q b)
             go (no b) =
                 let e : q ≡ i = omega arith in
                 rw (e, moved) (getD-set-same held (at seq i) _ 0 (omega (arith, small, long)) ∙ own)
 
-        pub held-done : (held : List ℕ) → length held ≡ 256 → HeldTo n parent seq pos held k → Grown n (Present ok m ends) a b parent pos held
+        pub held-done : (held : List ℕ) → length held ≡ 256 → HeldTo n parent seq pos held k →
+            Grown n (Present ok m ends) a b parent pos held
         held-done held long H =
             record {
               ordering = O;
               space = long;
-              holds = λ v q. let p = T .placed v q in subst (λ (z : ℕ). at held z ≡ anchor (suc n) parent pos z) (p .1) (H (T .depth v) (p .0));
+              holds = λ v q. let p = T .placed v q in subst (λ (z : ℕ). at held z ≡ anchor (suc n) parent pos z) (p .1)
+                  (H (T .depth v) (p .0));
             }
 
       -- ---- an ear for a link that ties
 
-      module _ (pos held : List ℕ) (R : Grown n (Present ok m ends) a b parent pos held) (j : ℕ) (h : j < m) (t : ties ok ends parent pos held j ≡ true) where
+      module _ (pos held : List ℕ) (R : Grown n (Present ok m ends) a b parent pos held) (j : ℕ) (h : j < m)
+          (t : ties ok ends parent pos held j ≡ true) where
         u : ℕ
         u = endA ends j
 
@@ -262,7 +286,8 @@ module _
         lk′ = present-graph site ok .flip (endA ends j) (endB ends j) lk
 
         pub tie-known : Known n parent (endA ends j) × Known n parent (endB ends j)
-        tie-known = let ku : Known n parent (endA ends j) = (site .belowA j h, X .tree) in (ku, spreads site ok parent W (endA ends j) (endB ends j) ku lk)
+        tie-known = let ku : Known n parent (endA ends j) =
+            (site .belowA j h, X .tree) in (ku, spreads site ok parent W (endA ends j) (endB ends j) ku lk)
 
         ku : Known n parent (endA ends j)
         ku = tie-known .0
@@ -274,7 +299,9 @@ module _
         turned =
             refuted (onOrder pos (endB ends j) && onOrder pos (endA ends j))
             (λ e. not-both (onOrder pos (endA ends j) && onOrder pos (endB ends j))
-            (and-true (onOrder pos (endA ends j)) (onOrder pos (endB ends j)) (and-right (onOrder pos (endB ends j)) (onOrder pos (endA ends j)) e) (and-left (onOrder pos (endB ends j)) (onOrder pos (endA ends j)) e))
+            (and-true (onOrder pos (endA ends j)) (onOrder pos (endB ends j))
+            (and-right (onOrder pos (endB ends j)) (onOrder pos (endA ends j)) e)
+            (and-left (onOrder pos (endB ends j)) (onOrder pos (endA ends j)) e))
             (X .loose))
 
         pu : ℕ
@@ -296,41 +323,53 @@ module _
         other e =
             X .differ
             (R .holds (endA ends j) ku
-            ∙ O .upright .once _ _ (hangs site ok (spanning T) W pos O (endA ends j) ku .ends) (hangs site ok (spanning T) W pos O (endB ends j) kv .ends) (sym place-u ∙ e ∙ place-v)
+            ∙ O .upright .once _ _ (hangs site ok (spanning T) W pos O (endA ends j) ku .ends)
+            (hangs site ok (spanning T) W pos O (endB ends j) kv .ends) (sym place-u ∙ e ∙ place-v)
             ∙ sym (R .holds (endB ends j) kv))
 
         -- the ear goes from the lower anchor to the higher
         pub eared : (s : Bool) → s ≡ ltb (at pos (at held (endA ends j))) (at pos (at held (endB ends j)))
-            → Ordering n (Present ok m ends) a b parent (woven n parent pos (cond s (endA ends j) (endB ends j)) (cond s (endB ends j) (endA ends j)))
-            × (at pos b < at (woven n parent pos (cond s (endA ends j) (endB ends j)) (cond s (endB ends j) (endA ends j))) b)
+            → Ordering n (Present ok m ends) a b parent
+            (woven n parent pos (cond s (endA ends j) (endB ends j)) (cond s (endB ends j) (endA ends j)))
+            × (at pos b < at (woven n parent pos (cond s (endA ends j) (endB ends j))
+            (cond s (endB ends j) (endA ends j))) b)
         unfolding pu pv
         eared true e =
-            let f : at pos (anchor (suc n) parent pos (endA ends j)) < at pos (anchor (suc n) parent pos (endB ends j)) = omega (arith, ltb-true pu pv (sym e), place-u, place-v) in (
+            let f : at pos (anchor (suc n) parent pos (endA ends j))
+            < at pos (anchor (suc n) parent pos (endB ends j)) =
+            omega (arith, ltb-true pu pv (sym e), place-u, place-v) in (
               ordering-new site ok (spanning T) W pos O (endA ends j) (endB ends j) ku kv lk f (X .loose),
               more-new site ok (spanning T) W pos O (endA ends j) (endB ends j) ku kv lk f (X .loose),
             )
         eared false e =
-            let f : at pos (anchor (suc n) parent pos (endB ends j)) < at pos (anchor (suc n) parent pos (endA ends j)) = omega (arith, ltb-false pu pv (sym e), other, place-u, place-v) in (
+            let f : at pos (anchor (suc n) parent pos (endB ends j))
+            < at pos (anchor (suc n) parent pos (endA ends j)) =
+            omega (arith, ltb-false pu pv (sym e), other, place-u, place-v) in (
               ordering-new site ok (spanning T) W pos O (endB ends j) (endA ends j) kv ku lk′ f turned,
               more-new site ok (spanning T) W pos O (endB ends j) (endA ends j) kv ku lk′ f turned,
             )
 
       -- ---- where nothing ties any more, rings through (a, b) stay on the order
 
-      module _ (pos held : List ℕ) (R : Grown n (Present ok m ends) a b parent pos held) (none : Settled ok m ends parent pos held) where
+      module _ (pos held : List ℕ) (R : Grown n (Present ok m ends) a b parent pos held)
+          (none : Settled ok m ends parent pos held) where
         shut : Shut (Present ok m ends) (Known n parent) (onOrder pos) (anchor (suc n) parent pos)
         shut =
             record {
               spreads = spreads site ok parent W;
-              loose = λ v q o e. not-both (onOrder pos v) (subst (λ (z : ℕ). onOrder pos z ≡ true) e (hangs site ok (spanning T) W pos (R .ordering) v q .ends)) o;
+              loose = λ v q o e. not-both (onOrder pos v)
+                  (subst (λ (z : ℕ). onOrder pos z ≡ true) e (hangs site ok (spanning T) W pos (R .ordering) v q .ends))
+                  o;
               own = λ v q o. cond-true (onOrder pos v) v _ o;
               within = within;
             }
           where
             Same : ℕ → ℕ → Type 0
-            Same u v = (anchor (suc n) parent pos u ≡ anchor (suc n) parent pos v) ⊎ ((onOrder pos u ≡ true) × (onOrder pos v ≡ true))
+            Same u v = (anchor (suc n) parent pos u ≡ anchor (suc n) parent pos v)
+                ⊎ ((onOrder pos u ≡ true) × (onOrder pos v ≡ true))
 
-            by-held : (u v : ℕ) → Known n parent u → Known n parent v → (at held u ≡ at held v) ⊎ ((onOrder pos u ≡ true) × (onOrder pos v ≡ true)) → Same u v
+            by-held : (u v : ℕ) → Known n parent u → Known n parent v →
+                (at held u ≡ at held v) ⊎ ((onOrder pos u ≡ true) × (onOrder pos v ≡ true)) → Same u v
             by-held u v ku kv (inl q) = inl (sym (R .holds u ku) ∙ q ∙ R .holds v kv)
             by-held u v ku kv (inr q) = inr q
 
@@ -340,10 +379,13 @@ module _
 
             within : (u v : ℕ) → Known n parent u → Present ok m ends u v → Same u v
             within u v q (j, h, o, inl (e, f)) =
-                by-held u v q (spreads site ok parent W u v q (j, h, o, inl (e, f))) (rw (e, f) at (tie-none ok ends parent pos held j (none j h) o (rw e (q .1))))
+                by-held u v q (spreads site ok parent W u v q (j, h, o, inl (e, f)))
+                (rw (e, f) at (tie-none ok ends parent pos held j (none j h) o (rw e (q .1))))
             within u v q (j, h, o, inr (e, f)) =
                 let kv = spreads site ok parent W u v q (j, h, o, inr (e, f)) in
-                turn u v (by-held v u kv q (rw (e, f) at (tie-none ok ends parent pos held j (none j h) o (rw e (kv .1)))))
+                turn u v (by-held v u kv q
+                (rw (e, f) at (tie-none ok ends parent pos held j (none j h) o (rw e (kv .1)))))
 
         pub stays : {r : List ℕ} → Ring (Present ok m ends) r → Holds r a b → (z : ℕ) → Mem z r → onOrder pos z ≡ true
-        stays Q h = ring-stays (present-graph site ok) shut Q a b (T .root) (R .ordering .upright .first) (R .ordering .upright .final) h
+        stays Q h = ring-stays (present-graph site ok) shut Q a b (T .root) (R .ordering .upright .first)
+            (R .ordering .upright .final) h

@@ -1,4 +1,5 @@
--- The table of every kept state, whether or not a load reaches it, is a site: what is made from the links alone is right for each of them.
+-- The table of every kept state, whether or not a load reaches it, is a site: what is made from the links alone is
+-- right for each of them.
 use mathlib.Core.Path.{_≡_, sym, _∙_}
 use mathlib.Core.List.{List}
 use Prim.Native.Nat.{ℕ, _+_, _*_, _<_}
@@ -20,7 +21,8 @@ kept-site s full k =
       belowA = λ j l. rw (end-a j l) at (p .endsExist (2 * j) (omega (arith, long)));
       belowB = λ j l. rw (end-b j l) at (p .endsExist (2 * j + 1) (omega (arith, long)));
       differ = λ j l q. p .endsDiffer j (within j l) (end-a j l ∙ q ∙ sym (end-b j l));
-      once = λ j i d lj li q. p .once j i d (within j lj) (within i li) (rw (end-a j lj, end-b j lj, end-a i li, end-b i li) q);
+      once = λ j i d lj li q. p .once j i d (within j lj) (within i li)
+          (rw (end-a j lj, end-b j lj, end-a i li, end-b i li) q);
     }
   where
     p : Passes (units s) (words s)

@@ -1,4 +1,5 @@
--- T-08, "a missing link is on no ring", of either position: a ring that holds two links is one of links that count, both of them too.
+-- T-08, "a missing link is on no ring", of either position: a ring that holds two links is one of links that count,
+-- both of them too.
 use mathlib.Core.Path.{_≡_, refl}
 use mathlib.Core.Bool.{Bool, true, false}
 use mathlib.Core.Logic.{_⊎_, inl, inr}
@@ -22,7 +23,10 @@ module _ {n m : ℕ} {ends : List ℕ} (site : Site n m ends) (ok : ℕ → Bool
 
   -- so a ring that holds both positions has both links present
   pub both-present : i < m → j < m → Ringed ok m ends i j → (ok i ≡ true) × (ok j ≡ true)
-  both-present li lj w = (present (ok i) (λ e. on-no-ring li lj (inl e) w), present (ok j) (λ e. on-no-ring li lj (inr e) w))
+  both-present li lj w = (
+    present (ok i) (λ e. on-no-ring li lj (inl e) w),
+    present (ok j) (λ e. on-no-ring li lj (inr e) w),
+  )
     where
       present : (b : Bool) → (b ≡ false → ⊥) → b ≡ true
       present true h = refl

@@ -40,20 +40,27 @@ pub record Shows (ok : ℕ → Bool) (m : ℕ) (ends : List ℕ) (i j : ℕ) (r 
   pub second : Holds r (endA ends j) (endB ends j)
 
 pub present-graph : {n m : ℕ} {ends : List ℕ} → Site n m ends → (ok : ℕ → Bool) → Graph (Present ok m ends)
-present-graph {n} {m} {ends} site ok = record { flip = flip; loopless = λ u l. site-graph site .loopless u (l .0, l .1, l .3) }
+present-graph {n} {m} {ends} site ok = record {
+  flip = flip;
+  loopless = λ u l. site-graph site .loopless u (l .0, l .1, l .3);
+}
   where
     flip : (u v : ℕ) → Present ok m ends u v → Present ok m ends v u
     flip u v (j, l, o, inl e) = (j, l, o, inr e)
     flip u v (j, l, o, inr e) = (j, l, o, inl e)
 
 -- more links, more rings
-pub ringed-more : (p q : ℕ → Bool) (m : ℕ) (ends : List ℕ) → ((j : ℕ) → j < m → p j ≡ true → q j ≡ true) → (i j : ℕ) → Ringed p m ends i j → Ringed q m ends i j
+pub ringed-more : (p q : ℕ → Bool) (m : ℕ) (ends : List ℕ) → ((j : ℕ) → j < m → p j ≡ true → q j ≡ true) → (i j : ℕ) →
+    Ringed p m ends i j → Ringed q m ends i j
 ringed-more p q m ends h i j =
-    onRing-more (Present p m ends) (Present q m ends) (λ u v l. (l .0, l .1, h (l .0) (l .1) (l .2), l .3)) (endA ends i) (endB ends i) (endA ends j) (endB ends j)
+    onRing-more (Present p m ends) (Present q m ends) (λ u v l. (l .0, l .1, h (l .0) (l .1) (l .2), l .3))
+    (endA ends i) (endB ends i) (endA ends j) (endB ends j)
 
 -- a link that does not count is on no ring
-pub missing : {n m : ℕ} {ends : List ℕ} → Site n m ends → (ok : ℕ → Bool) (i j : ℕ) → i < m → ok i ≡ false → Ringed ok m ends i j → ⊥
-missing {n} {m} {ends} site ok i j l e (r, R, h, q) = go (ring-link (present-graph site ok) R (endA ends i) (endB ends i) h)
+pub missing : {n m : ℕ} {ends : List ℕ} → Site n m ends → (ok : ℕ → Bool) (i j : ℕ) → i < m → ok i ≡ false →
+    Ringed ok m ends i j → ⊥
+missing {n} {m} {ends} site ok i j l e (r, R, h, q) =
+    go (ring-link (present-graph site ok) R (endA ends i) (endB ends i) h)
   where
     go : Present ok m ends (endA ends i) (endB ends i) → ⊥
     go (k, lk, ok-k, s) = pick (ℕ-discrete k i)

@@ -35,7 +35,8 @@ front-set [] (suc i) k z h = refl
 front-set (x ∷ out) (suc i) zero z h = absurd (omega arith)
 front-set (x ∷ out) (suc i) (suc k) z h = ap (λ (l : List ℕ). x ∷ l) (front-set out i k z (omega arith))
 
-rowUp-front : (i : ℕ) (l out : List ℕ) → i + length l ≤ length out → take (i + length l) (rowUp i l out) ≡ take i out ++ l
+rowUp-front : (i : ℕ) (l out : List ℕ) → i + length l ≤ length out →
+    take (i + length l) (rowUp i l out) ≡ take i out ++ l
 rowUp-front i [] out h = let e : i + 0 ≡ i = omega arith in rw e (sym (end (take i out)))
   where
     end : (s : List ℕ) → s ++ [] ≡ s
@@ -45,8 +46,10 @@ rowUp-front i (z ∷ l) out h =
     let e : i + suc (length l) ≡ suc i + length l = omega arith in
     let one : take (suc i) (set out i z) ≡ take i out ++ z ∷ [] =
     front-more (set out i z) i (omega (arith, length-set out i z))
-    ∙ ap₂ (λ (s : List ℕ) (x : ℕ). s ++ x ∷ []) (front-set out i i z (omega arith)) (getD-set-same out i z 0 (omega arith)) in
-    ap (λ (k : ℕ). take k (rowUp (suc i) l (set out i z))) e ∙ rowUp-front (suc i) l (set out i z) (omega (arith, length-set out i z))
+    ∙ ap₂ (λ (s : List ℕ) (x : ℕ). s ++ x ∷ []) (front-set out i i z (omega arith))
+    (getD-set-same out i z 0 (omega arith)) in
+    ap (λ (k : ℕ). take k (rowUp (suc i) l (set out i z))) e
+    ∙ rowUp-front (suc i) l (set out i z) (omega (arith, length-set out i z))
     ∙ ap (λ (s : List ℕ). s ++ l) one
     ∙ append-assoc (take i out) (z ∷ []) l
 
@@ -56,10 +59,12 @@ rowDown-length i (z ∷ l) out = rowDown-length (i - 1) l (set out i z) ∙ leng
 
 rowDown-past : (i : ℕ) (l out : List ℕ) (k : ℕ) → i < k → at (rowDown i l out) k ≡ at out k
 rowDown-past i [] out k h = refl
-rowDown-past i (z ∷ l) out k h = rowDown-past (i - 1) l (set out i z) k (omega arith) ∙ getD-set-other out i k z 0 (λ e. omega arith)
+rowDown-past i (z ∷ l) out k h = rowDown-past (i - 1) l (set out i z) k (omega arith)
+    ∙ getD-set-other out i k z 0 (λ e. omega arith)
 
 -- to places from i on, the last of the list in front
-rowDown-front : (i : ℕ) (l out : List ℕ) → 1 ≤ i → i + length l ≤ length out → take (i + length l) (rowDown (i + length l - 1) l out) ≡ take i out ++ reverse l
+rowDown-front : (i : ℕ) (l out : List ℕ) → 1 ≤ i → i + length l ≤ length out →
+    take (i + length l) (rowDown (i + length l - 1) l out) ≡ take i out ++ reverse l
 rowDown-front i [] out p h = let e : i + 0 ≡ i = omega arith in rw e (sym (end (take i out)))
   where
     end : (s : List ℕ) → s ++ [] ≡ s
@@ -69,7 +74,8 @@ rowDown-front i (z ∷ l) out p h =
     let e : i + suc (length l) - 1 ≡ i + length l = omega arith in
     let f : i + suc (length l) ≡ suc (i + length l) = omega arith in
     let new = set out (i + length l) z in
-    let long : length (rowDown (i + length l - 1) l new) ≡ length out = rowDown-length (i + length l - 1) l new ∙ length-set out (i + length l) z in
+    let long : length (rowDown (i + length l - 1) l new) ≡ length out =
+    rowDown-length (i + length l - 1) l new ∙ length-set out (i + length l) z in
     rw (e, f)
     (front-more (rowDown (i + length l - 1) l new) (i + length l) (omega (arith, long))
     ∙ rw (
@@ -87,8 +93,10 @@ Closed n low high a b c d out out′ r =
     → (r ≡ length (ringThrough (at low) (at high) n a b c d)) × (take r out′ ≡ ringThrough (at low) (at high) n a b c d)
 
 pub closed-row : (n : ℕ) (low high : List ℕ) (a b c d : ℕ) (out o₁ o₂ o₃ o₄ : List ℕ) (s t top i r : ℕ)
-    → s ≡ length (chain (at high) (λ (z : ℕ). eqb z b) n d) → t ≡ length (chain (at low) (λ (z : ℕ). eqb z a) n c) → o₁ ≡ set out 0 a → o₂ ≡ set o₁ 1 b
-    → top ≡ min (s + 1) 2048 → o₃ ≡ laid false (onward false) top (climb high s d) o₂ → i ≡ min (s + 2) 2048 → o₄ ≡ laid false (onward true) i (climb low t c) o₃ → r ≡ min (i + t) 2048
+    → s ≡ length (chain (at high) (λ (z : ℕ). eqb z b) n d) → t ≡ length (chain (at low) (λ (z : ℕ). eqb z a) n c) →
+    o₁ ≡ set out 0 a → o₂ ≡ set o₁ 1 b
+    → top ≡ min (s + 1) 2048 → o₃ ≡ laid false (onward false) top (climb high s d) o₂ → i ≡ min (s + 2) 2048 →
+    o₄ ≡ laid false (onward true) i (climb low t c) o₃ → r ≡ min (i + t) 2048
     → Closed n low high a b c d out o₄ r
 closed-row n low high a b c d out o₁ o₂ o₃ o₄ s t top i r es et e₁ e₂ etop e₃ ei e₄ er long few = (r-is, front)
   where
@@ -130,14 +138,17 @@ closed-row n low high a b c d out o₁ o₂ o₃ o₄ s t top i r es et e₁ e�
     down : take (2 + s) o₃ ≡ take 2 o₂ ++ reverse u
     down =
         let e : o₃ ≡ rowDown (2 + length u - 1) u o₂ = e₃ ∙ rw (climb-u, top-is, es) refl in
-        ap (λ (k : ℕ). take (2 + k) o₃) es ∙ ap (λ (o : List ℕ). take (2 + length u) o) e ∙ rowDown-front 2 u o₂ (omega arith) (omega (arith, long₂, all, few, es))
+        ap (λ (k : ℕ). take (2 + k) o₃) es ∙ ap (λ (o : List ℕ). take (2 + length u) o) e
+        ∙ rowDown-front 2 u o₂ (omega arith) (omega (arith, long₂, all, few, es))
 
     long₃ : length o₃ ≡ 256
     long₃ = rw e₃ (rowDown-length top (climb high s d) o₂ ∙ long₂)
 
     front : take r o₄ ≡ ringThrough (at low) (at high) n a b c d
     front =
-        let e : o₄ ≡ rowUp (2 + s) w o₃ = e₄ ∙ rw (climb-w, i-is) (laid-up false (2 + s) w o₃ (omega (arith, all, et))) in
+        let e : o₄ ≡ rowUp (2 + s) w o₃ =
+        e₄ ∙ rw (climb-w, i-is) (laid-up false (2 + s) w o₃ (omega (arith, all, et))) in
         let f : r ≡ 2 + s + length w = omega (arith, r-is, all, et) in
-        ap (λ (k : ℕ). take k o₄) f ∙ ap (λ (o : List ℕ). take (2 + s + length w) o) e ∙ rowUp-front (2 + s) w o₃ (omega (arith, long₃, all, few, et))
+        ap (λ (k : ℕ). take k o₄) f ∙ ap (λ (o : List ℕ). take (2 + s + length w) o) e
+        ∙ rowUp-front (2 + s) w o₃ (omega (arith, long₃, all, few, et))
         ∙ ap (λ (l : List ℕ). l ++ w) (down ∙ ap (λ (l : List ℕ). l ++ reverse u) first-two)

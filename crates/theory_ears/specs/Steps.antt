@@ -1,5 +1,6 @@
--- What the ring is made from (T-04), step by step: a tree from the first end of the first link, an order of units that grows by ears, and the tests of
--- both. `parent` holds a parent, absent where the tree has not come; `pos` holds a place from 1, 0 off the order.
+-- What the ring is made from (T-04), step by step: a tree from the first end of the first link, an order of units that
+-- grows by ears, and the tests of both. `parent` holds a parent, absent where the tree has not come; `pos` holds a
+-- place from 1, 0 off the order.
 use mathlib.Core.Bool.{Bool, true, false, cond, not, _&&_}
 use mathlib.Core.List.{List, [], _∷_}
 use Prim.Native.Nat.{ℕ, zero, suc, _+_, _-_, min}
@@ -17,7 +18,8 @@ seen parent v = not (eqb (at parent v) ABSENT)
 
 -- link j counts, and the tree has one of its ends
 abbrev pub leadsOut : (ℕ → Bool) → List ℕ → List ℕ → ℕ → Bool
-leadsOut ok ends parent j = ok j && cond (seen parent (endA ends j)) (not (seen parent (endB ends j))) (seen parent (endB ends j))
+leadsOut ok ends parent j = ok j && cond (seen parent (endA ends j)) (not (seen parent (endB ends j)))
+    (seen parent (endB ends j))
 
 -- ---- the order
 
@@ -39,7 +41,8 @@ ties ok ends parent pos held j =
     && not (eqb (at held (endA ends j)) (at held (endB ends j)))
     && not (onOrder pos (endA ends j) && onOrder pos (endB ends j))
 
--- places i, then the next, .. for the units of a list: where `placing`, each unit's place in a table by unit, else each place's unit in a row
+-- places i, then the next, .. for the units of a list: where `placing`, each unit's place in a table by unit, else each
+-- place's unit in a row
 abbrev pub laid : Bool → (ℕ → ℕ) → ℕ → List ℕ → List ℕ → List ℕ
 laid placing next i [] t = t
 laid placing next i (z ∷ l) t = laid placing next (next i) l (set t (cond placing z i) (cond placing i z))

@@ -1,4 +1,5 @@
--- The tree (T-04): units joined one by one to those that it has, over links that count. `seq` lists its k units in the order in which they came.
+-- The tree (T-04): units joined one by one to those that it has, over links that count. `seq` lists its k units in the
+-- order in which they came.
 use mathlib.Core.Path.{_≡_, refl, sym, ap, subst, _∙_}
 use mathlib.Core.Bool.{Bool, true, false, cond, not, _&&_}
 use mathlib.Core.Logic.{_⊎_, inl, inr, _≢_}
@@ -30,7 +31,8 @@ pub record Tree (n : ℕ) (E : ℕ → ℕ → Type 0) (a : ℕ) (parent seq : L
   pub space : length seq ≡ 256
   pub root : Known n parent a
   pub depth : ℕ → ℕ
-  pub up : (v : ℕ) → Known n parent v → v ≢ a → Known n parent (at parent v) × E v (at parent v) × (depth (at parent v) < depth v)
+  pub up : (v : ℕ) → Known n parent v → v ≢ a →
+      Known n parent (at parent v) × E v (at parent v) × (depth (at parent v) < depth v)
   pub placed : (v : ℕ) → Known n parent v → (depth v < k) × (at seq (depth v) ≡ v)
   pub listed : (i : ℕ) → i < k → Known n parent (at seq i) × (depth (at seq i) ≡ i)
   pub counted : k ≡ count n (seen parent)
@@ -38,7 +40,8 @@ pub record Tree (n : ℕ) (E : ℕ → ℕ → Type 0) (a : ℕ) (parent seq : L
 -- what an order needs of it
 pub record Spanning (n : ℕ) (E : ℕ → ℕ → Type 0) (a : ℕ) (parent : List ℕ) (d : ℕ → ℕ) (top : ℕ) : Type 0 where
   pub root : Known n parent a
-  pub up : (v : ℕ) → Known n parent v → v ≢ a → Known n parent (at parent v) × E v (at parent v) × (d (at parent v) < d v)
+  pub up : (v : ℕ) → Known n parent v → v ≢ a →
+      Known n parent (at parent v) × E v (at parent v) × (d (at parent v) < d v)
   pub bound : (v : ℕ) → Known n parent v → d v ≤ top
 
 -- no link that counts leads out
@@ -48,7 +51,8 @@ Whole ok m ends parent = (j : ℕ) → j < m → leadsOut ok ends parent j ≡ f
 pub tree-few : (n : ℕ) (E : ℕ → ℕ → Type 0) (a : ℕ) (parent seq : List ℕ) (k : ℕ) → Tree n E a parent seq k → k ≤ n
 tree-few n E a parent seq k T = omega (arith, T .counted, count-le n (seen parent))
 
-pub spanning : {n : ℕ} {E : ℕ → ℕ → Type 0} {a : ℕ} {parent seq : List ℕ} {k : ℕ} (T : Tree n E a parent seq k) → Spanning n E a parent (T .depth) (suc n)
+pub spanning : {n : ℕ} {E : ℕ → ℕ → Type 0} {a : ℕ} {parent seq : List ℕ} {k : ℕ} (T : Tree n E a parent seq k) →
+    Spanning n E a parent (T .depth) (suc n)
 spanning {n} {E} {a} {parent} {seq} {k} T =
     record { root = T .root; up = T .up; bound = λ v q. omega (arith, T .placed v q .0, tree-few n E a parent seq k T) }
 
@@ -64,7 +68,8 @@ module _ {n m : ℕ} {ends : List ℕ} (site : Site n m ends) (ok : ℕ → Bool
 
   -- ---- one unit more
 
-  module _ (a : ℕ) (parent seq : List ℕ) (k : ℕ) (T : Tree n E a parent seq k) (u w : ℕ) (ku : Known n parent u) (lw : w < n) (off : seen parent w ≡ false) (l : E w u) where
+  module _ (a : ℕ) (parent seq : List ℕ) (k : ℕ) (T : Tree n E a parent seq k) (u w : ℕ) (ku : Known n parent u)
+      (lw : w < n) (off : seen parent w ≡ false) (l : E w u) where
     parent′ : List ℕ
     parent′ = set parent w u
 
@@ -143,17 +148,26 @@ module _ {n m : ℕ} {ends : List ℕ} (site : Site n m ends) (ok : ℕ → Bool
         up : (v : ℕ) → v ≢ a → (v ≡ w) ⊎ Known n parent v → New v (at parent′ v)
         up v h (inl e) =
             subst (λ (z : ℕ). New z (at parent′ z)) (sym e)
-            (subst (λ (p : ℕ). New w p) (sym at-new) (known-old u ku, l, omega (arith, d-new, d-old u (apart u ku), T .placed u ku .0)))
+            (subst (λ (p : ℕ). New w p) (sym at-new) (
+              known-old u ku,
+              l,
+              omega (arith, d-new, d-old u (apart u ku), T .placed u ku .0),
+            ))
         up v h (inr q) =
             let r = T .up v q h in
-            subst (λ (p : ℕ). New v p) (sym (at-old v (apart v q)))
-            (known-old (at parent v) (r .0), r .1, let i : T .depth (at parent v) < T .depth v = r .2 in omega (arith, d-old v (apart v q), d-old (at parent v) (apart (at parent v) (r .0))))
+            subst (λ (p : ℕ). New v p) (sym (at-old v (apart v q))) (
+              known-old (at parent v) (r .0),
+              r .1,
+              let i : T .depth (at parent v) < T .depth v =
+                  r .2 in omega (arith, d-old v (apart v q), d-old (at parent v) (apart (at parent v) (r .0))),
+            )
 
         Place : ℕ → ℕ → Type 0
         Place v d = (d < k + 1) × (at seq′ d ≡ v)
 
         placed : (v : ℕ) → (v ≡ w) ⊎ Known n parent v → Place v (d′ v)
-        placed v (inl e) = subst (λ (z : ℕ). Place z (d′ z)) (sym e) (subst (Place w) (sym d-new) (omega arith, seq-new))
+        placed v (inl e) = subst (λ (z : ℕ). Place z (d′ z)) (sym e)
+            (subst (Place w) (sym d-new) (omega arith, seq-new))
         placed v (inr q) =
             let p = T .placed v q in
             let i : T .depth v < k = p .0 in
@@ -165,7 +179,10 @@ module _ {n m : ℕ} {ends : List ℕ} (site : Site n m ends) (ok : ℕ → Bool
         listed : (i : ℕ) → i < k + 1 → Dec (i < k) → Listed i (at seq′ i)
         listed i h (yes b) =
             let q = T .listed i b in
-            subst (Listed i) (sym (seq-old i b)) (known-old (at seq i) (q .0), d-old (at seq i) (apart (at seq i) (q .0)) ∙ q .1)
+            subst (Listed i) (sym (seq-old i b)) (
+              known-old (at seq i) (q .0),
+              d-old (at seq i) (apart (at seq i) (q .0)) ∙ q .1,
+            )
         listed i h (no b) =
             let e : i ≡ k = omega arith in
             subst (λ (z : ℕ). Listed z (at seq′ z)) (sym e) (subst (Listed k) (sym seq-new) (known-new, d-new))
@@ -177,7 +194,8 @@ module _ {n m : ℕ} {ends : List ℕ} (site : Site n m ends) (ok : ℕ → Bool
   not-seen false e = refl
 
   -- one store in each table for either end
-  pub attach-link : (a : ℕ) (parent seq : List ℕ) (k j u v : ℕ) (s : Bool) → Tree n E a parent seq k → j < m → leadsOut ok ends parent j ≡ true
+  pub attach-link : (a : ℕ) (parent seq : List ℕ) (k j u v : ℕ) (s : Bool) → Tree n E a parent seq k → j < m →
+      leadsOut ok ends parent j ≡ true
       → u ≡ endA ends j → v ≡ endB ends j → s ≡ seen parent u
       → Tree n E a (set parent (cond s v u) (cond s u v)) (set seq k (cond s v u)) (k + 1)
   attach-link a parent seq k j u v s T lj t eu ev es = rw (es, eu, ev) (go (either (seen parent (endA ends j))))
@@ -200,16 +218,24 @@ module _ {n m : ℕ} {ends : List ℕ} (site : Site n m ends) (ok : ℕ → Bool
       go : (seen parent (endA ends j) ≡ true) ⊎ (seen parent (endA ends j) ≡ false) → Goal (seen parent (endA ends j))
       go (inl e) =
           subst Goal (sym e)
-          (attach a parent seq k T x y (site .belowA j lj, e) (site .belowB j lj) (not-seen (seen parent y) (sym (cond-true (seen parent x) (not (seen parent y)) (seen parent y) e) ∙ rest))
+          (attach a parent seq k T x y (
+            site .belowA j lj,
+            e,
+          ) (site .belowB j lj) (not-seen (seen parent y)
+          (sym (cond-true (seen parent x) (not (seen parent y)) (seen parent y) e) ∙ rest))
           (j, lj, okj, inr (refl, refl)))
       go (inr e) =
           subst Goal (sym e)
-          (attach a parent seq k T y x (site .belowB j lj, sym (cond-false (seen parent x) (not (seen parent y)) (seen parent y) e) ∙ rest) (site .belowA j lj) e
+          (attach a parent seq k T y x (
+            site .belowB j lj,
+            sym (cond-false (seen parent x) (not (seen parent y)) (seen parent y) e) ∙ rest,
+          ) (site .belowA j lj) e
           (j, lj, okj, inl (refl, refl)))
 
   -- ---- from the first link on
 
-  module _ (a b : ℕ) (la : a < n) (lb : b < n) (l : E a b) (blank seq : List ℕ) (room : length blank ≡ 256) (space : length seq ≡ 256)
+  module _ (a b : ℕ) (la : a < n) (lb : b < n) (l : E a b) (blank seq : List ℕ) (room : length blank ≡ 256)
+      (space : length seq ≡ 256)
       (absent : (i : ℕ) → i < 256 → at blank i ≡ ABSENT) where
     abbrev start : List ℕ
     start = set (set blank a a) b a
@@ -221,13 +247,15 @@ module _ {n m : ℕ} {ends : List ℕ} (site : Site n m ends) (ok : ℕ → Bool
     apart-ab = ends-apart (present-graph site ok) a b l
 
     begun-a : at start a ≡ a
-    begun-a = getD-set-other (set blank a a) b a a 0 apart-ab ∙ getD-set-same blank a a 0 (omega (arith, room, small a la .0))
+    begun-a = getD-set-other (set blank a a) b a a 0 apart-ab
+        ∙ getD-set-same blank a a 0 (omega (arith, room, small a la .0))
 
     begun-b : at start b ≡ a
     begun-b = getD-set-same (set blank a a) b a 0 (omega (arith, length-set blank a a, room, small b lb .0))
 
     begun-other : (z : ℕ) → z < n → z ≢ a → z ≢ b → at start z ≡ ABSENT
-    begun-other z lz na nb = getD-set-other (set blank a a) b z a 0 nb ∙ getD-set-other blank a z a 0 na ∙ absent z (small z lz .0)
+    begun-other z lz na nb = getD-set-other (set blank a a) b z a 0 nb ∙ getD-set-other blank a z a 0 na
+        ∙ absent z (small z lz .0)
 
     known-a : Known n start a
     known-a = (la, present-seen start a a begun-a (small a la .1))
@@ -278,14 +306,20 @@ module _ {n m : ℕ} {ends : List ℕ} (site : Site n m ends) (ok : ℕ → Bool
         up v h (inl e) = absurd (h e)
         up v h (inr e) =
             subst (λ (z : ℕ). New z (at start z)) (sym e)
-            (subst (λ (p : ℕ). New b p) (sym begun-b) (known-a, present-graph site ok .flip a b l, omega (arith, depth-a, depth-b)))
+            (subst (λ (p : ℕ). New b p) (sym begun-b) (
+              known-a,
+              present-graph site ok .flip a b l,
+              omega (arith, depth-a, depth-b),
+            ))
 
         Place : ℕ → ℕ → Type 0
         Place v d = (d < 2) × (at first d ≡ v)
 
         placed : (v : ℕ) → (v ≡ a) ⊎ (v ≡ b) → Place v (depth v)
-        placed v (inl e) = subst (λ (z : ℕ). Place z (depth z)) (sym e) (subst (Place a) (sym depth-a) (omega arith, seq-a))
-        placed v (inr e) = subst (λ (z : ℕ). Place z (depth z)) (sym e) (subst (Place b) (sym depth-b) (omega arith, seq-b))
+        placed v (inl e) = subst (λ (z : ℕ). Place z (depth z)) (sym e)
+            (subst (Place a) (sym depth-a) (omega arith, seq-a))
+        placed v (inr e) = subst (λ (z : ℕ). Place z (depth z)) (sym e)
+            (subst (Place b) (sym depth-b) (omega arith, seq-b))
 
         Listed : ℕ → ℕ → Type 0
         Listed i v = Known n start v × (depth v ≡ i)
@@ -322,7 +356,8 @@ module _ {n m : ℕ} {ends : List ℕ} (site : Site n m ends) (ok : ℕ → Bool
                 go (no e) = rw (begun-other i h e nb) refl ∙ sym (ne-eqb i a e)
 
   -- the tree has with a unit all that links that count join to it
-  pub spreads : (parent : List ℕ) → Whole ok m ends parent → (u v : ℕ) → Known n parent u → Present ok m ends u v → Known n parent v
+  pub spreads : (parent : List ℕ) → Whole ok m ends parent → (u v : ℕ) → Known n parent u → Present ok m ends u v →
+      Known n parent v
   spreads parent W u v k (j, lj, o, s) = go s (W j lj)
     where
       pass : (A B : Bool) → (ok j && cond A (not B) B) ≡ false → A ≡ B
@@ -332,5 +367,11 @@ module _ {n m : ℕ} {ends : List ℕ} (site : Site n m ends) (ok : ℕ → Bool
       pass false false e = refl
 
       go : SameLink (endA ends j) (endB ends j) u v → leadsOut ok ends parent j ≡ false → Known n parent v
-      go (inl (e, f)) t = (rw (← f) (site .belowB j lj), rw (← f) (sym (pass (seen parent (endA ends j)) (seen parent (endB ends j)) t) ∙ rw e (k .1)))
-      go (inr (e, f)) t = (rw (← e) (site .belowA j lj), rw (← e) (pass (seen parent (endA ends j)) (seen parent (endB ends j)) t ∙ rw f (k .1)))
+      go (inl (e, f)) t = (
+        rw (← f) (site .belowB j lj),
+        rw (← f) (sym (pass (seen parent (endA ends j)) (seen parent (endB ends j)) t) ∙ rw e (k .1)),
+      )
+      go (inr (e, f)) t = (
+        rw (← e) (site .belowA j lj),
+        rw (← e) (pass (seen parent (endA ends j)) (seen parent (endB ends j)) t ∙ rw f (k .1)),
+      )

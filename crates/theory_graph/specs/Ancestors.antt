@@ -64,7 +64,8 @@ module _ {E : ℕ → ℕ → Type 0} {p d root : ℕ → ℕ} (F : Forest E p d
   anc-child (self e) n = absurd (n e)
   anc-child {b} {x} (up h a) n = go (ℕ-discrete b (p x)) (anc-child a)
     where
-      go : Dec (b ≡ p x) → (b ≢ p x → (c : ℕ) × (0 < d c) × (p c ≡ b) × Anc p d c (p x)) → (c : ℕ) × (0 < d c) × (p c ≡ b) × Anc p d c x
+      go : Dec (b ≡ p x) → (b ≢ p x → (c : ℕ) × (0 < d c) × (p c ≡ b) × Anc p d c (p x)) →
+          (c : ℕ) × (0 < d c) × (p c ≡ b) × Anc p d c x
       go (yes e) f = (x, h, sym e, self refl)
       go (no e) f = let r = f e in (r .0, r .1, r .2, up h (r .3))
 

@@ -1,5 +1,5 @@
--- The pure theorem: links have one class exactly where they are one link or lie on a common ring, and a link is alone in its
--- class exactly where no ring holds it.
+-- The pure theorem: links have one class exactly where they are one link or lie on a common ring, and a link is alone
+-- in its class exactly where no ring holds it.
 use mathlib.Core.Path.{_≡_, refl, sym, subst, _∙_}
 use mathlib.Core.Logic.{_⊎_, inl, inr, _↔_}
 use mathlib.Core.List.{List, [], _∷_}
@@ -9,10 +9,12 @@ use Rattle.base_lists.specs.Members.{Mem}
 use Rattle.theory_graph.specs.Rings.{Graph, last, lastOf, firstOf, Ring, Holds, OnRing, SameLink}
 use Rattle.theory_graph.specs.Walks.{last-mem}
 use Rattle.theory_graph.specs.Turn.{turn, turn-ring, turn-link}
-use Rattle.theory_graph.specs.Forest.{Forest, Anc, self, up, Aux, across, along, Joined, stay, on, back, Classes, ClassOf, lower, upper, first, second}
+use Rattle.theory_graph.specs.Forest.{Forest, Anc, self, up, Aux, across, along, Joined, stay, on, back, Classes}
+use Rattle.theory_graph.specs.Forest.{ClassOf, lower, upper, first, second}
 use Rattle.theory_graph.specs.Ancestors.{anc-trans, top-anc}
 use Rattle.theory_graph.specs.TreePath.{fundamental, fundamental-ring, fundamental-link, fundamental-tree}
-use Rattle.theory_graph.specs.Together.{Together, together-trans, together-flip, same-flip, same-trans, holds-same, ring-link}
+use Rattle.theory_graph.specs.Together.{Together, together-trans, together-flip, same-flip, same-trans}
+use Rattle.theory_graph.specs.Together.{holds-same, ring-link}
 use Rattle.theory_graph.specs.Sides.{class-link, class-same, class-exists, ring-class}
 
 -- each other link has another class
@@ -109,7 +111,8 @@ module _ {E : ℕ → ℕ → Type 0} {p d root cl : ℕ → ℕ} (G : Graph E) 
       )
 
   -- links of one class are one link, or lie on one ring
-  pub class-together : {u v x y c c′ : ℕ} → ClassOf E p d cl u v c → ClassOf E p d cl x y c′ → c ≡ c′ → Together E u v x y
+  pub class-together : {u v x y c c′ : ℕ} → ClassOf E p d cl u v c → ClassOf E p d cl x y c′ → c ≡ c′ →
+      Together E u v x y
   class-together {u} {v} {x} {y} h k e =
       let (s, hs, es, ts) = class-tree h in
       let (t, ht, et, tq) = class-tree k in

@@ -25,9 +25,9 @@ pub record OffTree (E : ℕ → ℕ → Type 0) (p d : ℕ → ℕ) (u v : ℕ) 
   pub link : E u v
   pub off : TreeLink p d u v → ⊥
 
--- Auxiliary edges, between tree links named by their lower ends (document 01's joins): u and v across a link off the tree
--- between the two, neither an ancestor of the other; u and its parent v along the tree, v no root, by a link off the tree
--- that leads from below u to outside D(v).
+-- Auxiliary edges, between tree links named by their lower ends (document 01's joins): u and v across a link off the
+-- tree between the two, neither an ancestor of the other; u and its parent v along the tree, v no root, by a link off
+-- the tree that leads from below u to outside D(v).
 pub data Aux (E : ℕ → ℕ → Type 0) (p d : ℕ → ℕ) (u v : ℕ) : Type 0 where
   across : OffTree E p d u v → (Anc p d u v → ⊥) → (Anc p d v u → ⊥) → Aux E p d u v
   along : 0 < d u → p u ≡ v → 0 < d v → (x y : ℕ) → OffTree E p d x y → Anc p d u y → (Anc p d v x → ⊥) → Aux E p d u v

@@ -24,7 +24,8 @@ module _
         go (inl a) = joins v w a .1
         go (inr a) = joins w v a .0
 
-    chain : (u v w : ℕ) → Joined E p d u v → Picked picked n v → (l : List ℕ) → Walk (Near picked n R) v l → last v l ≡ w → Joined E p d u w
+    chain : (u v w : ℕ) → Joined E p d u v → Picked picked n v → (l : List ℕ) → Walk (Near picked n R) v l →
+        last v l ≡ w → Joined E p d u w
     chain u v w j h [] s e = subst (λ (z : ℕ). Joined E p d u z) e j
     chain u v w j h (x ∷ l) s e = chain u x w (go (joined v x h (s .0 .0) (s .0 .1))) (s .0 .0) l (s .1) e
       where

@@ -1,5 +1,5 @@
--- Least values spread by rounds over any relation on picked nodes (stages 1 and 9 of document 01, and the bound of stage 2).
--- R v w: v reads w. Nothing here asks that w reads v too, up to the last section.
+-- Least values spread by rounds over any relation on picked nodes (stages 1 and 9 of document 01, and the bound of
+-- stage 2). R v w: v reads w. Nothing here asks that w reads v too, up to the last section.
 use mathlib.Core.Path.{_≡_, refl, sym, _∙_}
 use mathlib.Core.Logic.{_⊎_, inl, inr, _≢_, _↔_}
 use mathlib.Core.Bool.{Bool}
@@ -45,7 +45,8 @@ pub record Rounds (p : ℕ → Bool) (n : ℕ) (R : ℕ → ℕ → Type 0) (val
   pub start : (v : ℕ) → Picked p n v → val zero v ≡ v
   pub own : (k v : ℕ) → Picked p n v → val (suc k) v ≤ val k v
   pub near : (k v w : ℕ) → Picked p n v → Picked p n w → R v w → val (suc k) v ≤ val k w
-  pub attained : (k v : ℕ) → Picked p n v → (val (suc k) v ≡ val k v) ⊎ ((w : ℕ) × Picked p n w × R v w × (val (suc k) v ≡ val k w))
+  pub attained : (k v : ℕ) → Picked p n v →
+      (val (suc k) v ≡ val k v) ⊎ ((w : ℕ) × Picked p n w × R v w × (val (suc k) v ≡ val k w))
 
 -- round k + 1 changes nothing
 abbrev pub Still : (ℕ → Bool) → ℕ → (ℕ → ℕ → ℕ) → ℕ → Type 0
@@ -93,7 +94,8 @@ module _ {p : ℕ → Bool} {n : ℕ} {R : ℕ → ℕ → Type 0} {val : ℕ �
           let (m, f, q, s) = short p n R v (val (suc k) v) l h r in
           by m q s (decLe (length m) k)
         where
-          by : (m : List ℕ) → length m < count n p → Route (Near p n R) v m (val (suc k) v) → Dec (length m ≤ k) → suc k < count n p
+          by : (m : List ℕ) → length m < count n p → Route (Near p n R) v m (val (suc k) v) → Dec (length m ≤ k) →
+              suc k < count n p
           by m q s (yes g) = absurd (c (omega (arith, least-within k v (val (suc k) v) h (m, g, s), rounds .own k v h)))
           by m q s (no g) = omega arith
 
@@ -138,7 +140,8 @@ module _ {p : ℕ → Bool} {n : ℕ} {R : ℕ → ℕ → Type 0} {val : ℕ �
     pub still-on : Still p n val (suc k)
     still-on v h = go (rounds .attained (suc k) v h)
       where
-        go : (val (suc (suc k)) v ≡ val (suc k) v) ⊎ ((w : ℕ) × Picked p n w × R v w × (val (suc (suc k)) v ≡ val (suc k) w))
+        go : (val (suc (suc k)) v ≡ val (suc k) v)
+            ⊎ ((w : ℕ) × Picked p n w × R v w × (val (suc (suc k)) v ≡ val (suc k) w))
             → val (suc (suc k)) v ≡ val (suc k) v
         go (inl e) = e
         go (inr (w, pw, r, e)) = omega (arith, rounds .near k v w h pw r, still w pw, rounds .own (suc k) v h)
@@ -165,7 +168,14 @@ module _ {p : ℕ → Bool} {n : ℕ} {R : ℕ → ℕ → Type 0} {val : ℕ �
           pairs x (y ∷ m) px u = ((px, u .0 .0, u .0 .1), pairs y m (u .0 .0) (u .1))
 
       pub still-classes : (v w : ℕ) → Picked p n v → Picked p n w → (val k v ≡ val k w) ↔ Connected (Near p n R) v w
-      still-classes v w pv pw = (there, λ c. omega (arith, still-along v w pv c, still-along w v pw (reached-back v w pv c)))
+      still-classes v w pv pw = (
+        there,
+        λ c. omega (
+          arith,
+          still-along v w pv c,
+          still-along w v pw (reached-back v w pv c),
+        ),
+      )
         where
           there : val k v ≡ val k w → Connected (Near p n R) v w
           there e =

@@ -5,9 +5,11 @@ use mathlib.Core.List.{List, [], _∷_, _++_}
 use Prim.Native.Nat.{ℕ, suc, _≤_}
 use native.Mathlib.Omega.{arith}
 use lib.ListN.{length, length-append}
-use Rattle.base_lists.specs.Members.{Mem, mem?, Distinct, mem-split, mem-cases, mem-right, mem-left, distinct-swap, distinct-right}
+use Rattle.base_lists.specs.Members.{Mem, mem?, Distinct, mem-split, mem-cases, mem-right, mem-left, distinct-swap}
+use Rattle.base_lists.specs.Members.{distinct-right}
 use Rattle.theory_graph.specs.Rings.{Graph, last, Walk, lastOf, Ring, Route, Avoids, Connected}
-use Rattle.theory_graph.specs.Walks.{last-append, walk-join, walk-left, walk-right, walk-map, walk-step, ring-closed, lastOf-split}
+use Rattle.theory_graph.specs.Walks.{last-append, walk-join, walk-left, walk-right, walk-map, walk-step}
+use Rattle.theory_graph.specs.Walks.{ring-closed, lastOf-split}
 
 -- the links that do not end at u
 abbrev pub Without : ℕ → (ℕ → ℕ → Type 0) → ℕ → ℕ → Type 0
@@ -79,7 +81,8 @@ module _ (E : ℕ → ℕ → Type 0) where
   )
 
   -- a walk that meets no u connects its start with each of its vertices, without the links at u
-  connected-along : (u a : ℕ) (l : List ℕ) → Walk E a l → (Mem u (a ∷ l) → ⊥) → (z : ℕ) → Mem z (a ∷ l) → Connected (Without u E) a z
+  connected-along : (u a : ℕ) (l : List ℕ) → Walk E a l → (Mem u (a ∷ l) → ⊥) → (z : ℕ) → Mem z (a ∷ l) →
+      Connected (Without u E) a z
   connected-along u a [] w h z (inl e) = ([], (tt, sym e))
   connected-along u a [] w h z (inr m) = absurd m
   connected-along u a (b ∷ l) w h z (inl e) = ([], (tt, sym e))
@@ -117,6 +120,8 @@ module _ {E : ℕ → ℕ → Type 0} (G : Graph E) where
           let e : r ≡ s ++ u ∷ t = k .2 in
           let w : Walk E (lastOf (s ++ u ∷ t)) (s ++ u ∷ t) = rw e at (ring-closed R) in
           let d : Distinct (s ++ u ∷ t) = rw e at (R .different) in
-          let before : Walk E (last u t) s = rw (lastOf-split s u t) at (walk-left E (lastOf (s ++ u ∷ t)) s (u ∷ t) w) in
+          let before : Walk E (last u t) s =
+          rw (lastOf-split s u t) at (walk-left E (lastOf (s ++ u ∷ t)) s (u ∷ t) w) in
           let after : Walk E u t = walk-right E (lastOf (s ++ u ∷ t)) s (u ∷ t) w .1 in
-          round (t ++ s) (walk-join E u t s after before) (distinct-swap s (u ∷ t) d .0) (other s t a na (rw e at ma)) (other s t b nb (rw e at mb))
+          round (t ++ s) (walk-join E u t s after before) (distinct-swap s (u ∷ t) d .0) (other s t a na (rw e at ma))
+          (other s t b nb (rw e at mb))

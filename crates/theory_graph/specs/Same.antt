@@ -1,4 +1,5 @@
--- Two relations that hold of the same pairs draw the same graph: rings, routes and articulation points are those of either.
+-- Two relations that hold of the same pairs draw the same graph: rings, routes and articulation points are those of
+-- either.
 use mathlib.Core.Logic.{_↔_}
 use mathlib.Core.List.{List}
 use Prim.Native.Nat.{ℕ}
@@ -22,7 +23,8 @@ module _ (E F : ℕ → ℕ → Type 0) (same : (u v : ℕ) → E u v ↔ F u v)
   onRing-same u v x y =
       (onRing-more E F to u v x y, onRing-more F E back u v x y)
 
-  pub no-ring-same : (u v : ℕ) → ((r : List ℕ) → Ring E r → Holds r u v → ⊥) ↔ ((r : List ℕ) → Ring F r → Holds r u v → ⊥)
+  pub no-ring-same : (u v : ℕ) → ((r : List ℕ) → Ring E r → Holds r u v → ⊥)
+      ↔ ((r : List ℕ) → Ring F r → Holds r u v → ⊥)
   no-ring-same u v = (λ h r R. h r (ring-more F E back r R), λ h r R. h r (ring-more E F to r R))
 
   pub articulation-same : (u : ℕ) → Articulation E u ↔ Articulation F u

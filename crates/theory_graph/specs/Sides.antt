@@ -1,5 +1,6 @@
--- Links of one ring have one class. Seen from a vertex b, each other vertex of b's tree has a class: that of the child of b
--- that it is below, or of b itself where it is not below b. Along a route that avoids b this class does not change.
+-- Links of one ring have one class. Seen from a vertex b, each other vertex of b's tree has a class: that of the child
+-- of b that it is below, or of b itself where it is not below b. Along a route that avoids b this class does not
+-- change.
 use mathlib.Core.Path.{_≡_, refl, sym, ap, subst, subst₂, _∙_}
 use mathlib.Core.Logic.{_⊎_, inl, inr, _≢_}
 use mathlib.Core.List.{List, [], _∷_}
@@ -9,9 +10,11 @@ use native.Mathlib.Omega.{arith}
 use Rattle.theory_graph.specs.Rings.{Graph, last, Walk, Step, lastOf, Ring, Follows, Holds, Connected, SameLink}
 use Rattle.theory_graph.specs.Walks.{follows-step, step-follows, follows-from, follows-to}
 use Rattle.theory_graph.specs.Routes.{Without, ring-around}
-use Rattle.theory_graph.specs.Forest.{Forest, Anc, self, up, TreeLink, OffTree, Aux, across, along, ClassOf, lower, upper, first, second}
+use Rattle.theory_graph.specs.Forest.{Forest, Anc, self, up, TreeLink, OffTree, Aux, across, along, ClassOf}
+use Rattle.theory_graph.specs.Forest.{lower, upper, first, second}
 use Rattle.theory_graph.specs.Together.{ends-apart, ring-link}
-use Rattle.theory_graph.specs.Ancestors.{anc-of, anc-trans, anc-depth, anc-level, anc-order, anc?, anc-child, root-along, top-anc, tree?, tree-anc, leaves-off}
+use Rattle.theory_graph.specs.Ancestors.{anc-of, anc-trans, anc-depth, anc-level, anc-order, anc?, anc-child}
+use Rattle.theory_graph.specs.Ancestors.{root-along, top-anc, tree?, tree-anc, leaves-off}
 
 -- c is the class of x seen from b
 pub data Side (p d cl : ℕ → ℕ) (b x : ℕ) : ℕ → Type 0 where
@@ -19,13 +22,15 @@ pub data Side (p d cl : ℕ → ℕ) (b x : ℕ) : ℕ → Type 0 where
   beside : (Anc p d b x → ⊥) → Side p d cl b x (cl b)
 
 -- what has a class is a link
-pub class-link : {E : ℕ → ℕ → Type 0} {p d root cl : ℕ → ℕ} → Graph E → Forest E p d root → {u v c : ℕ} → ClassOf E p d cl u v c → E u v
+pub class-link : {E : ℕ → ℕ → Type 0} {p d root cl : ℕ → ℕ} → Graph E → Forest E p d root → {u v c : ℕ} →
+    ClassOf E p d cl u v c → E u v
 class-link {E} G F {u} (lower h e f) = subst (λ (z : ℕ). E u z) e (F .link u h)
 class-link {E} {p} G F {v = v} (upper h e f) = subst (λ (z : ℕ). E z v) e (G .flip v (p v) (F .link v h))
 class-link G F (first o n f) = o .link
 class-link G F (second o n f) = o .link
 
-module _ {E : ℕ → ℕ → Type 0} {p d root cl : ℕ → ℕ} (G : Graph E) (F : Forest E p d root) (aux : (u v : ℕ) → Aux E p d u v → cl u ≡ cl v) where
+module _ {E : ℕ → ℕ → Type 0} {p d root cl : ℕ → ℕ} (G : Graph E) (F : Forest E p d root) (aux : (u v : ℕ) →
+    Aux E p d u v → cl u ≡ cl v) where
   off-flip : (x y : ℕ) → OffTree E p d x y → OffTree E p d y x
   off-flip x y o = record { link = G .flip x y (o .link); off = λ t. o .off (turned t) }
     where
@@ -34,7 +39,8 @@ module _ {E : ℕ → ℕ → Type 0} {p d root cl : ℕ → ℕ} (G : Graph E) 
       turned (inr h) = inl h
 
   -- up the tree from u to t, both above the end y of a link whose other end is not below t: one class
-  climb : (t x y : ℕ) → 0 < d t → OffTree E p d x y → (Anc p d t x → ⊥) → {u : ℕ} → Anc p d t u → Anc p d u y → cl u ≡ cl t
+  climb : (t x y : ℕ) → 0 < d t → OffTree E p d x y → (Anc p d t x → ⊥) → {u : ℕ} → Anc p d t u → Anc p d u y →
+      cl u ≡ cl t
   climb t x y h o n (self e) b = ap cl (sym e)
   climb t x y h o n {u} (up k a) b =
       aux u (p u) (along k refl (omega (arith, anc-depth F a)) x y o b (λ c. n (anc-trans a c)))
@@ -55,7 +61,8 @@ module _ {E : ℕ → ℕ → Type 0} {p d root cl : ℕ → ℕ} (G : Graph E) 
 
   -- from below the child t of b to beside b
   outward : (b t x y : ℕ) → 0 < d t → p t ≡ b → Anc p d t x → (Anc p d b y → ⊥) → E x y → cl t ≡ cl b
-  outward b t x y h e a n l = aux t b (along h e (go (d b) refl) y x (leaves-off F t y x h (G .flip x y l) a (λ c. n (anc-of e c))) a n)
+  outward b t x y h e a n l = aux t b (along h e (go (d b) refl) y x
+      (leaves-off F t y x h (G .flip x y l) a (λ c. n (anc-of e c))) a n)
     where
       go : (i : ℕ) → d b ≡ i → 0 < d b
       go (suc i) z = omega arith
@@ -103,7 +110,8 @@ module _ {E : ℕ → ℕ → Type 0} {p d root cl : ℕ → ℕ} (G : Graph E) 
   pub side-route : {b x y c c′ : ℕ} → Connected (Without b E) x y → Side p d cl b x c → Side p d cl b y c′ → c ≡ c′
   side-route {b} {x} {y} (l, w) = go x l (w .0) (w .1)
     where
-      go : (v : ℕ) (k : List ℕ) → Walk (Without b E) v k → last v k ≡ y → {c c′ : ℕ} → Side p d cl b v c → Side p d cl b y c′ → c ≡ c′
+      go : (v : ℕ) (k : List ℕ) → Walk (Without b E) v k → last v k ≡ y → {c c′ : ℕ} → Side p d cl b v c →
+          Side p d cl b y c′ → c ≡ c′
       go v [] w e {c} s t = side-same (subst (λ (z : ℕ). Side p d cl b z c) e s) t
       go v (z ∷ k) w e s t =
           let r = side b z (w .0 .2) in
@@ -136,9 +144,12 @@ module _ {E : ℕ → ℕ → Type 0} {p d root cl : ℕ → ℕ} (G : Graph E) 
   pub class-unique : {u v c c′ : ℕ} → E u v → ClassOf E p d cl u v c → ClassOf E p d cl u v c′ → c ≡ c′
   class-unique {u} {v} l a b = let s = side u v (ends-apart G u v l) in side-own a (s .1) ∙ sym (side-own b (s .1))
 
-  pub class-same : {u v x y c c′ : ℕ} → E u v → SameLink u v x y → ClassOf E p d cl u v c → ClassOf E p d cl x y c′ → c ≡ c′
-  class-same {c′ = c′} l (inl e) a b = class-unique l a (subst₂ (λ (i j : ℕ). ClassOf E p d cl i j c′) (sym (e .0)) (sym (e .1)) b)
-  class-same {c′ = c′} l (inr e) a b = class-unique l a (class-flip (subst₂ (λ (i j : ℕ). ClassOf E p d cl i j c′) (sym (e .1)) (sym (e .0)) b))
+  pub class-same : {u v x y c c′ : ℕ} → E u v → SameLink u v x y → ClassOf E p d cl u v c → ClassOf E p d cl x y c′ →
+      c ≡ c′
+  class-same {c′ = c′} l (inl e) a b = class-unique l a
+      (subst₂ (λ (i j : ℕ). ClassOf E p d cl i j c′) (sym (e .0)) (sym (e .1)) b)
+  class-same {c′ = c′} l (inr e) a b = class-unique l a
+      (class-flip (subst₂ (λ (i j : ℕ). ClassOf E p d cl i j c′) (sym (e .1)) (sym (e .0)) b))
 
   pub class-exists : (u v : ℕ) → E u v → (c : ℕ) × ClassOf E p d cl u v c
   class-exists u v l = go (tree? F u v) (anc? F u v)
@@ -151,7 +162,8 @@ module _ {E : ℕ → ℕ → Type 0} {p d root cl : ℕ → ℕ} (G : Graph E) 
           (cl v, second (record { link = l; off = t }) (λ q. ends-apart G u v l (anc-level F a (anc-depth F q))) refl)
 
   -- two links at b with a way round between their other ends
-  pub class-at : {b x y c c′ : ℕ} → E b x → E b y → Connected (Without b E) x y → ClassOf E p d cl b x c → ClassOf E p d cl b y c′ → c ≡ c′
+  pub class-at : {b x y c c′ : ℕ} → E b x → E b y → Connected (Without b E) x y → ClassOf E p d cl b x c →
+      ClassOf E p d cl b y c′ → c ≡ c′
   class-at {b} {x} {y} l m w h k =
       let s = side b x (ends-apart G b x l) in
       let t = side b y (ends-apart G b y m) in
@@ -159,25 +171,31 @@ module _ {E : ℕ → ℕ → Type 0} {p d root cl : ℕ → ℕ} (G : Graph E) 
 
   module _ (r : List ℕ) (R : Ring E r) where
     -- two links that follow one another on the ring
-    turn-class : {a b w c c′ : ℕ} → Follows r a b → Follows r b w → ClassOf E p d cl a b c → ClassOf E p d cl b w c′ → c ≡ c′
+    turn-class : {a b w c c′ : ℕ} → Follows r a b → Follows r b w → ClassOf E p d cl a b c → ClassOf E p d cl b w c′ →
+        c ≡ c′
     turn-class {a} {b} {w} h k x y =
         let ba = G .flip a b (ring-link G R a b (inl h)) in
         let bw = ring-link G R b w (inl k) in
-        let way = ring-around G R b a w (follows-to r a b h) (follows-from r a b h) (follows-to r b w k) (ends-apart G b a ba) (ends-apart G b w bw) in
+        let way = ring-around G R b a w (follows-to r a b h) (follows-from r a b h) (follows-to r b w k)
+        (ends-apart G b a ba) (ends-apart G b w bw) in
         class-at ba bw way (class-flip x) y
 
-    class-along : (a b : ℕ) (l : List ℕ) → ((u v : ℕ) → Step a (b ∷ l) u v → Follows r u v) → {c : ℕ} → ClassOf E p d cl a b c
+    class-along : (a b : ℕ) (l : List ℕ) → ((u v : ℕ) → Step a (b ∷ l) u v → Follows r u v) → {c : ℕ} →
+        ClassOf E p d cl a b c
         → (u v : ℕ) → Step a (b ∷ l) u v → {c′ : ℕ} → ClassOf E p d cl u v c′ → c ≡ c′
-    class-along a b [] on h u v (inl s) k = class-same (ring-link G R a b (inl (on a b (inl (refl, refl))))) (inl (sym (s .0), sym (s .1))) h k
+    class-along a b [] on h u v (inl s) k =
+        class-same (ring-link G R a b (inl (on a b (inl (refl, refl))))) (inl (sym (s .0), sym (s .1))) h k
     class-along a b [] on h u v (inr s) k = absurd s
-    class-along a b (w ∷ l) on h u v (inl s) k = class-same (ring-link G R a b (inl (on a b (inl (refl, refl))))) (inl (sym (s .0), sym (s .1))) h k
+    class-along a b (w ∷ l) on h u v (inl s) k =
+        class-same (ring-link G R a b (inl (on a b (inl (refl, refl))))) (inl (sym (s .0), sym (s .1))) h k
     class-along a b (w ∷ l) on h u v (inr s) k =
         let m = class-exists b w (ring-link G R b w (inl (on b w (inr (inl (refl, refl)))))) in
         turn-class (on a b (inl (refl, refl))) (on b w (inr (inl (refl, refl)))) h (m .1)
         ∙ class-along b w l (λ x y q. on x y (inr q)) (m .1) u v s k
 
   -- all links of a ring have one class
-  pub ring-class : {r : List ℕ} → Ring E r → {u v x y c c′ : ℕ} → Holds r u v → Holds r x y → ClassOf E p d cl u v c → ClassOf E p d cl x y c′ → c ≡ c′
+  pub ring-class : {r : List ℕ} → Ring E r → {u v x y c c′ : ℕ} → Holds r u v → Holds r x y → ClassOf E p d cl u v c →
+      ClassOf E p d cl x y c′ → c ≡ c′
   ring-class {r = []} R h k m n = absurd (omega (arith, R .three))
   ring-class {r = a ∷ l} R {u} {v} {x} {y} h k m n = sym (one u v h m) ∙ one x y k n
     where

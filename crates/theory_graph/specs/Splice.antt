@@ -9,13 +9,16 @@ use native.Mathlib.Omega.{arith}
 use lib.Dec.{eqb}
 use lib.ListN.{length, length-append}
 use borrow.Author.Tests.{eqb-true, eqb-false, eq-eqb}
-use Rattle.base_lists.specs.Members.{Mem, Distinct, Disjoint, mem-left, mem-right, mem-cases, mem-reverse, distinct-left, distinct-right, distinct-apart, distinct-join, distinct-reverse}
-use Rattle.base_lists.specs.Parts.{before, after, firstOn, lastOn, past, memb, first-split, first-on, before-off, last-split, last-on, past-off, memb-mem, mem-memb, any, any-of}
+use Rattle.base_lists.specs.Members.{Mem, Distinct, Disjoint, mem-left, mem-right, mem-cases, mem-reverse}
+use Rattle.base_lists.specs.Members.{distinct-left, distinct-right, distinct-apart, distinct-join, distinct-reverse}
+use Rattle.base_lists.specs.Parts.{before, after, firstOn, lastOn, past, memb, first-split, first-on, before-off}
+use Rattle.base_lists.specs.Parts.{last-split, last-on, past-off, memb-mem, mem-memb, any, any-of}
 use Rattle.theory_graph.specs.Rings.{Graph, last, Walk, Step, lastOf, firstOf, Ring, Follows, Holds, SameLink}
-use Rattle.theory_graph.specs.Walks.{last-append, lastOf-split, walk-join, walk-left, walk-right, walk-back, ring-closed, closed-ring, step-left, step-right, step-back, step-follows}
+use Rattle.theory_graph.specs.Walks.{last-append, lastOf-split, walk-join, walk-left, walk-right, walk-back}
+use Rattle.theory_graph.specs.Walks.{ring-closed, closed-ring, step-left, step-right, step-back, step-follows}
 
--- Of a ring, read from its first vertex to its last: the first and the last vertex that pass a test, and what lies outside
--- these two: past the last and on to the first, over the link from the ring's last vertex to its first.
+-- Of a ring, read from its first vertex to its last: the first and the last vertex that pass a test, and what lies
+-- outside these two: past the last and on to the first, over the link from the ring's last vertex to its first.
 abbrev enter : (ℕ → Bool) → List ℕ → ℕ
 enter on l = firstOn on l
 
@@ -43,8 +46,10 @@ first-step q [] x A = inl (refl, refl)
 first-step q (b ∷ B) x A = inl (refl, refl)
 
 module _ (E : ℕ → ℕ → Type 0) (on : ℕ → Bool) where
-  outer-parts : (B : List ℕ) (x : ℕ) (M : List ℕ) (y : ℕ) (P : List ℕ) → Ring E (B ++ x ∷ (M ++ y ∷ P)) → on x ≡ true → on y ≡ true
-      → ((v : ℕ) → Mem v B → on v ≡ true → ⊥) → ((v : ℕ) → Mem v P → on v ≡ true → ⊥) → Outer E on (B ++ x ∷ (M ++ y ∷ P)) x y (P ++ B)
+  outer-parts : (B : List ℕ) (x : ℕ) (M : List ℕ) (y : ℕ) (P : List ℕ) → Ring E (B ++ x ∷ (M ++ y ∷ P)) → on x ≡ true →
+      on y ≡ true
+      → ((v : ℕ) → Mem v B → on v ≡ true → ⊥) → ((v : ℕ) → Mem v P → on v ≡ true → ⊥) →
+      Outer E on (B ++ x ∷ (M ++ y ∷ P)) x y (P ++ B)
   outer-parts B x M y P R ox oy offB offP =
       let A = M ++ y ∷ P in
       let d : Distinct (B ++ x ∷ A) = R .different in
@@ -61,28 +66,35 @@ module _ (E : ℕ → ℕ → Type 0) (on : ℕ → Bool) where
         leave-mem = mem-right y B (x ∷ A) (inr (mem-right y M (y ∷ P) (inl refl)));
         off = λ z h. off z (mem-cases z P B h);
         inside = λ z h. inside z in-P (mem-cases z P B h);
-        different = distinct-join P B (distinct-right M (y ∷ P) (dA .1) .1) (distinct-left B (x ∷ A) d) (λ v h k. distinct-apart B (x ∷ A) d v k (in-P v h));
+        different = distinct-join P B (distinct-right M (y ∷ P) (dA .1) .1) (distinct-left B (x ∷ A) d)
+            (λ v h k. distinct-apart B (x ∷ A) d v k (in-P v h));
         way = rw (append-assoc P B (x ∷ [])) (walk-join E y P (B ++ x ∷ []) (walk-right E x M (y ∷ P) (right .1) .1)
             (walk-join E (last y P) B (x ∷ []) (walk-left E (last y P) B (x ∷ A) c) (right .0, tt)));
-        over = rw (append-assoc P B (x ∷ []), e) (step-right y P (B ++ x ∷ []) (last y P) (firstOf (B ++ x ∷ A)) (first-step (last y P) B x A));
+        over = rw (
+          append-assoc P B (x ∷ []),
+          e,
+        ) (step-right y P (B ++ x ∷ []) (last y P) (firstOf (B ++ x ∷ A)) (first-step (last y P) B x A));
       }
     where
       off : (z : ℕ) → Mem z P ⊎ Mem z B → on z ≡ true → ⊥
       off z (inl h) = offP z h
       off z (inr h) = offB z h
 
-      inside : (z : ℕ) → ((v : ℕ) → Mem v P → Mem v (x ∷ (M ++ y ∷ P))) → Mem z P ⊎ Mem z B → Mem z (B ++ x ∷ (M ++ y ∷ P))
+      inside : (z : ℕ) → ((v : ℕ) → Mem v P → Mem v (x ∷ (M ++ y ∷ P))) → Mem z P ⊎ Mem z B →
+          Mem z (B ++ x ∷ (M ++ y ∷ P))
       inside z f (inl h) = mem-right z B (x ∷ (M ++ y ∷ P)) (f z h)
       inside z f (inr h) = mem-left z B (x ∷ (M ++ y ∷ P)) h
 
   outer-of : (l : List ℕ) → Ring E l → (z w : ℕ) → z ≢ w → Mem z l → Mem w l → on z ≡ true → on w ≡ true
       → Outer E on l (enter on l) (leave on l) (outer on l)
-  outer-of l R z w n mz mw oz ow = parts (firstOn on l) (before on l) (after on l) (first-split on l meets) (first-on on l meets) (before-off on l)
+  outer-of l R z w n mz mw oz ow = parts (firstOn on l) (before on l) (after on l) (first-split on l meets)
+      (first-on on l meets) (before-off on l)
     where
       meets : any on l ≡ true
       meets = any-of on z l mz oz
 
-      later : (x : ℕ) (B A : List ℕ) → l ≡ B ++ x ∷ A → ((v : ℕ) → Mem v B → on v ≡ true → ⊥) → (v : ℕ) → Mem v l → on v ≡ true → v ≢ x → Mem v A
+      later : (x : ℕ) (B A : List ℕ) → l ≡ B ++ x ∷ A → ((v : ℕ) → Mem v B → on v ≡ true → ⊥) → (v : ℕ) → Mem v l →
+          on v ≡ true → v ≢ x → Mem v A
       later x B A e offB v m o d = cases (mem-cases v B (x ∷ A) (subst (λ (k : List ℕ). Mem v k) e m))
         where
           cases : Mem v B ⊎ Mem v (x ∷ A) → Mem v A
@@ -90,11 +102,13 @@ module _ (E : ℕ → ℕ → Type 0) (on : ℕ → Bool) where
           cases (inr (inl h)) = absurd (d h)
           cases (inr (inr h)) = h
 
-      more : (x : ℕ) (B A : List ℕ) → l ≡ B ++ x ∷ A → ((v : ℕ) → Mem v B → on v ≡ true → ⊥) → Dec (z ≡ x) → any on A ≡ true
+      more : (x : ℕ) (B A : List ℕ) → l ≡ B ++ x ∷ A → ((v : ℕ) → Mem v B → on v ≡ true → ⊥) → Dec (z ≡ x) →
+          any on A ≡ true
       more x B A e offB (yes h) = any-of on w A (later x B A e offB w mw ow (λ k. n (h ∙ sym k))) ow
       more x B A e offB (no h) = any-of on z A (later x B A e offB z mz oz h) oz
 
-      parts : (x : ℕ) (B A : List ℕ) → l ≡ B ++ x ∷ A → on x ≡ true → ((v : ℕ) → Mem v B → on v ≡ true → ⊥) → Outer E on l x (lastOn on A) (past on A ++ B)
+      parts : (x : ℕ) (B A : List ℕ) → l ≡ B ++ x ∷ A → on x ≡ true → ((v : ℕ) → Mem v B → on v ≡ true → ⊥) →
+          Outer E on l x (lastOn on A) (past on A ++ B)
       parts x B A e ox offB =
           let h = more x B A e offB (ℕ-discrete z x) in
           let s = last-split on A h in
@@ -129,8 +143,8 @@ either-second s t = go (eqb t s)
 abbrev arc : ℕ → ℕ → List ℕ → List ℕ
 arc s t r = cond (eqb (enter (either s t) r) t) (outer (either s t) r) (reverse (outer (either s t) r))
 
--- The ring through the link from the last vertex to the first of r and that of q, where two vertices are on both. The ear
--- is the outer part of q, which meets r at its ends alone; the arc of r over r's link closes it.
+-- The ring through the link from the last vertex to the first of r and that of q, where two vertices are on both. The
+-- ear is the outer part of q, which meets r at its ends alone; the arc of r over r's link closes it.
 abbrev pub splice : List ℕ → List ℕ → List ℕ
 splice r q =
     let s = enter (memb r) q in
@@ -147,7 +161,8 @@ record Arc (E : ℕ → ℕ → Type 0) (r : List ℕ) (s t : ℕ) (a : List ℕ
 
 module _ {E : ℕ → ℕ → Type 0} (G : Graph E) where
   arc-of : (s t : ℕ) (r : List ℕ) → Ring E r → s ≢ t → Mem s r → Mem t r → Arc E r s t (arc s t r)
-  arc-of s t r R n ms mt = go (enter on r) (leave on r) (outer on r) (outer-of E on r R s t n ms mt (either-first s t) (either-second s t))
+  arc-of s t r R n ms mt = go (enter on r) (leave on r) (outer on r)
+      (outer-of E on r R s t n ms mt (either-first s t) (either-second s t))
     where
       on : ℕ → Bool
       on z = either s t z
@@ -185,7 +200,8 @@ module _ (E : ℕ → ℕ → Type 0) (t s : ℕ) (o a : List ℕ) where
   two-last = rw (← append-assoc (o ++ s ∷ []) a (t ∷ [])) (lastOf-split ((o ++ s ∷ []) ++ a) t [])
 
   two-ways : Walk E t (o ++ s ∷ []) → Walk E s (a ++ t ∷ []) → Distinct o → Distinct a → Disjoint o a → s ≢ t
-      → (Mem s o → ⊥) → (Mem t o → ⊥) → (Mem s a → ⊥) → (Mem t a → ⊥) → 1 ≤ length o + length a → Ring E ((o ++ s ∷ []) ++ (a ++ t ∷ []))
+      → (Mem s o → ⊥) → (Mem t o → ⊥) → (Mem s a → ⊥) → (Mem t a → ⊥) → 1 ≤ length o + length a →
+      Ring E ((o ++ s ∷ []) ++ (a ++ t ∷ []))
   two-ways wo wa fo fa apart n so to sa ta h =
       closed-ring ((o ++ s ∷ []) ++ (a ++ t ∷ []))
       (omega (arith, length-append (o ++ s ∷ []) (a ++ t ∷ []), length-append o (s ∷ []), length-append a (t ∷ [])))
@@ -217,22 +233,26 @@ module _ (E : ℕ → ℕ → Type 0) (t s : ℕ) (o a : List ℕ) where
 
   two-second : (u v : ℕ) → Step s (a ++ t ∷ []) u v → Follows ((o ++ s ∷ []) ++ (a ++ t ∷ [])) u v
   two-second u v h =
-      step-follows ((o ++ s ∷ []) ++ (a ++ t ∷ [])) u v (rw two-last (step-right t (o ++ s ∷ []) (a ++ t ∷ []) u v (rw (last-append t o (s ∷ [])) h)))
+      step-follows ((o ++ s ∷ []) ++ (a ++ t ∷ [])) u v
+      (rw two-last (step-right t (o ++ s ∷ []) (a ++ t ∷ []) u v (rw (last-append t o (s ∷ [])) h)))
 
 module _ {E : ℕ → ℕ → Type 0} (G : Graph E) where
   pub splice-ring : {r q : List ℕ} → Ring E r → Ring E q → (z w : ℕ) → z ≢ w → Mem z r → Mem z q → Mem w r → Mem w q
       → (SameLink (lastOf r) (firstOf r) (lastOf q) (firstOf q) → ⊥)
       → Ring E (splice r q) × Holds (splice r q) (lastOf r) (firstOf r) × Holds (splice r q) (lastOf q) (firstOf q)
   splice-ring {r} {q} R Q z w n rz qz rw′ qw other =
-      go (enter (memb r) q) (leave (memb r) q) (outer (memb r) q) (outer-of E (memb r) q Q z w n qz qw (mem-memb r z rz) (mem-memb r w rw′))
+      go (enter (memb r) q) (leave (memb r) q) (outer (memb r) q)
+      (outer-of E (memb r) q Q z w n qz qw (mem-memb r z rz) (mem-memb r w rw′))
     where
       go : (s t : ℕ) (o : List ℕ) → Outer E (memb r) q s t o
-          → let k = (o ++ s ∷ []) ++ (arc s t r ++ t ∷ []) in Ring E k × Holds k (lastOf r) (firstOf r) × Holds k (lastOf q) (firstOf q)
+          → let k = (o ++ s ∷ []) ++ (arc s t r ++ t ∷ []) in Ring E k × Holds k (lastOf r) (firstOf r)
+          × Holds k (lastOf q) (firstOf q)
       go s t o O = both (arc s t r) (arc-of G s t r R (O .apart) (memb-mem r s (O .enters)) (memb-mem r t (O .leaves)))
         where
           -- ear and arc are not both a link alone: those would be one link
           long : (o′ a′ : List ℕ) → Step t (o′ ++ s ∷ []) (lastOf q) (firstOf q)
-              → Step s (a′ ++ t ∷ []) (lastOf r) (firstOf r) ⊎ Step s (a′ ++ t ∷ []) (firstOf r) (lastOf r) → 1 ≤ length o′ + length a′
+              → Step s (a′ ++ t ∷ []) (lastOf r) (firstOf r) ⊎ Step s (a′ ++ t ∷ []) (firstOf r) (lastOf r) →
+              1 ≤ length o′ + length a′
           long [] [] (inl h) (inl (inl k)) = absurd (other (inr (k .0 ∙ sym (h .1), k .1 ∙ sym (h .0))))
           long [] [] (inl h) (inr (inl k)) = absurd (other (inl (k .1 ∙ sym (h .0), k .0 ∙ sym (h .1))))
           long [] [] (inl h) (inl (inr k)) = absurd k
@@ -242,10 +262,13 @@ module _ {E : ℕ → ℕ → Type 0} (G : Graph E) where
           long (x ∷ o′) a′ h k = omega arith
 
           both : (a : List ℕ) → Arc E r s t a
-              → let k = (o ++ s ∷ []) ++ (a ++ t ∷ []) in Ring E k × Holds k (lastOf r) (firstOf r) × Holds k (lastOf q) (firstOf q)
+              → let k = (o ++ s ∷ []) ++ (a ++ t ∷ []) in Ring E k × Holds k (lastOf r) (firstOf r)
+              × Holds k (lastOf q) (firstOf q)
           both a A = (
-            two-ways E t s o a (O .way) (A .way) (O .different) (A .different) (λ v m k. O .off v m (mem-memb r v (A .inside v k))) (O .apart)
-                (λ m. O .off s m (O .enters)) (λ m. O .off t m (O .leaves)) (A .not-first) (A .not-last) (long o a (O .over) (A .over)),
+            two-ways E t s o a (O .way) (A .way) (O .different) (A .different)
+                (λ v m k. O .off v m (mem-memb r v (A .inside v k))) (O .apart)
+                (λ m. O .off s m (O .enters)) (λ m. O .off t m (O .leaves)) (A .not-first) (A .not-last)
+                (long o a (O .over) (A .over)),
             holds (A .over),
             inl (two-first E t s o a (lastOf q) (firstOf q) (O .over)),
           )

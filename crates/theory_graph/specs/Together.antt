@@ -6,7 +6,8 @@ use Prim.Native.Nat.{ℕ}
 use native.Mathlib.Decide.{ℕ-discrete}
 use Rattle.base_lists.specs.Members.{Mem}
 use Rattle.theory_graph.specs.Rings.{Graph, lastOf, Ring, Holds, OnRing, SameLink}
-use Rattle.theory_graph.specs.Walks.{walk-step, walk-map, ring-closed, follows-step, holds-first, holds-second, holds-flip}
+use Rattle.theory_graph.specs.Walks.{walk-step, walk-map, ring-closed, follows-step, holds-first, holds-second}
+use Rattle.theory_graph.specs.Walks.{holds-flip}
 use Rattle.theory_graph.specs.Turn.{turn, turn-ring, turn-mem, turn-link}
 use Rattle.theory_graph.specs.Splice.{splice, splice-ring}
 
@@ -54,7 +55,12 @@ module _ (E F : ℕ → ℕ → Type 0) (more : (u v : ℕ) → E u v → F u v)
   ring-more [] R = record { three = R .three; different = R .different; linked = tt; closed = more 0 0 (R .closed) }
   ring-more (a ∷ l) R =
       let linked = walk-map E F a l (λ u v s. more u v) (R .linked) in
-      record { three = R .three; different = R .different; linked = linked; closed = more (lastOf (a ∷ l)) a (R .closed) }
+      record {
+        three = R .three;
+        different = R .different;
+        linked = linked;
+        closed = more (lastOf (a ∷ l)) a (R .closed);
+      }
 
   pub onRing-more : (u v x y : ℕ) → OnRing E u v x y → OnRing F u v x y
   onRing-more u v x y (r, R, h, k) = (r, ring-more r R, h, k)
@@ -65,8 +71,10 @@ through a b r u v q = splice (turn a b r) (turn u v q)
 
 module _ {E : ℕ → ℕ → Type 0} (G : Graph E) where
   -- two rings with a common link
-  through-ring : {r q : List ℕ} → Ring E r → Ring E q → (a b c d u v : ℕ) → Holds r a b → Holds r c d → Holds q c d → Holds q u v
-      → (SameLink a b u v → ⊥) → Ring E (through a b r u v q) × Holds (through a b r u v q) a b × Holds (through a b r u v q) u v
+  through-ring : {r q : List ℕ} → Ring E r → Ring E q → (a b c d u v : ℕ) → Holds r a b → Holds r c d → Holds q c d →
+      Holds q u v
+      → (SameLink a b u v → ⊥) → Ring E (through a b r u v q) × Holds (through a b r u v q) a b
+      × Holds (through a b r u v q) u v
   through-ring {r} {q} R Q a b c d u v ha hc kc ku other =
       let er = turn-link R a b ha in
       let eq = turn-link Q u v ku in
@@ -75,9 +83,13 @@ module _ {E : ℕ → ℕ → Type 0} (G : Graph E) where
       let on-q : (z : ℕ) → Mem z q → Mem z (turn u v q) = turn-mem Q u v ku in
       let s =
       splice-ring G (turn-ring R a b ha) (turn-ring Q u v ku) c d apart
-      (on-r c (holds-first r c d hc)) (on-q c (holds-first q c d kc)) (on-r d (holds-second r c d hc)) (on-q d (holds-second q c d kc))
-      (λ e. other (same-trans er (same-trans e (same-flip eq)))) in
-      (s .0, holds-same (through a b r u v q) (same-flip er) (s .1), holds-same (through a b r u v q) (same-flip eq) (s .2))
+      (on-r c (holds-first r c d hc)) (on-q c (holds-first q c d kc)) (on-r d (holds-second r c d hc))
+      (on-q d (holds-second q c d kc))
+      (λ e. other (same-trans er (same-trans e (same-flip eq)))) in (
+        s .0,
+        holds-same (through a b r u v q) (same-flip er) (s .1),
+        holds-same (through a b r u v q) (same-flip eq) (s .2),
+      )
 
   pub together-trans : (a b c d u v : ℕ) → Together E a b c d → Together E c d u v → Together E a b u v
   together-trans a b c d u v (inl h) (inl k) = inl (same-trans h k)

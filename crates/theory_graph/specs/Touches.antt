@@ -64,7 +64,8 @@ module _ {E : ℕ → ℕ → Type 0} {p d root cl : ℕ → ℕ} (G : Graph E) 
       go v (z ∷ k) w e = F .spans v z (w .0 .0) ∙ go z k (w .1) e
 
   -- on a ring with the tree link from t to its parent m, a top: each other unit is deeper than m
-  top-least : (c m t : ℕ) → Top E p d cl c m → 0 < d t → p t ≡ m → cl t ≡ c → (r : List ℕ) → Ring E r → Mem m r → Mem t r
+  top-least : (c m t : ℕ) → Top E p d cl c m → 0 < d t → p t ≡ m → cl t ≡ c → (r : List ℕ) → Ring E r → Mem m r →
+      Mem t r
       → (x : ℕ) → Mem x r → m ≢ x → d m < d x
   top-least c m t T h e f r R mm mt x mx n =
       let lt : E m t = subst (λ (z : ℕ). E z t) e (G .flip t (p t) (F .link t h)) in
@@ -102,8 +103,10 @@ module _ {E : ℕ → ℕ → Type 0} {p d root cl : ℕ → ℕ} (G : Graph E) 
           go t ht et ft s hs es fs (inl (inr e)) =
               omega (arith, F .deeper t ht, F .deeper s hs, ap d et, ap d es, ap d (e .0), ap d (e .1))
           go t ht et ft s hs es fs (inr (r, R, a, b)) =
-              let i = top-least c m t T ht et ft r R (holds-second r t m a) (holds-first r t m a) k (holds-second r s k b) n in
-              let j = top-least c k s U hs es fs r R (holds-second r s k b) (holds-first r s k b) m (holds-second r t m a) (λ e. n (sym e)) in
+              let i = top-least c m t T ht et ft r R (holds-second r t m a) (holds-first r t m a) k
+              (holds-second r s k b) n in
+              let j = top-least c k s U hs es fs r R (holds-second r s k b) (holds-first r s k b) m
+              (holds-second r t m a) (λ e. n (sym e)) in
               omega arith
 
   -- the top of the class of a tree link: climb while the class stays
@@ -114,7 +117,8 @@ module _ {E : ℕ → ℕ → Type 0} {p d root cl : ℕ → ℕ} (G : Graph E) 
       go zero v e k = let h : 0 < d v = k .0 in absurd (omega arith)
       go (suc i) v e k = let h : 0 < d v = k .0 in next (names? c (p v)) (go i (p v) (omega (arith, F .deeper v h)))
         where
-          next : Dec (Names d cl c (p v)) → (Names d cl c (p v) → (m : ℕ) × Top E p d cl c m) → (m : ℕ) × Top E p d cl c m
+          next : Dec (Names d cl c (p v)) → (Names d cl c (p v) → (m : ℕ) × Top E p d cl c m) →
+              (m : ℕ) × Top E p d cl c m
           next (yes j) g = g j
           next (no j) g = (p v, record { touched = (v, upper (k .0) refl (sym (k .1))); nameless = j })
 
@@ -129,7 +133,8 @@ module _ {E : ℕ → ℕ → Type 0} {p d root cl : ℕ → ℕ} (G : Graph E) 
       let T = top-exists c w k .1 in
       let lm : m < n = low m (T .touched .0) (class-link G F (T .touched .1)) in
       let nameless : names m ≡ false = off (names m) (λ e. T .nameless (hn m lm .0 e)) in
-      count-next n touches names m lm (ht m lm .1 (T .touched)) nameless (λ i l ne. agree m T i l ne (touches i) (names i) refl refl)
+      count-next n touches names m lm (ht m lm .1 (T .touched)) nameless
+      (λ i l ne. agree m T i l ne (touches i) (names i) refl refl)
     where
       off : (b : Bool) → (b ≡ true → ⊥) → b ≡ false
       off true f = absurd (f refl)
@@ -140,4 +145,7 @@ module _ {E : ℕ → ℕ → Type 0} {p d root cl : ℕ → ℕ} (G : Graph E) 
       agree m T i l ne false false ea eb = refl
       agree m T i l ne false true ea eb = sym ea ∙ ht i l .1 (names-touches c i (hn i l .0 eb))
       agree m T i l ne true false ea eb =
-          absurd (ne (top-unique c i m (record { touched = ht i l .0 ea; nameless = λ k. true≢false (sym (hn i l .1 k) ∙ eb) }) T))
+          absurd (ne (top-unique c i m (record {
+            touched = ht i l .0 ea;
+            nameless = λ k. true≢false (sym (hn i l .1 k) ∙ eb);
+          }) T))

@@ -59,7 +59,8 @@ module _ {E : ℕ → ℕ → Type 0} {p d root : ℕ → ℕ} (G : Graph E) (F 
       crosses w h (inl k) = absurd (k .1 (anc-to e (k .0)))
       crosses w h (inr k) = absurd (k .0 (anc-to (sym e) (k .1)))
 
-  prepend : (x y : ℕ) (l : List ℕ) → 0 < d x → d y ≤ d x → x ≢ y → TreePath E p d (p x) y l → TreePath E p d x y (p x ∷ l)
+  prepend : (x y : ℕ) (l : List ℕ) → 0 < d x → d y ≤ d x → x ≢ y → TreePath E p d (p x) y l →
+      TreePath E p d x y (p x ∷ l)
   prepend x y l h k n T =
       record {
         way = (F .link x h, T .way);
@@ -94,7 +95,8 @@ module _ {E : ℕ → ℕ → Type 0} {p d root : ℕ → ℕ} (G : Graph E) (F 
       later w (inl s) = inl (inr s)
       later w (inr s) = inr (inr s)
 
-      crosses : (w : ℕ) → Parts p d w x y → Dec (w ≡ x) → (Parts p d w (p x) y → Passes (p x) l w (p w)) → Passes x (p x ∷ l) w (p w)
+      crosses : (w : ℕ) → Parts p d w x y → Dec (w ≡ x) → (Parts p d w (p x) y → Passes (p x) l w (p w)) →
+          Passes x (p x ∷ l) w (p w)
       crosses w s (yes e) f = inl (inl (e, ap p e))
       crosses w s (no e) f = later w (f (parts w e s))
 
@@ -139,7 +141,8 @@ module _ {E : ℕ → ℕ → Type 0} {p d root : ℕ → ℕ} (G : Graph E) (F 
       earlier w (inl s) = inl (step-left x l (y ∷ []) w (p w) s)
       earlier w (inr s) = inr (step-left x l (y ∷ []) (p w) w s)
 
-      crosses : (w : ℕ) → Parts p d w x y → Dec (w ≡ y) → (Parts p d w x (p y) → Passes x l w (p w)) → Passes x (l ++ y ∷ []) w (p w)
+      crosses : (w : ℕ) → Parts p d w x y → Dec (w ≡ y) → (Parts p d w x (p y) → Passes x l w (p w)) →
+          Passes x (l ++ y ∷ []) w (p w)
       crosses w s (yes e) f = inr (step-right x l (y ∷ []) (p w) w (inl (ap p e ∙ sym (T .end), e)))
       crosses w s (no e) f = earlier w (f (parts w e s))
 
@@ -172,7 +175,8 @@ module _ {E : ℕ → ℕ → Type 0} {p d root : ℕ → ℕ} (G : Graph E) (F 
 abbrev pub fundamental : (ℕ → ℕ) → (ℕ → ℕ) → ℕ → ℕ → List ℕ
 fundamental p d x y = x ∷ treePath p d (d x + d y) x y
 
-module _ {E : ℕ → ℕ → Type 0} {p d root : ℕ → ℕ} (G : Graph E) (F : Forest E p d root) {x y : ℕ} (o : OffTree E p d x y) where
+module _ {E : ℕ → ℕ → Type 0} {p d root : ℕ →
+    ℕ} (G : Graph E) (F : Forest E p d root) {x y : ℕ} (o : OffTree E p d x y) where
   path : TreePath E p d x y (treePath p d (d x + d y) x y)
   path = treePath-is G F (d x + d y) x y (omega arith) (F .spans x y (o .link))
 

@@ -1,4 +1,5 @@
--- An instance that meets every hypothesis of the theorems: a triangle 0, 1, 2 with a tail from 2 to 3 (document 01's case B).
+-- An instance that meets every hypothesis of the theorems: a triangle 0, 1, 2 with a tail from 2 to 3 (document 01's
+-- case B).
 use mathlib.Core.Path.{_≡_, refl, sym, ap, subst₂}
 use mathlib.Core.Logic.{_⊎_, inl, inr, _≢_, _↔_}
 use mathlib.Core.Bool.{Bool, true, _&&_, true≢false}
@@ -10,7 +11,8 @@ use borrow.Author.Tests.{lt-ltb, ltb-true}
 use Rattle.base_lists.specs.Pigeonhole.{Picked}
 use Rattle.base_lists.specs.Folds.{count}
 use Rattle.theory_graph.specs.Rings.{Graph, Ring, Holds, OnRing, SameLink, Articulation}
-use Rattle.theory_graph.specs.Forest.{Forest, Anc, TreeLink, OffTree, Aux, across, along, Joined, stay, on, back, Classes, ClassOf, lower, upper, first, second}
+use Rattle.theory_graph.specs.Forest.{Forest, Anc, TreeLink, OffTree, Aux, across, along, Joined, stay, on, back}
+use Rattle.theory_graph.specs.Forest.{Classes, ClassOf, lower, upper, first, second}
 use Rattle.theory_graph.specs.Ancestors.{anc-depth, anc-level}
 use Rattle.theory_graph.specs.TreePath.{fundamental}
 use Rattle.theory_graph.specs.Together.{through}
@@ -25,7 +27,8 @@ abbrev Tail : ℕ → ℕ → Type 0
 Tail u v = SameLink 0 1 u v ⊎ (SameLink 1 2 u v ⊎ (SameLink 0 2 u v ⊎ SameLink 2 3 u v))
 
 -- a law of each link, in both orders
-links : (P : ℕ → ℕ → Type 0) → P 0 1 → P 1 0 → P 1 2 → P 2 1 → P 0 2 → P 2 0 → P 2 3 → P 3 2 → (u v : ℕ) → Tail u v → P u v
+links : (P : ℕ → ℕ → Type 0) → P 0 1 → P 1 0 → P 1 2 → P 2 1 → P 0 2 → P 2 0 → P 2 3 → P 3 2 → (u v : ℕ) → Tail u v →
+    P u v
 links P a a′ b b′ c c′ e e′ u v (inl (inl h)) = subst₂ P (h .0) (h .1) a
 links P a a′ b b′ c c′ e e′ u v (inl (inr h)) = subst₂ P (h .1) (h .0) a′
 links P a a′ b b′ c c′ e e′ u v (inr (inl (inl h))) = subst₂ P (h .0) (h .1) b
@@ -89,10 +92,16 @@ graph : Graph Tail
 graph = record { flip = links (λ u v. Tail v u) l10 l01 l21 l12 l20 l02 l32 l23; loopless = λ u h. never u u h refl }
   where
     never : (u v : ℕ) → Tail u v → u ≢ v
-    never = links (λ u v. u ≢ v) (omega arith) (omega arith) (omega arith) (omega arith) (omega arith) (omega arith) (omega arith) (omega arith)
+    never = links (λ u v. u ≢ v) (omega arith) (omega arith) (omega arith) (omega arith) (omega arith) (omega arith)
+        (omega arith) (omega arith)
 
 forest : Forest Tail parent depth top
-forest = record { deeper = deeper; link = link; top = at-top; spans = links (λ u v. top u ≡ top v) refl refl refl refl refl refl refl refl }
+forest = record {
+  deeper = deeper;
+  link = link;
+  top = at-top;
+  spans = links (λ u v. top u ≡ top v) refl refl refl refl refl refl refl refl;
+}
   where
     deeper : (v : ℕ) → 0 < depth v → depth v ≡ suc (depth (parent v))
     deeper zero h = absurd (omega arith)
@@ -141,7 +150,8 @@ aux-12 : Aux Tail parent depth 1 2
 aux-12 = across off-12 apart-12 apart-21
 
 -- and no auxiliary edge along the tree: the link off the tree lies too high
-no-climb : (u v x y : ℕ) → 0 < depth u → parent u ≡ v → 0 < depth v → OffTree Tail parent depth x y → Anc parent depth u y → ⊥
+no-climb : (u v x y : ℕ) → 0 < depth u → parent u ≡ v → 0 < depth v → OffTree Tail parent depth x y →
+    Anc parent depth u y → ⊥
 no-climb u v x y h e k o a =
     omega (arith, anc-depth forest a, off-tree (λ i j. depth j ≡ 1) refl refl x y o, forest .deeper u h, ap depth e)
 
@@ -201,7 +211,8 @@ lone-tail = bridge graph forest classes class-23 .0 alone
         flipped : {u v k : ℕ} → ClassOf Tail parent depth class u v k → ClassOf Tail parent depth class v u k
         flipped = class-flip graph forest (classes .along-aux)
 
-        other : (u v : ℕ) → ClassOf Tail parent depth class u v 1 → ClassOf Tail parent depth class u v c → SameLink 2 3 u v
+        other : (u v : ℕ) → ClassOf Tail parent depth class u v 1 → ClassOf Tail parent depth class u v c →
+            SameLink 2 3 u v
         other u v a b =
             let f : 1 ≡ c = class-unique graph forest (classes .along-aux) (class-link graph forest a) a b in
             absurd (omega arith)
@@ -215,7 +226,8 @@ cut-two =
 ring-12 : fundamental parent depth 1 2 ≡ 1 ∷ (0 ∷ (2 ∷ []))
 ring-12 = refl
 
-two-squares : through 0 1 (0 ∷ (1 ∷ (2 ∷ (3 ∷ [])))) 4 5 (2 ∷ (3 ∷ (4 ∷ (5 ∷ [])))) ≡ 4 ∷ (5 ∷ (2 ∷ (1 ∷ (0 ∷ (3 ∷ [])))))
+two-squares : through 0 1 (0 ∷ (1 ∷ (2 ∷ (3 ∷ [])))) 4 5 (2 ∷ (3 ∷ (4 ∷ (5 ∷ []))))
+    ≡ 4 ∷ (5 ∷ (2 ∷ (1 ∷ (0 ∷ (3 ∷ [])))))
 two-squares = refl
 
 -- values spread over it from the least: all are 0 after two rounds
@@ -242,7 +254,8 @@ rounds = record { start = λ v h. refl; own = own; near = near; attained = attai
 
     near : (k v w : ℕ) → Picked (λ v. true) 4 v → Picked (λ v. true) 4 w → Tail v w → value (suc k) v ≤ value k w
     near zero v w h g l =
-        links (λ x y. value 1 x ≤ y) (omega arith) (omega arith) (omega arith) (omega arith) (omega arith) (omega arith) (omega arith) (omega arith) v w l
+        links (λ x y. value 1 x ≤ y) (omega arith) (omega arith) (omega arith) (omega arith) (omega arith) (omega arith)
+        (omega arith) (omega arith) v w l
     near (suc k) v w h g l = omega arith
 
     attained : (k v : ℕ) → Picked (λ v. true) 4 v
@@ -301,7 +314,8 @@ class-rounds = record { start = λ v h. refl; own = own; near = near; attained =
     near (suc k) v w hv hw (inr a) = omega (arith, classes .along-aux w v a)
 
     attained : (k v : ℕ) → Picked non-root 4 v
-        → (spread (suc k) v ≡ spread k v) ⊎ ((w : ℕ) × Picked non-root 4 w × Joins v w × (spread (suc k) v ≡ spread k w))
+        → (spread (suc k) v ≡ spread k v)
+        ⊎ ((w : ℕ) × Picked non-root 4 w × Joins v w × (spread (suc k) v ≡ spread k w))
     attained zero zero h = inl refl
     attained zero (suc zero) h = inl refl
     attained zero (suc (suc zero)) h = inr (1, in-range 1 .0 (omega arith), inr aux-12, refl)
@@ -320,7 +334,8 @@ touched = touched-count graph forest classes 4 1 1 (λ x. ltb x 3) (λ x. non-ro
     (omega arith, refl) low touches names
   where
     low : (u v : ℕ) → Tail u v → u < 4
-    low = links (λ u v. u < 4) (omega arith) (omega arith) (omega arith) (omega arith) (omega arith) (omega arith) (omega arith) (omega arith)
+    low = links (λ u v. u < 4) (omega arith) (omega arith) (omega arith) (omega arith) (omega arith) (omega arith)
+        (omega arith) (omega arith)
 
     touches : (x : ℕ) → x < 4 → (ltb x 3 ≡ true) ↔ Touches Tail parent depth class 1 x
     touches zero h = (λ e. (1, class-01), λ t. refl)

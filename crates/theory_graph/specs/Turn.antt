@@ -11,7 +11,8 @@ use borrow.Author.Tests.{eqb-true, eqb-false, eq-eqb}
 use Rattle.base_lists.specs.Members.{Mem, Distinct, mem-left, mem-swap, distinct-swap, distinct-apart}
 use Rattle.base_lists.specs.Parts.{before, after, firstOn, first-split, first-on, any-of}
 use Rattle.theory_graph.specs.Rings.{last, Walk, Step, lastOf, firstOf, Ring, Follows, Holds, SameLink}
-use Rattle.theory_graph.specs.Walks.{last-append, lastOf-split, walk-join, walk-left, walk-right, ring-closed, follows-step, step-into, holds-first, holds-second}
+use Rattle.theory_graph.specs.Walks.{last-append, lastOf-split, walk-join, walk-left, walk-right, ring-closed}
+use Rattle.theory_graph.specs.Walks.{follows-step, step-into, holds-first, holds-second}
 
 -- the ring read from b on
 abbrev rotate : ℕ → List ℕ → List ℕ
@@ -29,7 +30,8 @@ rotate-split b r m =
 
 rotate-mem : (b : ℕ) (r : List ℕ) → Mem b r → (z : ℕ) → Mem z r → Mem z (rotate b r)
 rotate-mem b r m z h =
-    mem-swap z (before (λ z. eqb z b) r) (b ∷ after (λ z. eqb z b) r) (subst (λ (l : List ℕ). Mem z l) (rotate-split b r m) h)
+    mem-swap z (before (λ z. eqb z b) r) (b ∷ after (λ z. eqb z b) r)
+    (subst (λ (l : List ℕ). Mem z l) (rotate-split b r m) h)
 
 module _ {E : ℕ → ℕ → Type 0} {r : List ℕ} (R : Ring E r) where
   rotate-ring : (b : ℕ) → Mem b r → Ring E (rotate b r)
@@ -37,7 +39,8 @@ module _ {E : ℕ → ℕ → Type 0} {r : List ℕ} (R : Ring E r) where
     where
       go : (s t : List ℕ) → r ≡ s ++ b ∷ t → Ring E (b ∷ (t ++ s))
       go s t e =
-          let w : Walk E (lastOf (s ++ b ∷ t)) (s ++ b ∷ t) = subst (λ (l : List ℕ). Walk E (lastOf l) l) e (ring-closed R) in
+          let w : Walk E (lastOf (s ++ b ∷ t)) (s ++ b ∷ t) =
+          subst (λ (l : List ℕ). Walk E (lastOf l) l) e (ring-closed R) in
           let v : Walk E (last b t) (s ++ b ∷ t) = rw lastOf-split at w in
           let n : length r ≡ length (s ++ b ∷ t) = ap length e in
           let h : 3 ≤ length r = R .three in
@@ -55,10 +58,12 @@ module _ {E : ℕ → ℕ → Type 0} {r : List ℕ} (R : Ring E r) where
     where
       go : (s t : List ℕ) → r ≡ s ++ b ∷ t → last b (t ++ s) ≡ a
       go s t e =
-          let k : Step (lastOf (s ++ b ∷ t)) (s ++ b ∷ t) a b = subst (λ (l : List ℕ). Step (lastOf l) l a b) e (follows-step r a b h) in
+          let k : Step (lastOf (s ++ b ∷ t)) (s ++ b ∷ t) a b =
+          subst (λ (l : List ℕ). Step (lastOf l) l a b) e (follows-step r a b h) in
           let j : Step (last b t) (s ++ b ∷ t) a b = rw lastOf-split at k in
           let d : Distinct (s ++ b ∷ t) = subst (λ (l : List ℕ). Distinct l) e (R .different) in
-          let f = step-into (last b t) s b t a (λ x. distinct-apart s (b ∷ t) d b x (inl refl)) (λ x. distinct-swap s (b ∷ t) d .0 (mem-left b t s x)) j in
+          let f = step-into (last b t) s b t a (λ x. distinct-apart s (b ∷ t) d b x (inl refl))
+          (λ x. distinct-swap s (b ∷ t) d .0 (mem-left b t s x)) j in
           last-append b t s ∙ sym f
 
   pub turn-ring : (a b : ℕ) → Holds r a b → Ring E (turn a b r)

@@ -30,11 +30,13 @@ module _ (E : ℕ → ℕ → Type 0) where
   walk-right a (b ∷ s) t w = walk-right b s t (w .1)
 
   -- a walk backwards: from s to t, where it went from t through the list to s
-  pub walk-back : ((u v : ℕ) → E u v → E v u) → (t : ℕ) (l : List ℕ) (s : ℕ) → Walk E t (l ++ s ∷ []) → Walk E s (reverse l ++ t ∷ [])
+  pub walk-back : ((u v : ℕ) → E u v → E v u) → (t : ℕ) (l : List ℕ) (s : ℕ) → Walk E t (l ++ s ∷ []) →
+      Walk E s (reverse l ++ t ∷ [])
   walk-back flip t [] s w = (flip t s (w .0), tt)
   walk-back flip t (c ∷ l) s w =
       let h = walk-back flip c l s (w .1) in
-      rw (reverse-cons c l) (walk-join s (reverse l ++ c ∷ []) (t ∷ []) h (rw (last-append s (reverse l) (c ∷ [])) (flip t c (w .0), tt)))
+      rw (reverse-cons c l) (walk-join s (reverse l ++ c ∷ []) (t ∷ []) h
+      (rw (last-append s (reverse l) (c ∷ [])) (flip t c (w .0), tt)))
 
   -- each step of a walk is a link
   pub walk-step : (a : ℕ) (l : List ℕ) → Walk E a l → (u v : ℕ) → Step a l u v → E u v
@@ -42,7 +44,8 @@ module _ (E : ℕ → ℕ → Type 0) where
   walk-step a (b ∷ l) w u v (inl (e, f)) = rw (e, f) (w .0)
   walk-step a (b ∷ l) w u v (inr h) = walk-step b l (w .1) u v h
 
-pub walk-map : (E F : ℕ → ℕ → Type 0) (a : ℕ) (l : List ℕ) → ((u v : ℕ) → Step a l u v → E u v → F u v) → Walk E a l → Walk F a l
+pub walk-map : (E F : ℕ → ℕ → Type 0) (a : ℕ) (l : List ℕ) → ((u v : ℕ) → Step a l u v → E u v → F u v) → Walk E a l →
+    Walk F a l
 walk-map E F a [] f w = tt
 walk-map E F a (b ∷ l) f w = (f a b (inl (refl, refl)) (w .0), walk-map E F b l (λ u v h. f u v (inr h)) (w .1))
 
@@ -79,11 +82,14 @@ pub step-back : (t : ℕ) (l : List ℕ) (s u v : ℕ) → Step t (l ++ s ∷ []
 step-back t [] s u v (inl h) = inl (h .1, h .0)
 step-back t [] s u v (inr h) = absurd h
 step-back t (c ∷ l) s u v (inl h) =
-    rw (reverse-cons c l) (step-right s (reverse l ++ c ∷ []) (t ∷ []) v u (rw (last-append s (reverse l) (c ∷ [])) (inl (h .1, h .0))))
-step-back t (c ∷ l) s u v (inr h) = rw (reverse-cons c l) (step-left s (reverse l ++ c ∷ []) (t ∷ []) v u (step-back c l s u v h))
+    rw (reverse-cons c l) (step-right s (reverse l ++ c ∷ []) (t ∷ []) v u
+    (rw (last-append s (reverse l) (c ∷ [])) (inl (h .1, h .0))))
+step-back t (c ∷ l) s u v (inr h) = rw (reverse-cons c l)
+    (step-left s (reverse l ++ c ∷ []) (t ∷ []) v u (step-back c l s u v h))
 
 -- the step into b, where b stands once on the list: it comes from the vertex before
-pub step-into : (a : ℕ) (s : List ℕ) (b : ℕ) (t : List ℕ) (u : ℕ) → (Mem b s → ⊥) → (Mem b t → ⊥) → Step a (s ++ b ∷ t) u b → u ≡ last a s
+pub step-into : (a : ℕ) (s : List ℕ) (b : ℕ) (t : List ℕ) (u : ℕ) → (Mem b s → ⊥) → (Mem b t → ⊥) →
+    Step a (s ++ b ∷ t) u b → u ≡ last a s
 step-into a s b t u hs ht h = go (step-cases a s (b ∷ t) u b h)
   where
     go : Step a s u b ⊎ Step (last a s) (b ∷ t) u b → u ≡ last a s

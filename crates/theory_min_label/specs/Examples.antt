@@ -1,7 +1,8 @@
 -- Sites worked by hand: the numbers, and the passes.
 use mathlib.Core.Path.{_≡_, refl}
 use mathlib.Core.List.{[], _∷_}
-use Rattle.theory_min_label.specs.MinLabel.{minLabel, minForward, minBackward, passes, remaining, propagated, received}
+use Rattle.theory_min_label.specs.MinLabel.{minLabel, minForward, minBackward, passes, remaining, propagated}
+use Rattle.theory_min_label.specs.MinLabel.{received}
 
 module _ where
   one : minLabel 1 [] (7 ∷ 8 ∷ []) ≡ (0 ∷ 8 ∷ [], 1)
@@ -28,7 +29,8 @@ module _ where
   falling = refl
 
   -- groups 1-2 and 3-4, with 0 → 1, 2 → 3 and 4 → 5
-  groups : minLabel 6 (0 ∷ 1 ∷ 1 ∷ 2 ∷ 2 ∷ 1 ∷ 2 ∷ 3 ∷ 3 ∷ 4 ∷ 4 ∷ 3 ∷ 4 ∷ 5 ∷ []) (7 ∷ 7 ∷ 7 ∷ 7 ∷ 7 ∷ 7 ∷ []) ≡ (0 ∷ 1 ∷ 1 ∷ 3 ∷ 3 ∷ 5 ∷ [], 4)
+  groups : minLabel 6 (0 ∷ 1 ∷ 1 ∷ 2 ∷ 2 ∷ 1 ∷ 2 ∷ 3 ∷ 3 ∷ 4 ∷ 4 ∷ 3 ∷ 4 ∷ 5 ∷ []) (7 ∷ 7 ∷ 7 ∷ 7 ∷ 7 ∷ 7 ∷ [])
+      ≡ (0 ∷ 1 ∷ 1 ∷ 3 ∷ 3 ∷ 5 ∷ [], 4)
   unfolding minLabel minForward minBackward passes remaining propagated received
   groups = refl
 

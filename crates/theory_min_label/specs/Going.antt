@@ -9,14 +9,16 @@ use Rattle.theory_min_label.specs.MinLabel.{at, minForward, minBackward,
 use Rattle.theory_min_label.specs.Hands.{Lives, Ends}
 use Rattle.theory_min_label.specs.Keys.{Passed, lives-begun}
 
--- after so many passes over the links of t from x the links left are those of t′, as the keys say, and the numbers are x′
+-- after so many passes over the links of t from x the links left are those of t′, as the keys say, and the numbers are
+-- x′
 pub record Going (n : ℕ) (t x : List ℕ) (made : ℕ) (key x′ : List ℕ) : Type 0 where
   pub t′ : List ℕ
   pub lives : Lives t key t′
   pub numbers : passes n n t x .0 ≡ passes (n - made) n t′ x′ .0
   pub count : passes n n t x .1 ≡ made + passes (n - made) n t′ x′ .1
 
-pub going-begun : (n : ℕ) (t x key : List ℕ) (k : ℕ) → Ends (length key) t → ((v : ℕ) → v < length key → at key v ≡ k) → Going n t x 0 key x
+pub going-begun : (n : ℕ) (t x key : List ℕ) (k : ℕ) → Ends (length key) t → ((v : ℕ) → v < length key → at key v ≡ k) →
+    Going n t x 0 key x
 going-begun n t x key k ends same =
     let e : n - 0 ≡ n = omega arith in
     record { t′ = t; lives = lives-begun t key k ends same; numbers = rw e refl; count = rw e (omega arith) }
@@ -50,7 +52,8 @@ none k n t x e = rw e (refl, refl)
 
 -- at the end: every unit has its number, or n passes are made
 module _ (n : ℕ) (t x : List ℕ) (made : ℕ) (key x′ : List ℕ) (g : Going n t x made key x′) where
-  over-by : (passes (n - made) n (g .t′) x′ .0 ≡ x′) × (passes (n - made) n (g .t′) x′ .1 ≡ 0) → (x′ ≡ passes n n t x .0) × (made ≡ passes n n t x .1)
+  over-by : (passes (n - made) n (g .t′) x′ .0 ≡ x′) × (passes (n - made) n (g .t′) x′ .1 ≡ 0) →
+      (x′ ≡ passes n n t x .0) × (made ≡ passes n n t x .1)
   over-by s = (sym (g .numbers ∙ s .0), omega (arith, g .count, s .1))
 
   pub going-stop : unfinished n x′ ≡ false → (x′ ≡ passes n n t x .0) × (made ≡ passes n n t x .1)

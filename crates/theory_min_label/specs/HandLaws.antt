@@ -21,7 +21,8 @@ use Rattle.theory_min_label.specs.MinLabel.{at, giver, taker}
 use Rattle.theory_min_label.specs.Groups.{Link}
 use Rattle.theory_min_label.specs.Spread.{Within, walk-within, Least, settled}
 use Rattle.theory_min_label.specs.MinLabelLaws.{Hears}
-use Rattle.theory_min_label.specs.Hands.{Live, lowers, handed, swept, falls, Spread, Settled, total, Ends, Room, Site}
+use Rattle.theory_min_label.specs.Hands.{Live, lowers, handed, swept, falls, Spread, Settled, total, Ends, Room}
+use Rattle.theory_min_label.specs.Hands.{Site}
 
 -- ---- labels handed on
 
@@ -40,7 +41,8 @@ spread-trans H x y z p q =
     }
 
 -- the labels that are least: settled, and handed on from the first ones
-pub spread-least : (n : ℕ) (H : ℕ → ℕ → Type 0) (init : ℕ → ℕ) (x y : List ℕ) → Within n H → ((v : ℕ) → v < n → at x v ≡ init v)
+pub spread-least : (n : ℕ) (H : ℕ → ℕ → Type 0) (init : ℕ → ℕ) (x y : List ℕ) → Within n H →
+    ((v : ℕ) → v < n → at x v ≡ init v)
     → Spread H x y → Settled H y → Least n H init (at y)
 spread-least n H init x y inside first s still =
     settled n H init (at y) inside (λ v h. omega (arith, s .lower v, first v h)) still
@@ -87,7 +89,11 @@ module _ (d : Bool) (t key x : List ℕ) (a b : ℕ) (room : taker d a b < lengt
       go : (lowers d key x a b ≡ true) ⊎ (lowers d key x a b ≡ false) → Spread H x (handed d key x a b)
       go (inr e) = rw e (spread-refl H x)
       go (inl e) =
-          rw e (record { size = simp length-set; lower = λ v. lower v (ℕ-discrete v (taker d a b)); from = λ v. from v (ℕ-discrete v (taker d a b)) })
+          rw e (record {
+            size = simp length-set;
+            lower = λ v. lower v (ℕ-discrete v (taker d a b));
+            from = λ v. from v (ℕ-discrete v (taker d a b));
+          })
         where
           one : eqb (at key a) (at key b) ≡ true
           one = and-left (eqb (at key a) (at key b)) (ltb (at x (giver d a b)) (at x (taker d a b))) e
@@ -106,9 +112,14 @@ module _ (d : Bool) (t key x : List ℕ) (a b : ℕ) (room : taker d a b < lengt
 
           from : (v : ℕ) → Dec (v ≡ taker d a b) → (w : ℕ) × Connected H v w × (at new v ≡ at x w)
           from v (yes q) =
-              let s : H (taker d a b) (giver d a b) = hears-link d (Live t key) a b (l, eqb-true (at key a) (at key b) one) in
+              let s : H (taker d a b) (giver d a b) =
+              hears-link d (Live t key) a b (l, eqb-true (at key a) (at key b) one) in
               rw q
-              ((giver d a b, connected-link H (taker d a b) (giver d a b) s, getD-set-same x (taker d a b) (at x (giver d a b)) 0 room))
+              ((
+                giver d a b,
+                connected-link H (taker d a b) (giver d a b) s,
+                getD-set-same x (taker d a b) (at x (giver d a b)) 0 room,
+              ))
           from v (no q) = (v, connected-refl H v, getD-set-other x (taker d a b) v (at x (giver d a b)) 0 q)
 
   hand-total : lowers d key x a b ≡ true → total (handed d key x a b) < total x
@@ -168,13 +179,16 @@ swept-total-le d key (a ∷ b ∷ s) x h =
     )
 
 -- where a label falls, the sum does
-pub swept-total : (d : Bool) (key s x : List ℕ) → Ends (length x) s → falls d key s x ≡ true → total (swept d key s x) < total x
+pub swept-total : (d : Bool) (key s x : List ℕ) → Ends (length x) s → falls d key s x ≡ true →
+    total (swept d key s x) < total x
 unfolding swept falls
 swept-total d key [] x h f = absurd (false≢true f)
 swept-total d key (a ∷ []) x h f = absurd (false≢true f)
-swept-total d key (a ∷ b ∷ s) x h f = go (either (lowers d key x a b)) (swept-total d key s x (ends-later (length x) a b s h))
+swept-total d key (a ∷ b ∷ s) x h f = go (either (lowers d key x a b))
+    (swept-total d key s x (ends-later (length x) a b s h))
   where
-    go : (lowers d key x a b ≡ true) ⊎ (lowers d key x a b ≡ false) → (falls d key s x ≡ true → total (swept d key s x) < total x)
+    go : (lowers d key x a b ≡ true) ⊎ (lowers d key x a b ≡ false) →
+        (falls d key s x ≡ true → total (swept d key s x) < total x)
         → total (swept d key s (handed d key x a b)) < total x
     go (inl e) later =
         let below : taker d a b < length x = taker-below d a b (length x) (h 0 (omega arith)) (h 1 (omega arith)) in
@@ -192,14 +206,17 @@ unfolding falls
 still d key [] x f a b l = absurd l
 still d key (c ∷ []) x f a b l = absurd l
 still d key (u ∷ v ∷ s) x f a b (inl (p, q)) = rw (p, q) (or-false-left (lowers d key x u v) (falls d key s x) f)
-still d key (u ∷ v ∷ s) x f a b (inr l) = still d key s x (or-false-right (lowers d key x u v) (falls d key s x) f) a b l
+still d key (u ∷ v ∷ s) x f a b (inr l) =
+    still d key s x (or-false-right (lowers d key x u v) (falls d key s x) f) a b l
 
 not-less : (k m p q : ℕ) → k ≡ m → (eqb k m && ltb p q) ≡ false → q ≤ p
 not-less k m p q e f = ltb-false p q (rw (eq-eqb k m e) at f)
 
 pub still-settled : (d : Bool) (t key x : List ℕ) → falls d key t x ≡ false → Settled (Hears d (Live t key)) x
-still-settled true t key x f v w (l, e) = not-less (at key w) (at key v) (at x w) (at x v) e (still true key t x f w v l)
-still-settled false t key x f v w (l, e) = not-less (at key v) (at key w) (at x w) (at x v) e (still false key t x f v w l)
+still-settled true t key x f v w (l, e) =
+    not-less (at key w) (at key v) (at x w) (at x v) e (still true key t x f w v l)
+still-settled false t key x f v w (l, e) =
+    not-less (at key v) (at key w) (at x w) (at x v) e (still false key t x f v w l)
 
 -- ---- as a loop meets them
 
@@ -209,7 +226,8 @@ unfolding swept
 swept-next d key t x i h = rw (rest-two t i 0 h) refl
 
 pub falls-next : (d : Bool) (key t x : List ℕ) (i : ℕ) (fell : Bool) → i + 1 < length t
-    → (fell || falls d key (drop i t) x) ≡ ((fell || lowers d key x (getD t i 0) (getD t (i + 1) 0)) || falls d key (drop (i + 2) t) x)
+    → (fell || falls d key (drop i t) x)
+    ≡ ((fell || lowers d key x (getD t i 0) (getD t (i + 1) 0)) || falls d key (drop (i + 2) t) x)
 unfolding falls
 falls-next d key t x i fell h = rw (rest-two t i 0 h) (sym (or-assoc fell _ _))
 
@@ -219,7 +237,8 @@ short d key [] x h = (refl, refl)
 short d key (a ∷ []) x h = (refl, refl)
 short d key (a ∷ b ∷ t) x h = absurd (omega arith)
 
-pub links-end : (d : Bool) (key t x : List ℕ) (i : ℕ) → length t ≤ i + 1 → (swept d key (drop i t) x ≡ x) × (falls d key (drop i t) x ≡ false)
+pub links-end : (d : Bool) (key t x : List ℕ) (i : ℕ) → length t ≤ i + 1 →
+    (swept d key (drop i t) x ≡ x) × (falls d key (drop i t) x ≡ false)
 links-end d key t x i h = short d key (drop i t) x (omega (arith, length-drop i t))
 
 -- a position holds a link
@@ -235,7 +254,8 @@ pub relaxed : (d : Bool) (t key x new : List ℕ) (j : ℕ) → 2 * j + 1 < leng
 relaxed d t key x new j h ends full e =
     let ha : endA t j < length x = rw full (ends (2 * j) (omega arith)) in
     let hb : endB t j < length x = rw full (ends (2 * j + 1) h) in
-    rw e (spread-hand d t key x (endA t j) (endB t j) (taker-below d (endA t j) (endB t j) (length x) ha hb) (link-at t j h))
+    rw e (spread-hand d t key x (endA t j) (endB t j) (taker-below d (endA t j) (endB t j) (length x) ha hb)
+    (link-at t j h))
 
 -- a sweep
 module _ (d : Bool) (t key x new : List ℕ) (ends : Ends 256 t) (full : length x ≡ 256) (e : new ≡ swept d key t x) where
@@ -255,7 +275,8 @@ hears-within true n t key inside v w h = let p = inside w v (h .0) in (p .1, p .
 hears-within false n t key inside v w h = inside v w (h .0)
 
 -- labels handed on from the first ones until they are settled
-pub labels-least : (d : Bool) (n : ℕ) (t key : List ℕ) (init : ℕ → ℕ) (x y : List ℕ) → Site n t → ((v : ℕ) → v < 256 → at x v ≡ init v)
+pub labels-least : (d : Bool) (n : ℕ) (t key : List ℕ) (init : ℕ → ℕ) (x y : List ℕ) → Site n t →
+    ((v : ℕ) → v < 256 → at x v ≡ init v)
     → Spread (Hears d (Live t key)) x y × Settled (Hears d (Live t key)) y → Least n (Hears d (Live t key)) init (at y)
 labels-least d n t key init x y s first p =
     spread-least n (Hears d (Live t key)) init x y (hears-within d n t key (ends-within n t (s .ends)))

@@ -1,4 +1,5 @@
--- Labels as the code hands them on: one link after the other, in whatever order. A link counts while its two ends have one key.
+-- Labels as the code hands them on: one link after the other, in whatever order. A link counts while its two ends have
+-- one key.
 use mathlib.Core.Path.{_≡_}
 use mathlib.Core.Bool.{Bool, false, cond, _&&_, _||_}
 use mathlib.Core.List.{List, [], _∷_}

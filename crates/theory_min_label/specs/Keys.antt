@@ -1,5 +1,5 @@
--- A key for each unit tells which links are left: after a pass its two labels, and for a unit with a number one that no other has. So no link
--- is ever copied or moved.
+-- A key for each unit tells which links are left: after a pass its two labels, and for a unit with a number one that no
+-- other has. So no link is ever copied or moved.
 use mathlib.Core.Path.{_≡_, refl, sym, ap, _∙_}
 use mathlib.Core.Bool.{Bool, true, false, cond}
 use mathlib.Core.List.{List, [], _∷_}
@@ -17,18 +17,24 @@ use Rattle.theory_min_label.specs.MinLabel.{NONE, at, minForward, source
 use Rattle.theory_min_label.specs.Groups.{Link}
 use Rattle.theory_min_label.specs.Spread.{Within, Least, least-unique, least-same, least-init}
 use Rattle.theory_min_label.specs.PassLaws.{Turned}
-use Rattle.theory_min_label.specs.MinLabelLaws.{Hears, forward-least, backward-least, stays-exact, remaining-exact}
+use Rattle.theory_min_label.specs.MinLabelLaws.{Hears, forward-least, backward-least, stays-exact}
+use Rattle.theory_min_label.specs.MinLabelLaws.{remaining-exact}
 use Rattle.theory_min_label.specs.Hands.{Live, Lives, Ends, keyOf}
 use Rattle.theory_min_label.specs.HandLaws.{ends-within}
 
--- a pass as the code makes it: whichever list the links left are, the numbers and the links after it are the definition's
+-- a pass as the code makes it: whichever list the links left are, the numbers and the links after it are the
+-- definition's
 pub record Passed (n : ℕ) (t key key′ out out′ : List ℕ) : Type 0 where
   pub size : length key′ ≡ length key
-  pub numbers : (t′ : List ℕ) → Lives t key t′ → out′ ≡ over n (marked (minForward n t′) (minBackward n t′ (minForward n t′)) out) out
-  pub links : (t′ : List ℕ) → Lives t key t′ → Lives t key′ (remaining (minForward n t′) (minBackward n t′ (minForward n t′)) t′)
+  pub numbers : (t′ : List ℕ) → Lives t key t′ →
+      out′ ≡ over n (marked (minForward n t′) (minBackward n t′ (minForward n t′)) out) out
+  pub links : (t′ : List ℕ) → Lives t key t′ →
+      Lives t key′ (remaining (minForward n t′) (minBackward n t′ (minForward n t′)) t′)
 
-module _ (n : ℕ) (t key f b : List ℕ) (few : n ≤ 256) (full : n ≤ length key) (inside : Within n (Link t)) (loopless : (u : ℕ) → Link t u u → ⊥)
-    (F : Least n (Hears true (Live t key)) (λ (v : ℕ). v) (at f)) (B : Least n (Hears false (Live t key)) (source f) (at b)) where
+module _ (n : ℕ) (t key f b : List ℕ) (few : n ≤ 256) (full : n ≤ length key) (inside : Within n (Link t))
+    (loopless : (u : ℕ) → Link t u u → ⊥)
+    (F : Least n (Hears true (Live t key)) (λ (v : ℕ). v) (at f))
+    (B : Least n (Hears false (Live t key)) (source f) (at b)) where
   -- along the links left the key stays
   same-key : (v w : ℕ) → Connected (Hears true (Live t key)) v w → at key v ≡ at key w
   same-key v w (l, r) = go v l (r .0) (r .1)
@@ -57,7 +63,8 @@ module _ (n : ℕ) (t key f b : List ℕ) (few : n ≤ 256) (full : n ≤ length
   key-pair v d = rw (refuted (eqb (at f v) (at b v)) (λ e. d (eqb-true (at f v) (at b v) e)))
 
   -- a link whose ends have one key after the pass has ends with the same two labels, that differ
-  pub key-same : (u v : ℕ) → Link t u v → keyOf f b u ≡ keyOf f b v → (at f u ≡ at f v) × (at b u ≡ at b v) × (at f u ≡ at b u → ⊥)
+  pub key-same : (u v : ℕ) → Link t u v → keyOf f b u ≡ keyOf f b v →
+      (at f u ≡ at f v) × (at b u ≡ at b v) × (at f u ≡ at b u → ⊥)
   key-same u v l e = go (ℕ-discrete (at f u) (at b u)) (ℕ-discrete (at f v) (at b v))
     where
       hu : u < n
@@ -95,18 +102,21 @@ module _ (n : ℕ) (t key f b : List ℕ) (few : n ≤ 256) (full : n ≤ length
     pub forward-agrees : (v : ℕ) → v < n → at f v ≡ at f′ v
     forward-agrees =
         least-unique n (Turned (Link t′)) (λ (v : ℕ). v) (at f) (at f′)
-        (least-same n (Hears true (Live t key)) (Turned (Link t′)) (λ (v : ℕ). v) (at f) (λ v w. (lives w v .1, lives w v .0)) F)
+        (least-same n (Hears true (Live t key)) (Turned (Link t′)) (λ (v : ℕ). v) (at f)
+        (λ v w. (lives w v .1, lives w v .0)) F)
         (forward-least n t′ inside′)
 
     pub backward-agrees : (v : ℕ) → v < n → at b v ≡ at b′ v
     backward-agrees =
         least-unique n (Link t′) (source f′) (at b) (at b′)
-        (least-init n (Link t′) (source f) (source f′) (at b) inside′ (λ v h. ap (λ (y : ℕ). cond (eqb y v) v NONE) (forward-agrees v h))
+        (least-init n (Link t′) (source f) (source f′) (at b) inside′
+        (λ v h. ap (λ (y : ℕ). cond (eqb y v) v NONE) (forward-agrees v h))
         (least-same n (Hears false (Live t key)) (Link t′) (source f) (at b) (λ v w. (lives v w .1, lives v w .0)) B))
         (backward-least n t′ f′ inside′)
 
     pub marks-agree : (out : List ℕ) → over n (marked f b out) out ≡ over n (marked f′ b′ out) out
-    marks-agree out = over-cong n (marked f b out) (marked f′ b′ out) out (λ v h. rw (forward-agrees v h, backward-agrees v h) refl)
+    marks-agree out = over-cong n (marked f b out) (marked f′ b′ out) out
+        (λ v h. rw (forward-agrees v h, backward-agrees v h) refl)
 
     pub links-agree : Lives t (over n (keyOf f b) key) (remaining f′ b′ t′)
     links-agree u v = (there, back)
@@ -143,7 +153,8 @@ module _ (n : ℕ) (t key f b : List ℕ) (few : n ≤ 256) (full : n ≤ length
               ),
             )
 
-  pub passed : (out out′ key′ : List ℕ) → length key′ ≡ length key → out′ ≡ over n (marked f b out) out → key′ ≡ over n (keyOf f b) key → Passed n t key key′ out out′
+  pub passed : (out out′ key′ : List ℕ) → length key′ ≡ length key → out′ ≡ over n (marked f b out) out →
+      key′ ≡ over n (keyOf f b) key → Passed n t key key′ out out′
   passed out out′ key′ size eo ek =
       record {
         size = size;
@@ -152,7 +163,8 @@ module _ (n : ℕ) (t key f b : List ℕ) (few : n ≤ 256) (full : n ≤ length
       }
 
 -- at first every link is left: all keys are equal
-pub lives-begun : (t key : List ℕ) (k : ℕ) → Ends (length key) t → ((v : ℕ) → v < length key → at key v ≡ k) → Lives t key t
+pub lives-begun : (t key : List ℕ) (k : ℕ) → Ends (length key) t → ((v : ℕ) → v < length key → at key v ≡ k) →
+    Lives t key t
 lives-begun t key k ends same u v = (there, λ p. p .0)
   where
     there : Link t u v → Live t key u v

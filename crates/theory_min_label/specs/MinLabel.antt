@@ -1,5 +1,5 @@
--- The survey of one-way links (document 02, T-11): the min-label method of source document 000, section 6.1, without its two optimisations.
--- A table of words, two a link: from and to.
+-- The survey of one-way links (document 02, T-11): the min-label method of source document 000, section 6.1, without
+-- its two optimisations. A table of words, two a link: from and to.
 use mathlib.Core.Bool.{Bool, true, false, cond, not, _&&_}
 use mathlib.Core.List.{List, [], _∷_}
 use Prim.Native.Nat.{ℕ, zero, suc, min}
@@ -16,7 +16,8 @@ NONE = 65535
 abbrev pub at : List ℕ → ℕ → ℕ
 at x v = getD x v 0
 
--- the unit that a link (a, b) hands a label on from, and the one that gets it: forward from a to b, backward from b to a
+-- the unit that a link (a, b) hands a label on from, and the one that gets it: forward from a to b, backward from b to
+-- a
 abbrev pub giver : Bool → ℕ → ℕ → ℕ
 giver forward a b = cond forward a b
 

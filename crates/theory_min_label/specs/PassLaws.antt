@@ -1,5 +1,5 @@
--- What a pass keeps, over any links E and those of them, L, that are left: the labels f and b are least, numbers given are right, and no
--- link of an open group is lost.
+-- What a pass keeps, over any links E and those of them, L, that are left: the labels f and b are least, numbers given
+-- are right, and no link of an open group is lost.
 use mathlib.Core.Path.{_≡_, refl, sym, _∙_}
 use mathlib.Core.Bool.{true, false, cond}
 use mathlib.Core.Logic.{_⊎_, inl, inr, _≢_, _↔_}
@@ -81,7 +81,8 @@ module _ (none : ℕ) where
       go (inl t) q = rw t at q
       go (inr t) q = let z : none ≡ x = rw t at q in absurd (h (sym z))
 
-  module _ {n : ℕ} {E L : ℕ → ℕ → Type 0} {number : ℕ → ℕ} (inside : Within n E) (high : n ≤ none) (S : Sound n E L number) where
+  module _ {n : ℕ} {E L : ℕ → ℕ → Type 0} {number : ℕ →
+      ℕ} (inside : Within n E) (high : n ≤ none) (S : Sound n E L number) where
     -- what is left reaches no more than the links did
     reaches : (v w : ℕ) → Connected L v w → Reaches E v w
     reaches v w (l, r) = (l, (walk-map L E v l (λ x y s k. S .links x y k .0) (r .0), r .1))

@@ -31,13 +31,15 @@ pub record Least (n : ℕ) (H : ℕ → ℕ → Type 0) (init f : ℕ → ℕ) :
   pub below : (v w : ℕ) → v < n → Connected H v w → f v ≤ init w
   pub reached : (v : ℕ) → v < n → (w : ℕ) × Connected H v w × (f v ≡ init w)
 
-pub least-unique : (n : ℕ) (H : ℕ → ℕ → Type 0) (init f g : ℕ → ℕ) → Least n H init f → Least n H init g → (v : ℕ) → v < n → f v ≡ g v
+pub least-unique : (n : ℕ) (H : ℕ → ℕ → Type 0) (init f g : ℕ → ℕ) → Least n H init f → Least n H init g → (v : ℕ) →
+    v < n → f v ≡ g v
 least-unique n H init f g a b v h =
     let (w, c, e) = a .reached v h in
     let (x, d, q) = b .reached v h in
     omega (arith, a .below v x h d, b .below v w h c)
 
-pub least-same : (n : ℕ) (H K : ℕ → ℕ → Type 0) (init f : ℕ → ℕ) → ((v w : ℕ) → H v w ↔ K v w) → Least n H init f → Least n K init f
+pub least-same : (n : ℕ) (H K : ℕ → ℕ → Type 0) (init f : ℕ → ℕ) → ((v w : ℕ) → H v w ↔ K v w) → Least n H init f →
+    Least n K init f
 least-same n H K init f same a =
     record {
       below = λ v w h c. a .below v w h (moved K H (λ x y k. same x y .1 k) v w c);
@@ -59,7 +61,8 @@ least-init n H init other f inside same a =
 pub settled : (n : ℕ) (H : ℕ → ℕ → Type 0) (init f : ℕ → ℕ) → Within n H
     → ((v : ℕ) → v < n → f v ≤ init v) → ((v w : ℕ) → H v w → f v ≤ f w)
     → ((v : ℕ) → v < n → (w : ℕ) × Connected H v w × (f v ≡ init w)) → Least n H init f
-settled n H init f inside own falls reached = record { below = λ v w h c. go v (c .0) h (c .1 .0) (c .1 .1); reached = reached }
+settled n H init f inside own falls reached =
+    record { below = λ v w h c. go v (c .0) h (c .1 .0) (c .1 .1); reached = reached }
   where
     go : {w : ℕ} (v : ℕ) (l : List ℕ) → v < n → Walk H v l → last v l ≡ w → f v ≤ init w
     go v [] h r e = rw (← e) (own v h)
@@ -72,7 +75,8 @@ pub record Rounds (n : ℕ) (H : ℕ → ℕ → Type 0) (init : ℕ → ℕ) (v
   pub near : (k v w : ℕ) → H v w → val (suc k) v ≤ val k w
   pub reached : (k v : ℕ) → v < n → (w : ℕ) × Connected H v w × (val k v ≡ init w)
 
-module _ {n : ℕ} {H : ℕ → ℕ → Type 0} {init : ℕ → ℕ} {val : ℕ → ℕ → ℕ} (inside : Within n H) (rounds : Rounds n H init val) where
+module _ {n : ℕ} {H : ℕ → ℕ → Type 0} {init : ℕ → ℕ} {val : ℕ → ℕ →
+    ℕ} (inside : Within n H) (rounds : Rounds n H init val) where
   -- k rounds carry a label k steps
   carried : (k v : ℕ) (l : List ℕ) → v < n → length l ≤ k → Walk H v l → val k v ≤ init (last v l)
   carried zero v [] h b r = omega (arith, rounds .start v h)
@@ -94,6 +98,7 @@ module _ {n : ℕ} {H : ℕ → ℕ → Type 0} {init : ℕ → ℕ} {val : ℕ 
       far : (v w : ℕ) → v < n → Connected H v w → val n v ≤ init w
       far v w h (l, r) =
           let (m, s, e, f, d) = simple H v l (r .0) in
-          let few : length (v ∷ m) ≤ count n (λ (i : ℕ). true) = pigeonhole (λ (i : ℕ). true) n (v ∷ m) d (among v m h s) in
+          let few : length (v ∷ m) ≤ count n (λ (i : ℕ). true) =
+          pigeonhole (λ (i : ℕ). true) n (v ∷ m) d (among v m h s) in
           let q : last v m ≡ w = e ∙ r .1 in
           rw (← q) (carried n v m h (omega (arith, count-true n)) s)

@@ -17,8 +17,10 @@ use Rattle.base_lists.specs.Tests.{either, refuted, not-both}
 use Rattle.base_lists.specs.Members.{Mem, Distinct, mem-split, mem-cases, mem-left, mem-right}
 use Rattle.theory_min_label.specs.Groups.{Link, Mutual, LeastOf, OneOfEach, Strong}
 use Rattle.theory_min_label.specs.Spread.{Within, walk-within, Least}
-use Rattle.theory_min_label.specs.PassLaws.{same-group, Turned, Sound, Left, sources, numbers, pass-sound, more-led}
-use Rattle.theory_min_label.specs.MinLabel.{NONE, at, minForward, minBackward, marked, remaining, unfinished, passes, minLabel}
+use Rattle.theory_min_label.specs.PassLaws.{same-group, Turned, Sound, Left, sources, numbers, pass-sound}
+use Rattle.theory_min_label.specs.PassLaws.{more-led}
+use Rattle.theory_min_label.specs.MinLabel.{NONE, at, minForward, minBackward, marked, remaining, unfinished}
+use Rattle.theory_min_label.specs.MinLabel.{passes, minLabel}
 use Rattle.theory_min_label.specs.MinLabelLaws.{forward-least, backward-least, remaining-left}
 
 -- the units that are their own number
@@ -29,11 +31,13 @@ abbrev led : ℕ → List ℕ → ℕ
 led n x = count n (leads x)
 
 -- the least number that passes a test, where one does
-first-of : (n : ℕ) (p : ℕ → Bool) → ((i : ℕ) × (i < n) × (p i ≡ true) × ((w : ℕ) → w < i → p w ≡ false)) ⊎ ((w : ℕ) → w < n → p w ≡ false)
+first-of : (n : ℕ) (p : ℕ → Bool) → ((i : ℕ) × (i < n) × (p i ≡ true) × ((w : ℕ) → w < i → p w ≡ false))
+    ⊎ ((w : ℕ) → w < n → p w ≡ false)
 first-of zero p = inr (λ w h. absurd (omega arith))
 first-of (suc n) p = go (first-of n p) (either (p n))
   where
-    go : ((i : ℕ) × (i < n) × (p i ≡ true) × ((w : ℕ) → w < i → p w ≡ false)) ⊎ ((w : ℕ) → w < n → p w ≡ false) → (p n ≡ true) ⊎ (p n ≡ false)
+    go : ((i : ℕ) × (i < n) × (p i ≡ true) × ((w : ℕ) → w < i → p w ≡ false)) ⊎ ((w : ℕ) → w < n → p w ≡ false) →
+        (p n ≡ true) ⊎ (p n ≡ false)
         → ((i : ℕ) × (i < suc n) × (p i ≡ true) × ((w : ℕ) → w < i → p w ≡ false)) ⊎ ((w : ℕ) → w < suc n → p w ≡ false)
     go (inl (i, h, e, m)) d = inl (i, omega arith, e, m)
     go (inr none) (inl e) = inl (n, omega arith, e, none)
@@ -49,13 +53,19 @@ first-of (suc n) p = go (first-of n p) (either (p n))
 module _ (n : ℕ) (few : n ≤ 256) (E : ℕ → ℕ → Type 0) (inside : Within n E) where
   -- where every unit is its own number, none is without
   all-led : (x : List ℕ) → n ≤ led n x → (v : ℕ) → v < n → at x v ≡ NONE → ⊥
-  all-led x full v h e = omega (arith, count-fewer n (leads x) v h (refuted (leads x v) (λ t. omega (arith, eqb-true (at x v) v t))))
+  all-led x full v h e = omega (
+    arith,
+    count-fewer n (leads x) v h
+        (refuted (leads x v) (λ t. omega (arith, eqb-true (at x v) v t))),
+  )
 
   -- only the numbers of units count, and which links there are
-  sound-same : (L M : ℕ → ℕ → Type 0) (g h : ℕ → ℕ) → ((u v : ℕ) → M u v ↔ L u v) → ((v : ℕ) → v < n → g v ≡ h v) → Sound NONE n E L g → Sound NONE n E M h
+  sound-same : (L M : ℕ → ℕ → Type 0) (g h : ℕ → ℕ) → ((u v : ℕ) → M u v ↔ L u v) → ((v : ℕ) → v < n → g v ≡ h v) →
+      Sound NONE n E L g → Sound NONE n E M h
   sound-same L M g h links same S =
       record {
-        links = λ u v m. let (e, a, b) = S .links u v (links u v .0 m) in let (p, q) = inside u v e in (e, sym (same u p) ∙ a, sym (same v q) ∙ b);
+        links = λ u v m. let (e, a, b) = S .links u v (links u v .0 m) in let (p, q) =
+            inside u v e in (e, sym (same u p) ∙ a, sym (same v q) ∙ b);
         kept = λ u v e c o. links u v .1 (S .kept u v e c (same u (inside u v e .0) ∙ o));
         right = λ v l k. rw (← (same v l)) (S .right v l (λ o. k (sym (same v l) ∙ o)));
       }
@@ -67,7 +77,8 @@ module _ (n : ℕ) (few : n ≤ 256) (E : ℕ → ℕ → Type 0) (inside : With
     pub past : (v : ℕ) → n ≤ v → at y v ≡ at x v
     pub size : length y ≡ length x
 
-  passes-done : (k : ℕ) (t x : List ℕ) → n ≤ length x → Sound NONE n E (Link t) (at x) → n ≤ led n x + k → Done x (passes k n t x .0) (passes k n t x .1)
+  passes-done : (k : ℕ) (t x : List ℕ) → n ≤ length x → Sound NONE n E (Link t) (at x) → n ≤ led n x + k →
+      Done x (passes k n t x .0) (passes k n t x .1)
   unfolding passes
   passes-done zero t x l S b =
       record {
@@ -101,28 +112,33 @@ module _ (n : ℕ) (few : n ≤ 256) (E : ℕ → ℕ → Type 0) (inside : With
 
       sound : Sound NONE n E (Link (remaining f c t)) (at y)
       sound =
-          sound-same (Left NONE (at f) (at c) (Link t)) (Link (remaining f c t)) (numbers NONE (at f) (at c) (at x)) (at y) (remaining-left f c t) after
+          sound-same (Left NONE (at f) (at c) (Link t)) (Link (remaining f c t)) (numbers NONE (at f) (at c) (at x))
+          (at y) (remaining-left f c t) after
           (pass-sound NONE inside (omega arith) S (at f) (at c) F B)
 
       more : unfinished n x ≡ true → led n x < led n y
       more e = pick (first-of n (λ (v : ℕ). eqb (at x v) NONE))
         where
           same : led n y ≡ count n (λ (v : ℕ). eqb (numbers NONE (at f) (at c) (at x) v) v)
-          same = count-cong n (leads y) (λ (v : ℕ). eqb (numbers NONE (at f) (at c) (at x) v) v) (λ v h. rw (after v h) refl)
+          same = count-cong n (leads y) (λ (v : ℕ). eqb (numbers NONE (at f) (at c) (at x) v) v)
+              (λ v h. rw (after v h) refl)
 
-          pick : ((i : ℕ) × (i < n) × (eqb (at x i) NONE ≡ true) × ((w : ℕ) → w < i → eqb (at x w) NONE ≡ false)) ⊎ ((w : ℕ) → w < n → eqb (at x w) NONE ≡ false) → led n x < led n y
+          pick : ((i : ℕ) × (i < n) × (eqb (at x i) NONE ≡ true) × ((w : ℕ) → w < i → eqb (at x w) NONE ≡ false))
+              ⊎ ((w : ℕ) → w < n → eqb (at x w) NONE ≡ false) → led n x < led n y
           pick (inl (i, h, o, m)) =
               omega (
                 arith,
                 same,
-                more-led NONE inside (omega arith) S (at f) (at c) F B i h (eqb-true (at x i) NONE o) (λ w q z. eqb-false (at x w) NONE (m w q) z),
+                more-led NONE inside (omega arith) S (at f) (at c) F B i h (eqb-true (at x i) NONE o)
+                    (λ w q z. eqb-false (at x w) NONE (m w q) z),
               )
           pick (inr none) =
               let (i, h, o) = some-exact n (λ (v : ℕ). eqb (at x v) NONE) .0 e in
               absurd (not-both (eqb (at x i) NONE) o (none i h))
 
       go : (unfinished n x ≡ true) ⊎ (unfinished n x ≡ false)
-          → (n ≤ length y → Sound NONE n E (Link (remaining f c t)) (at y) → n ≤ led n y + k → Done y (passes k n (remaining f c t) y .0) (passes k n (remaining f c t) y .1))
+          → (n ≤ length y → Sound NONE n E (Link (remaining f c t)) (at y) → n ≤ led n y + k →
+          Done y (passes k n (remaining f c t) y .0) (passes k n (remaining f c t) y .1))
           → Done x (passes (suc k) n t x .0) (passes (suc k) n t x .1)
       go (inr e) later =
           rw e
@@ -155,7 +171,8 @@ unfolding leaders
 length-leaders zero y = refl
 length-leaders (suc n) y = go (leads y n) (length-leaders n y)
   where
-    go : (b : Bool) → length (leaders n y) ≡ led n y → length (cond b (n ∷ leaders n y) (leaders n y)) ≡ led n y + cond b 1 0
+    go : (b : Bool) → length (leaders n y) ≡ led n y →
+        length (cond b (n ∷ leaders n y) (leaders n y)) ≡ led n y + cond b 1 0
     go true e = omega arith
     go false e = omega arith
 
@@ -164,7 +181,8 @@ unfolding leaders
 leader-in zero y r h e = absurd (omega arith)
 leader-in (suc n) y r h e = go (ℕ-discrete r n) (either (leads y n)) (leader-in n y r)
   where
-    go : Dec (r ≡ n) → (leads y n ≡ true) ⊎ (leads y n ≡ false) → (r < n → at y r ≡ r → Mem r (leaders n y)) → Mem r (cond (leads y n) (n ∷ leaders n y) (leaders n y))
+    go : Dec (r ≡ n) → (leads y n ≡ true) ⊎ (leads y n ≡ false) → (r < n → at y r ≡ r → Mem r (leaders n y)) →
+        Mem r (cond (leads y n) (n ∷ leaders n y) (leaders n y))
     go (yes q) (inl t) below = rw t (inl q)
     go (yes q) (inr t) below = absurd (eqb-false (at y n) n t (rw (← q) e))
     go (no q) (inl t) below = rw t (inr (below (omega arith) e))
@@ -175,7 +193,8 @@ unfolding leaders
 leader-is zero y r m = absurd m
 leader-is (suc n) y r m = go (either (leads y n)) m (leader-is n y r)
   where
-    go : (leads y n ≡ true) ⊎ (leads y n ≡ false) → Mem r (cond (leads y n) (n ∷ leaders n y) (leaders n y)) → (Mem r (leaders n y) → (r < n) × (at y r ≡ r)) → (r < suc n) × (at y r ≡ r)
+    go : (leads y n ≡ true) ⊎ (leads y n ≡ false) → Mem r (cond (leads y n) (n ∷ leaders n y) (leaders n y)) →
+        (Mem r (leaders n y) → (r < n) × (at y r ≡ r)) → (r < suc n) × (at y r ≡ r)
     go (inl t) m below = by (rw t at m)
       where
         by : (r ≡ n) ⊎ Mem r (leaders n y) → (r < suc n) × (at y r ≡ r)
@@ -188,7 +207,8 @@ unfolding leaders
 leaders-distinct zero y = tt
 leaders-distinct (suc n) y = go (either (leads y n)) (leaders-distinct n y)
   where
-    go : (leads y n ≡ true) ⊎ (leads y n ≡ false) → Distinct (leaders n y) → Distinct (cond (leads y n) (n ∷ leaders n y) (leaders n y))
+    go : (leads y n ≡ true) ⊎ (leads y n ≡ false) → Distinct (leaders n y) →
+        Distinct (cond (leads y n) (n ∷ leaders n y) (leaders n y))
     go (inl t) d = rw t (λ m. omega (arith, leader-is n y n m .0), d)
     go (inr t) d = rw t d
 
@@ -197,7 +217,8 @@ sub-length : (l k : List ℕ) → Distinct l → ((r : ℕ) → Mem r l → Mem 
 sub-length [] k d sub = omega arith
 sub-length (x ∷ l) k d sub = go (mem-split x k (sub x (inl refl))) (sub-length l)
   where
-    go : (s : List ℕ) × (t : List ℕ) × (k ≡ s ++ x ∷ t) → ((k : List ℕ) → Distinct l → ((r : ℕ) → Mem r l → Mem r k) → length l ≤ length k)
+    go : (s : List ℕ) × (t : List ℕ) × (k ≡ s ++ x ∷ t) →
+        ((k : List ℕ) → Distinct l → ((r : ℕ) → Mem r l → Mem r k) → length l ≤ length k)
         → suc (length l) ≤ length k
     go (s, t, e) later =
         omega (arith, ap length e, length-append s (x ∷ t), length-append s t, later (s ++ t) (d .1) rest)
@@ -226,17 +247,24 @@ unfolding numbersOf
 length-numbers y [] = refl
 length-numbers y (r ∷ l) = ap suc (length-numbers y l)
 
-module _ (n : ℕ) (E : ℕ → ℕ → Type 0) (inside : Within n E) (y : List ℕ) (right : (v : ℕ) → v < n → LeastOf E v (at y v)) where
+module _ (n : ℕ) (E : ℕ → ℕ → Type 0) (inside : Within n E) (y : List ℕ) (right : (v : ℕ) → v < n →
+    LeastOf E v (at y v)) where
   pub number-below : (v : ℕ) → v < n → at y v < n
   number-below v h = walk-within n E inside v (at y v) h (right v h .in-group .0)
 
   -- a number is its own
   number-own : (v : ℕ) → v < n → at y (at y v) ≡ at y v
   number-own v h =
-      sym (same-group E v (at y v) (at y v) (at y (at y v)) (right v h) (right (at y v) (number-below v h)) .1 (right v h .in-group))
+      sym (same-group E v (at y v) (at y v) (at y (at y v)) (right v h) (right (at y v) (number-below v h)) .1
+      (right v h .in-group))
 
   leaders-each : OneOfEach n E (leaders n y)
-  leaders-each = record { units = λ r m. leader-is n y r m .0; covers = covers; apart = apart; once = leaders-distinct n y }
+  leaders-each = record {
+    units = λ r m. leader-is n y r m .0;
+    covers = covers;
+    apart = apart;
+    once = leaders-distinct n y;
+  }
     where
       covers : (v : ℕ) → v < n → (r : ℕ) × Mem r (leaders n y) × Mutual E v r
       covers v h = (at y v, leader-in n y (at y v) (number-below v h) (number-own v h), right v h .in-group)
@@ -250,7 +278,12 @@ module _ (n : ℕ) (E : ℕ → ℕ → Type 0) (inside : Within n E) (y : List 
   -- the leaders are no more than the units of any list that has one of each group: they are these units' numbers
   led-groups : (l : List ℕ) → OneOfEach n E l → led n y ≤ length l
   led-groups l each =
-      omega (arith, length-leaders n y, length-numbers y l, sub-length (leaders n y) (numbersOf y l) (leaders-distinct n y) among)
+      omega (
+        arith,
+        length-leaders n y,
+        length-numbers y l,
+        sub-length (leaders n y) (numbersOf y l) (leaders-distinct n y) among,
+      )
     where
       among : (v : ℕ) → Mem v (leaders n y) → Mem v (numbersOf y l)
       among v m =
@@ -260,7 +293,8 @@ module _ (n : ℕ) (E : ℕ → ℕ → Type 0) (inside : Within n E) (y : List 
           let q : at y r ≡ v = sym e ∙ own in
           rw q at (number-in y l r k)
 
-pub strong : (n : ℕ) (t out : List ℕ) → n ≤ 256 → n ≤ length out → Within n (Link t) → Strong n t out (minLabel n t out .0) (minLabel n t out .1)
+pub strong : (n : ℕ) (t out : List ℕ) → n ≤ 256 → n ≤ length out → Within n (Link t) →
+    Strong n t out (minLabel n t out .0) (minLabel n t out .1)
 unfolding minLabel
 strong n t out few room inside =
     record {

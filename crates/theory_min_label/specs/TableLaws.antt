@@ -13,7 +13,8 @@ use Rattle.base_lists.specs.Rounds.{over-more}
 use Rattle.theory_min_label.specs.MinLabel.{NONE, marked}
 
 -- one entry more
-pub entry-more : (f : ℕ → ℕ) (x new : List ℕ) (v y : ℕ) → v < length x → ((j : ℕ) → j < v → getD x j 0 ≡ f j) → y ≡ f v → new ≡ set x v y
+pub entry-more : (f : ℕ → ℕ) (x new : List ℕ) (v y : ℕ) → v < length x → ((j : ℕ) → j < v → getD x j 0 ≡ f j) →
+    y ≡ f v → new ≡ set x v y
     → (j : ℕ) → j < v + 1 → getD new j 0 ≡ f j
 entry-more f x new v y l h e p j b = go (ℕ-discrete j v)
   where
@@ -22,7 +23,8 @@ entry-more f x new v y l h e p j b = go (ℕ-discrete j v)
     go (no q) = rw p (getD-set-other x v j y 0 q ∙ h j (omega arith))
 
 -- one unit more marked: the entry read is still the old one
-pub marks-more : (f b x₀ x new : List ℕ) (v fv bv old y : ℕ) → x ≡ over v (marked f b x₀) x₀ → old ≡ getD x v 0 → fv ≡ getD f v 0 → bv ≡ getD b v 0
+pub marks-more : (f b x₀ x new : List ℕ) (v fv bv old y : ℕ) → x ≡ over v (marked f b x₀) x₀ → old ≡ getD x v 0 →
+    fv ≡ getD f v 0 → bv ≡ getD b v 0
     → y ≡ cond (eqb old NONE) (cond (eqb fv bv) fv NONE) old → new ≡ set x v y → new ≡ over (v + 1) (marked f b x₀) x₀
 marks-more f b x₀ x new v fv bv old y was eo ef eb ey p =
     let e : old ≡ getD x₀ v 0 = eo ∙ rw was (getD-over-past v (marked f b x₀) x₀ v 0 (omega arith)) in

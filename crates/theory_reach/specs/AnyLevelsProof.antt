@@ -56,7 +56,8 @@ unfolding loaded begun
 any-levels n words one two a b =
     record {
       countdowns = refl;
-      ends = λ k l x y. both-alike n words one two _ _ (end-right (loaded-started (withLevels n words one) a) k x) (end-right (loaded-started (withLevels n words two) b) l y);
+      ends = λ k l x y. both-alike n words one two _ _ (end-right (loaded-started (withLevels n words one) a) k x)
+          (end-right (loaded-started (withLevels n words two) b) l y);
     }
 
 -- ---- without levels
@@ -82,9 +83,14 @@ module _ (n : ℕ) (words : List ℕ) (levels : List ℤ) (e : storedLoadRefusal
 
   bare-accepted : storedLoadRefusal (bare n words) ≡ 0
   bare-accepted =
-      sym (table-ends n words (replicate (linkCount words) LOWEST) counts (pass (replicate (linkCount words) LOWEST) (length-replicate (linkCount words) LOWEST) (lowest-range (linkCount words))))
+      sym (table-ends n words (replicate (linkCount words) LOWEST) counts
+      (pass (replicate (linkCount words) LOWEST) (length-replicate (linkCount words) LOWEST)
+      (lowest-range (linkCount words))))
       ∙ table-ends n words levels counts (pass levels (table-levelled n words levels e) (table-range n words levels e))
       ∙ e
 
 pub without-levels : WithoutLevels
-without-levels n words levels e = (bare-accepted n words levels e, any-levels n words levels (bare n words .levels) e (bare-accepted n words levels e))
+without-levels n words levels e = (
+  bare-accepted n words levels e,
+  any-levels n words levels (bare n words .levels) e (bare-accepted n words levels e),
+)

@@ -19,7 +19,8 @@ pub same-ends : SameEnds
 same-ends n words one two s t S T c =
     record {
       countdowns =
-          ap (λ (x : ℕ). Ceilings.countdown x (s .clock .stage) (s .clock .made)) (ap (λ t. t .units) (S .table) ∙ sym (ap (λ t. t .units) (T .table)))
+          ap (λ (x : ℕ). Ceilings.countdown x (s .clock .stage) (s .clock .made)) (ap (λ t. t .units) (S .table)
+          ∙ sym (ap (λ t. t .units) (T .table)))
           ∙ ap (λ (c : Clock). Ceilings.countdown (units t) (c .stage) (c .made)) c;
       ends = λ k l x y. both-alike n words one two _ _ (end-right S k x) (end-right T l y);
     }
@@ -27,10 +28,14 @@ same-ends n words one two s t S T c =
 pub any-plan : AnyPlan
 unfolding plannedLoaded loaded begun
 any-plan input ps e =
-    let stored = plan-accepted input ps e .stored in
-    (stored, same-ends (input .units) (input .words) (input .levels) (input .levels) _ _ (planned-started input ps e) (loaded-started input stored) refl)
+    let stored = plan-accepted input ps e .stored in (
+      stored,
+      same-ends (input .units) (input .words) (input .levels) (input .levels) _ _ (planned-started input ps e)
+          (loaded-started input stored) refl,
+    )
 
 pub any-plans : AnyPlans
 unfolding plannedLoaded loaded begun
 any-plans n words one two ps qs e f =
-    same-ends n words one two _ _ (planned-started (withLevels n words one) ps e) (planned-started (withLevels n words two) qs f) refl
+    same-ends n words one two _ _ (planned-started (withLevels n words one) ps e)
+    (planned-started (withLevels n words two) qs f) refl

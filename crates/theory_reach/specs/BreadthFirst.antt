@@ -1,5 +1,6 @@
--- Stage 2: after k rounds the units within k − 1 links of their component's color are visited, each with its distance and a parent one nearer; the
--- stage ends before its ceiling, and then the parents are a spanning forest in which a link's ends differ by at most one in depth.
+-- Stage 2: after k rounds the units within k − 1 links of their component's color are visited, each with its distance
+-- and a parent one nearer; the stage ends before its ceiling, and then the parents are a spanning forest in which a
+-- link's ends differ by at most one in depth.
 use mathlib.Core.Path.{_≡_, refl, sym, ap, _∙_}
 use mathlib.Core.Bool.{Bool, true, false, cond}
 use mathlib.Core.Logic.{_↔_, _⊎_, inl, inr, _≢_}
@@ -83,7 +84,8 @@ record Visited (m : ℕ) (ends : List ℕ) (levels : List ℤ) (color dist paren
   nearer : suc (at dist (at parent′ v)) ≡ k
 
 -- as it was, and with no such neighbour where unvisited
-record Kept (m : ℕ) (ends : List ℕ) (levels : List ℤ) (color parent dist parent′ dist′ : List ℕ) (k v : ℕ) : Type 0 where
+record Kept (m : ℕ) (ends : List ℕ) (levels : List ℤ) (color parent dist parent′ dist′ : List ℕ)
+    (k v : ℕ) : Type 0 where
   stays : visits m k ends levels color dist v ≡ false
   sameDist : at dist′ v ≡ at dist v
   sameParent : at parent′ v ≡ at parent v
@@ -93,7 +95,8 @@ data Now (m : ℕ) (ends : List ℕ) (levels : List ℤ) (color parent dist pare
   visited : Visited m ends levels color dist parent′ dist′ k v → Now m ends levels color parent dist parent′ dist′ k v
   kept : Kept m ends levels color parent dist parent′ dist′ k v → Now m ends levels color parent dist parent′ dist′ k v
 
-record Round (n m : ℕ) (ends : List ℕ) (levels : List ℤ) (color parent dist parent′ dist′ : List ℕ) (k : ℕ) : Type 0 where
+record Round (n m : ℕ) (ends : List ℕ) (levels : List ℤ) (color parent dist parent′ dist′ : List ℕ)
+    (k : ℕ) : Type 0 where
   parentRoom : n ≤ length parent′
   distRoom : n ≤ length dist′
   each : (v : ℕ) → v < n → Now m ends levels color parent dist parent′ dist′ k v
@@ -105,7 +108,8 @@ record Chain (n : ℕ) (dist : List ℕ) (e : ℕ) : Type 0 where
   different : Distinct units
   within : (z : ℕ) → Mem z units → (z < n) × (at dist z ≤ e)
 
-module _ {n m : ℕ} {ends : List ℕ} (site : Site n m ends) (levels : List ℤ) {color : List ℕ} (colored : Colored n m ends color) where
+module _ {n m : ℕ} {ends : List ℕ} (site : Site n m ends) (levels : List ℤ) {color : List ℕ}
+    (colored : Colored n m ends color) where
   fewUnits : n ≤ 256
   fewUnits = site .fewUnits
 
@@ -113,7 +117,8 @@ module _ {n m : ℕ} {ends : List ℕ} (site : Site n m ends) (levels : List ℤ
 
   pub first : (parent dist : List ℕ) → n ≤ length parent → n ≤ length dist
       → ((v : ℕ) → v < n → at parent v ≡ ABSENT) → ((v : ℕ) → v < n → at dist v ≡ ABSENT)
-      → TreeAt n m ends color (parentRound n m 0 ends levels color dist parent) (distRound n m 0 ends levels color dist) 1
+      → TreeAt n m ends color (parentRound n m 0 ends levels color dist parent)
+      (distRound n m 0 ends levels color dist) 1
   unfolding parentRound distRound visits
   first parent dist roomP roomD noParent noDist =
       record {
@@ -138,7 +143,11 @@ module _ {n m : ℕ} {ends : List ℕ} (site : Site n m ends) (levels : List ℤ
       stands : (v : ℕ) → v < n → (eqb (at color v) v ≡ true) ⊎ (eqb (at color v) v ≡ false)
           → Standing n m ends color (over n parents parent) (over n dists dist) 1 v
       stands v l (inl e) =
-          root (record { own = eqb-true (at color v) v e; distance = dists-at v l ∙ rw e refl; orphan = parents-at v l ∙ rw e refl })
+          root (record {
+            own = eqb-true (at color v) v e;
+            distance = dists-at v l ∙ rw e refl;
+            orphan = parents-at v l ∙ rw e refl;
+          })
       stands v l (inr e) =
           unvisited (record {
             other = eqb-false (at color v) v e;
@@ -187,13 +196,15 @@ module _ {n m : ℕ} {ends : List ℕ} (site : Site n m ends) (levels : List ℤ
             within z (inl x) = rw x (l, omega arith)
             within z (inr x) = let b = c .within z x in (b .0, omega arith)
 
-        go : Standing n m ends color parent dist k v → ((w : ℕ) → w < n → at dist w ≡ e → e < ABSENT → Chain n dist e) → Chain n dist (suc e)
+        go : Standing n m ends color parent dist k v → ((w : ℕ) → w < n → at dist w ≡ e → e < ABSENT → Chain n dist e) →
+            Chain n dist (suc e)
         go (root s) up = absurd (omega arith)
         go (child s) up = longer (up (at parent v) (s .below) (omega arith) (omega arith))
         go (unvisited s) up = absurd (omega arith)
 
     -- where links lead from visited units to visited ones, all are visited: each from the color of its component
-    visited-all : ((u v : ℕ) → Link m ends u v → at dist u < ABSENT → at dist v < ABSENT) → (v : ℕ) → v < n → at dist v < ABSENT
+    visited-all : ((u v : ℕ) → Link m ends u v → at dist u < ABSENT → at dist v < ABSENT) → (v : ℕ) → v < n →
+        at dist v < ABSENT
     visited-all on v l = go (connected-sym (Link m ends) (site-graph site .flip) v (at color v) (colored .reached v l))
       where
         start : Standing n m ends color parent dist k (at color v) → at dist (at color v) < ABSENT
@@ -208,7 +219,8 @@ module _ {n m : ℕ} {ends : List ℕ} (site : Site n m ends) (levels : List ℤ
         go : Connected (Link m ends) (at color v) v → at dist v < ABSENT
         go (t, r) = rw (r .1) at (along (at color v) t (start (tree .stands (at color v) (colored .below v l))) (r .0))
 
-    -- an unvisited unit with a neighbour visited in the last round: it and the way up from the neighbour are k + 1 units
+    -- an unvisited unit with a neighbour visited in the last round: it and the way up from the neighbour are k + 1
+    -- units
     few-rounds : 1 ≤ k → (v w : ℕ) → at dist v ≡ ABSENT → Link m ends v w → suc (at dist w) ≡ k → suc k ≤ n
     few-rounds later v w unseen r e = go (decLt n k)
       where
@@ -221,7 +233,12 @@ module _ {n m : ℕ} {ends : List ℕ} (site : Site n m ends) (levels : List ℤ
         count : Chain n dist (at dist w) → k ≤ n → suc k ≤ n
         count c small =
             let fresh : Mem v (c .units) → ⊥ = λ x. omega (arith, c .within v x .1, fewUnits) in
-            omega (arith, c .long, pigeonhole (λ i. true) n (v ∷ c .units) (fresh, c .different) picked, count-le n (λ i. true))
+            omega (
+              arith,
+              c .long,
+              pigeonhole (λ i. true) n (v ∷ c .units) (fresh, c .different) picked,
+              count-le n (λ i. true),
+            )
           where
             picked : (z : ℕ) → Mem z (v ∷ c .units) → Picked (λ i. true) n z
             picked z (inl x) = record { below = rw x (link-below site v w r .0); passes = refl }
@@ -263,7 +280,8 @@ module _ {n m : ℕ} {ends : List ℕ} (site : Site n m ends) (levels : List ℤ
         lower : (v : ℕ) → 0 < d v → (at parent v < n) × Link m ends v (at parent v) × (d v ≡ suc (d (at parent v)))
         lower v h = go (decLt v n)
           where
-            by : v < n → Standing n m ends color parent dist k v → (at parent v < n) × Link m ends v (at parent v) × (d v ≡ suc (d (at parent v)))
+            by : v < n → Standing n m ends color parent dist k v →
+                (at parent v < n) × Link m ends v (at parent v) × (d v ≡ suc (d (at parent v)))
             by l (root s) = absurd (omega (arith, depth v l))
             by l (child s) = (s .below, s .link, omega (arith, depth v l, depth (at parent v) (s .below)))
             by l (unvisited s) = absurd (omega (arith, all v l))
@@ -297,7 +315,8 @@ module _ {n m : ℕ} {ends : List ℕ} (site : Site n m ends) (levels : List ℤ
   -- ---- a later round
 
   made : {parent dist : List ℕ} {k : ℕ} → TreeAt n m ends color parent dist k → 1 ≤ k
-      → Round n m ends levels color parent dist (parentRound n m k ends levels color dist parent) (distRound n m k ends levels color dist) k
+      → Round n m ends levels color parent dist (parentRound n m k ends levels color dist parent)
+      (distRound n m k ends levels color dist) k
   unfolding parentRound distRound
   made {parent} {dist} {k} tree later =
       record {
@@ -333,21 +352,44 @@ module _ {n m : ℕ} {ends : List ℕ} (site : Site n m ends) (levels : List ℤ
       not-first : eqb k 0 ≡ false
       not-first = ne-eqb k 0 (λ e. omega arith)
 
-      same : (v : ℕ) → v < n → goes v ≡ false → (at dist v ≡ ABSENT → (w : ℕ) → Link m ends v w → suc (at dist w) ≡ k → ⊥)
+      same : (v : ℕ) → v < n → goes v ≡ false →
+          (at dist v ≡ ABSENT → (w : ℕ) → Link m ends v w → suc (at dist w) ≡ k → ⊥)
           → Now m ends levels color parent dist (over n parents parent) (over n dists dist) k v
       same v l e apart =
-          kept (record { stays = e; sameDist = dists-at v l ∙ rw e refl; sameParent = parents-at v l ∙ rw e refl; apart = apart })
+          kept (record {
+            stays = e;
+            sameDist = dists-at v l ∙ rw e refl;
+            sameParent = parents-at v l ∙ rw e refl;
+            apart = apart;
+          })
 
       each : (v : ℕ) → v < n → Dec (at dist v ≡ ABSENT) → Choice m k ends dist v (choice v)
           → Now m ends levels color parent dist (over n parents parent) (over n dists dist) k v
       each v l (yes d) (nearer small j h r e) =
-          let on : goes v ≡ true = rw (visits-later m k ends levels color dist v later, eq-eqb (at dist v) ABSENT d, ne-eqb (choice v) ABSENT (λ x. omega arith)) refl in
+          let on : goes v ≡ true = rw (
+            visits-later m k ends levels color dist v later,
+            eq-eqb (at dist v) ABSENT d,
+            ne-eqb (choice v) ABSENT (λ x. omega arith),
+          ) refl in
           let p : at (over n parents parent) v ≡ choice v = parents-at v l ∙ rw (on, not-first) refl in
-          visited (record { goes = on; unseen = d; distance = dists-at v l ∙ rw on refl; link = rw p (j, h, r); nearer = rw p (omega arith) })
+          visited (record {
+            goes = on;
+            unseen = d;
+            distance = dists-at v l ∙ rw on refl;
+            link = rw p (j, h, r);
+            nearer = rw p (omega arith);
+          })
       each v l (yes d) (nobody e none) =
-          same v l (rw (visits-later m k ends levels color dist v later, eq-eqb (at dist v) ABSENT d, eq-eqb (choice v) ABSENT e) refl)
+          same v l (rw (
+            visits-later m k ends levels color dist v later,
+            eq-eqb (at dist v) ABSENT d,
+            eq-eqb (choice v) ABSENT e,
+          ) refl)
           (λ x w r s. none (r .0) w (r .1) (r .2) (omega arith))
-      each v l (no d) c = same v l (rw (visits-later m k ends levels color dist v later, ne-eqb (at dist v) ABSENT d) refl) (λ x. absurd (d x))
+      each v l (no d) c = same v l (rw (
+        visits-later m k ends levels color dist v later,
+        ne-eqb (at dist v) ABSENT d,
+      ) refl) (λ x. absurd (d x))
 
   module _ {parent dist parent′ dist′ : List ℕ} {k : ℕ} (tree : TreeAt n m ends color parent dist k) (later : 1 ≤ k)
       (round : Round n m ends levels color parent dist parent′ dist′ k) where
@@ -368,7 +410,8 @@ module _ {n m : ℕ} {ends : List ℕ} (site : Site n m ends) (levels : List ℤ
           closed = closed;
         }
       where
-        stands : (v : ℕ) → v < n → Now m ends levels color parent dist parent′ dist′ k v → Standing n m ends color parent dist k v
+        stands : (v : ℕ) → v < n → Now m ends levels color parent dist parent′ dist′ k v →
+            Standing n m ends color parent dist k v
             → Standing n m ends color parent′ dist′ (suc k) v
         stands v l (visited now) (root s) = absurd (omega arith)
         stands v l (visited now) (child s) = absurd (omega (arith, fewUnits))
@@ -388,7 +431,8 @@ module _ {n m : ℕ} {ends : List ℕ} (site : Site n m ends) (levels : List ℤ
         stands v l (kept now) (root s) =
             root (record { own = s .own; distance = now .sameDist ∙ s .distance; orphan = now .sameParent ∙ s .orphan })
         stands v l (kept now) (child s) =
-            let same : at dist′ (at parent v) ≡ at dist (at parent v) = settled (at parent v) (s .below) (omega (arith, fewUnits)) in
+            let same : at dist′ (at parent v) ≡ at dist (at parent v) =
+            settled (at parent v) (s .below) (omega (arith, fewUnits)) in
             child (record {
               other = s .other;
               before = omega arith;
@@ -398,18 +442,25 @@ module _ {n m : ℕ} {ends : List ℕ} (site : Site n m ends) (levels : List ℤ
               nearer = rw (now .sameParent) (omega arith);
             })
         stands v l (kept now) (unvisited s) =
-            unvisited (record { other = s .other; distance = now .sameDist ∙ s .distance; orphan = now .sameParent ∙ s .orphan })
+            unvisited (record {
+              other = s .other;
+              distance = now .sameDist ∙ s .distance;
+              orphan = now .sameParent ∙ s .orphan;
+            })
 
         closed : (u v : ℕ) → Link m ends u v → suc (at dist′ u) < suc k → at dist′ v ≤ suc (at dist′ u)
-        closed u v r h = go (round .each u (link-below site u v r .0)) (round .each v (link-below site u v r .1)) (decLt (suc (at dist u)) k)
+        closed u v r h = go (round .each u (link-below site u v r .0)) (round .each v (link-below site u v r .1))
+            (decLt (suc (at dist u)) k)
           where
             -- a neighbour of a unit visited in the round before is visited by now
-            last-round : suc (at dist u) ≡ k → Kept m ends levels color parent dist parent′ dist′ k v → Standing n m ends color parent dist k v → at dist v ≤ k
+            last-round : suc (at dist u) ≡ k → Kept m ends levels color parent dist parent′ dist′ k v →
+                Standing n m ends color parent dist k v → at dist v ≤ k
             last-round e now (root s) = omega arith
             last-round e now (child s) = omega arith
             last-round e now (unvisited s) = absurd (now .apart (s .distance) u (site-graph site .flip u v r) e)
 
-            go : Now m ends levels color parent dist parent′ dist′ k u → Now m ends levels color parent dist parent′ dist′ k v → Dec (suc (at dist u) < k)
+            go : Now m ends levels color parent dist parent′ dist′ k u →
+                Now m ends levels color parent dist parent′ dist′ k v → Dec (suc (at dist u) < k)
                 → at dist′ v ≤ suc (at dist′ u)
             go (visited a) b c = absurd (omega arith)
             go (kept a) (visited b) (yes c) =
@@ -417,10 +468,12 @@ module _ {n m : ℕ} {ends : List ℕ} (site : Site n m ends) (levels : List ℤ
                 absurd (omega (arith, tree .closed u v r c, fewUnits))
             go (kept a) (visited b) (no c) = omega arith
             go (kept a) (kept b) (yes c) = omega (arith, tree .closed u v r c)
-            go (kept a) (kept b) (no c) = omega (arith, last-round (omega arith) b (tree .stands v (link-below site u v r .1)))
+            go (kept a) (kept b) (no c) =
+                omega (arith, last-round (omega arith) b (tree .stands v (link-below site u v r .1)))
 
   pub next : {parent dist : List ℕ} {k : ℕ} → TreeAt n m ends color parent dist k → 1 ≤ k
-      → TreeAt n m ends color (parentRound n m k ends levels color dist parent) (distRound n m k ends levels color dist) (suc k)
+      → TreeAt n m ends color (parentRound n m k ends levels color dist parent) (distRound n m k ends levels color dist)
+      (suc k)
   next tree later = after tree later (made tree later)
 
   -- ---- the end of the stage
@@ -429,31 +482,37 @@ module _ {n m : ℕ} {ends : List ℕ} (site : Site n m ends) (levels : List ℤ
     -- while it goes on, the ceiling is not reached
     pub bound : treeEnds n m k ends levels color dist ≡ false → suc k ≤ n
     unfolding treeEnds
-    bound e = go (some-exact n (visits m k ends levels color dist) .0 (not-false (some n (visits m k ends levels color dist)) e))
+    bound e = go (some-exact n (visits m k ends levels color dist) .0
+        (not-false (some n (visits m k ends levels color dist)) e))
       where
         go : (v : ℕ) × (v < n) × (visits m k ends levels color dist v ≡ true) → suc k ≤ n
         go (v, l, h) = by (made tree later .each v l)
           where
-            by : Now m ends levels color parent dist (parentRound n m k ends levels color dist parent) (distRound n m k ends levels color dist) k v → suc k ≤ n
+            by : Now m ends levels color parent dist (parentRound n m k ends levels color dist parent)
+                (distRound n m k ends levels color dist) k v → suc k ≤ n
             by (visited now) = few-rounds tree later v _ (now .unseen) (now .link) (now .nearer)
             by (kept now) = absurd (not-both (visits m k ends levels color dist v) h (now .stays))
 
     -- the last round left every unit as it was, so none at distance k
-    last-short : treeEnds n m k ends levels color dist ≡ true → (v : ℕ) → v < n → at (distRound n m k ends levels color dist) v < ABSENT
+    last-short : treeEnds n m k ends levels color dist ≡ true → (v : ℕ) → v < n →
+        at (distRound n m k ends levels color dist) v < ABSENT
         → (at (distRound n m k ends levels color dist) v < n) × (at (distRound n m k ends levels color dist) v < k)
     unfolding treeEnds
     last-short e v l h = by (made tree later .each v l)
       where
         none : visits m k ends levels color dist v ≡ false
-        none = some-none n (visits m k ends levels color dist) (not-true (some n (visits m k ends levels color dist)) e) v l
+        none = some-none n (visits m k ends levels color dist)
+            (not-true (some n (visits m k ends levels color dist)) e) v l
 
-        by : Now m ends levels color parent dist (parentRound n m k ends levels color dist parent) (distRound n m k ends levels color dist) k v
+        by : Now m ends levels color parent dist (parentRound n m k ends levels color dist parent)
+            (distRound n m k ends levels color dist) k v
             → (at (distRound n m k ends levels color dist) v < n) × (at (distRound n m k ends levels color dist) v < k)
         by (visited now) = absurd (not-both (visits m k ends levels color dist v) (now .goes) none)
         by (kept now) = rw (now .sameDist) (visited-few tree later v l (omega arith))
 
     pub done : treeEnds n m k ends levels color dist ≡ true
-        → Rooted n m ends color (parentRound n m k ends levels color dist parent) (depthOf n (distRound n m k ends levels color dist))
+        → Rooted n m ends color (parentRound n m k ends levels color dist parent)
+        (depthOf n (distRound n m k ends levels color dist))
         × Leveled m ends (depthOf n (distRound n m k ends levels color dist))
     done e = rooted-all final all (λ u v r. near u v r (all u (link-below site u v r .0)))
       where
@@ -467,14 +526,20 @@ module _ {n m : ℕ} {ends : List ℕ} (site : Site n m ends) (levels : List ℤ
         near u v r h = let b = last-short e u (link-below site u v r .0) h in final .closed u v r (omega arith)
 
         all : (v : ℕ) → v < n → at dist′ v < ABSENT
-        all = visited-all final (λ u v r h. let b = last-short e u (link-below site u v r .0) h in omega (arith, near u v r h, fewUnits))
+        all = visited-all final (λ u v r h. let b = last-short e u (link-below site u v r .0) h in omega (
+          arith,
+          near u v r h,
+          fewUnits,
+        ))
 
 -- in a breadth-first forest neither end of a link off the tree is an ancestor of the other
-pub off-unrelated : {n m : ℕ} {ends color parent : List ℕ} {d : ℕ → ℕ} {u v : ℕ} → Site n m ends → Leveled m ends d → Rooted n m ends color parent d
+pub off-unrelated : {n m : ℕ} {ends color parent : List ℕ} {d : ℕ → ℕ} {u v : ℕ} → Site n m ends → Leveled m ends d →
+    Rooted n m ends color parent d
     → OffTree (Link m ends) (at parent) d u v → (Anc (at parent) d u v → ⊥) × (Anc (at parent) d v u → ⊥)
 off-unrelated {d = d} {u} {v} site level rooted off = (
   λ a. off .off (inr (anc-near (rooted .forest) a apart (level u v (off .link)))),
-  λ a. off .off (inl (anc-near (rooted .forest) a (λ e. apart (sym e)) (level v u (site-graph site .flip u v (off .link))))),
+  λ a. off .off (inl (anc-near (rooted .forest) a (λ e. apart (sym e))
+      (level v u (site-graph site .flip u v (off .link))))),
 )
   where
     apart : u ≢ v

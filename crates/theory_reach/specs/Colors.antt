@@ -1,5 +1,5 @@
--- Stage 1: after the first round and while rounds go on, a unit's color is the least unit within as many links as rounds were made; the stage ends
--- before its ceiling, and then a color is the least unit of its component.
+-- Stage 1: after the first round and while rounds go on, a unit's color is the least unit within as many links as
+-- rounds were made; the stage ends before its ceiling, and then a color is the least unit of its component.
 use mathlib.Core.Path.{_≡_, refl, sym, ap, _∙_}
 use mathlib.Core.Bool.{Bool, true, false, cond}
 use mathlib.Core.Logic.{_↔_, _⊎_, inl, inr, _≢_}
@@ -23,7 +23,8 @@ use Rattle.spec_rules.specs.Basics.{at, heard}
 use Rattle.spec_rules.specs.Components.{leastHeard, colorRound, colorEnds}
 use Rattle.theory_graph.specs.Rings.{Connected}
 use Rattle.theory_graph.specs.Walks.{walk-map}
-use Rattle.theory_graph.specs.Propagation.{Near, Rounds, Still, changed, reached-picked, value-reached, still-on, still-least, still-classes, still-own}
+use Rattle.theory_graph.specs.Propagation.{Near, Rounds, Still, changed, reached-picked, value-reached, still-on}
+use Rattle.theory_graph.specs.Propagation.{still-least, still-classes, still-own}
 use Rattle.theory_reach.specs.Site.{Site, Link, link-below, site-graph}
 
 -- what v hears over a link of a and b, where f w is the value of w
@@ -33,7 +34,8 @@ heardOf f a b v = cond (eqb a v) (f b) (cond (eqb b v) (f a) (f v))
 -- the color of v after k rounds, as a function of the links alone
 unfoldable pub colorAfter : ℕ → List ℕ → ℕ → ℕ → ℕ
 colorAfter m ends zero v = v
-colorAfter m ends (suc k) v = least m (λ (j : ℕ). heardOf (colorAfter m ends k) (endA ends j) (endB ends j) v) (colorAfter m ends k v)
+colorAfter m ends (suc k) v = least m (λ (j : ℕ). heardOf (colorAfter m ends k) (endA ends j) (endB ends j) v)
+    (colorAfter m ends k v)
 
 -- the table of colors after k rounds
 pub record ColorsAt (n m : ℕ) (ends color : List ℕ) (k : ℕ) : Type 0 where
@@ -76,7 +78,8 @@ module _ {n m : ℕ} {ends : List ℕ} (site : Site n m ends) where
       b : ℕ
       b = endB ends j
 
-      go : (eqb a v ≡ true) ⊎ (eqb a v ≡ false) → (eqb b v ≡ true) ⊎ (eqb b v ≡ false) → OneOf n m ends f v (heardOf f a b v)
+      go : (eqb a v ≡ true) ⊎ (eqb a v ≡ false) → (eqb b v ≡ true) ⊎ (eqb b v ≡ false) →
+          OneOf n m ends f v (heardOf f a b v)
       go (inl p) q = inr (b, unit b (site .belowB j l), (j, l, inl (eqb-true a v p, refl)), rw p refl)
       go (inr p) (inl q) = inr (a, unit a (site .belowA j l), (j, l, inr (refl, eqb-true b v q)), rw (p, q) refl)
       go (inr p) (inr q) = inl (rw (p, q) refl)
@@ -91,19 +94,23 @@ module _ {n m : ℕ} {ends : List ℕ} (site : Site n m ends) where
       own : (k v : ℕ) → Picked all n v → colorAfter m ends (suc k) v ≤ colorAfter m ends k v
       own k v h = least-start m (said k v) (colorAfter m ends k v)
 
-      near : (k v w : ℕ) → Picked all n v → Picked all n w → Link m ends v w → colorAfter m ends (suc k) v ≤ colorAfter m ends k w
+      near : (k v w : ℕ) → Picked all n v → Picked all n w → Link m ends v w →
+          colorAfter m ends (suc k) v ≤ colorAfter m ends k w
       near k v w hv hw (j, l, e) =
-          rw (hears (colorAfter m ends k) (endA ends j) (endB ends j) v w e (site .differ j l)) at (least-le m (said k v) (colorAfter m ends k v) j l)
+          rw (hears (colorAfter m ends k) (endA ends j) (endB ends j) v w e (site .differ j l)) at
+          (least-le m (said k v) (colorAfter m ends k v) j l)
 
       attained : (k v : ℕ) → Picked all n v → OneOf n m ends (colorAfter m ends k) v (colorAfter m ends (suc k) v)
       attained k v h = go (least-is m (said k v) (colorAfter m ends k v))
         where
-          go : (colorAfter m ends (suc k) v ≡ colorAfter m ends k v) ⊎ ((j : ℕ) × (j < m) × (colorAfter m ends (suc k) v ≡ said k v j))
+          go : (colorAfter m ends (suc k) v ≡ colorAfter m ends k v)
+              ⊎ ((j : ℕ) × (j < m) × (colorAfter m ends (suc k) v ≡ said k v j))
               → OneOf n m ends (colorAfter m ends k) v (colorAfter m ends (suc k) v)
           go (inl e) = inl e
           go (inr (j, l, e)) = by (heard-is (colorAfter m ends k) j v l)
             where
-              by : OneOf n m ends (colorAfter m ends k) v (said k v j) → OneOf n m ends (colorAfter m ends k) v (colorAfter m ends (suc k) v)
+              by : OneOf n m ends (colorAfter m ends k) v (said k v j) →
+                  OneOf n m ends (colorAfter m ends k) v (colorAfter m ends (suc k) v)
               by (inl f) = inl (e ∙ f)
               by (inr (w, hw, r, f)) = inr (w, hw, r, e ∙ f)
 
@@ -111,18 +118,27 @@ module _ {n m : ℕ} {ends : List ℕ} (site : Site n m ends) where
   spread : {said : List ℕ} {k : ℕ} → ColorsAt n m ends said k → (color : List ℕ) → n ≤ length color
       → ColorsAt n m ends (over n (leastHeard m ends said) color) (suc k)
   unfolding colorAfter leastHeard
-  spread {said} {k} at-k color long = record { room = rw (length-over n (leastHeard m ends said) color) long; values = values }
+  spread {said} {k} at-k color long = record {
+    room = rw (length-over n (leastHeard m ends said) color) long;
+    values = values;
+  }
     where
       -- all that a unit hears stands below n
-      hear : (v j : ℕ) → v < n → j < m → heard said (endA ends j) (endB ends j) v ≡ heardOf (colorAfter m ends k) (endA ends j) (endB ends j) v
+      hear : (v j : ℕ) → v < n → j < m →
+          heard said (endA ends j) (endB ends j) v ≡ heardOf (colorAfter m ends k) (endA ends j) (endB ends j) v
       hear v j h l =
-          rw (at-k .values (endA ends j) (site .belowA j l), at-k .values (endB ends j) (site .belowB j l), at-k .values v h) refl
+          rw (
+            at-k .values (endA ends j) (site .belowA j l),
+            at-k .values (endB ends j) (site .belowB j l),
+            at-k .values v h,
+          ) refl
 
       values : (v : ℕ) → v < n → at (over n (leastHeard m ends said) color) v ≡ colorAfter m ends (suc k) v
       values v h =
           let heards : ℕ → ℕ = λ j. heardOf (colorAfter m ends k) (endA ends j) (endB ends j) v in
           getD-over n (leastHeard m ends said) color v 0 h (le-trans h long)
-          ∙ fold-cong min m (λ (j : ℕ). heard said (endA ends j) (endB ends j) v) heards (at said v) (λ j l. hear v j h l)
+          ∙ fold-cong min m (λ (j : ℕ). heard said (endA ends j) (endB ends j) v) heards (at said v)
+          (λ j l. hear v j h l)
           ∙ ap (λ (x : ℕ). least m heards x) (at-k .values v h)
 
   pub first : (color : List ℕ) → n ≤ length color → ColorsAt n m ends (colorRound n m 0 ends color) 1
@@ -130,14 +146,18 @@ module _ {n m : ℕ} {ends : List ℕ} (site : Site n m ends) where
   first color long = spread {k = 0} said color long
     where
       said : ColorsAt n m ends (over n (λ (v : ℕ). v) color) 0
-      said = record { room = rw (length-over n (λ (v : ℕ). v) color) long; values = λ v h. getD-over n (λ (v : ℕ). v) color v 0 h (omega arith) }
+      said = record {
+        room = rw (length-over n (λ (v : ℕ). v) color) long;
+        values = λ v h. getD-over n (λ (v : ℕ). v) color v 0 h (omega arith);
+      }
 
   -- the first round never ends the stage
   pub first-goes-on : (before after : List ℕ) → colorEnds n 0 before after ≡ false
   unfolding colorEnds
   first-goes-on before after = refl
 
-  pub next : {color : List ℕ} {k : ℕ} → ColorsAt n m ends color k → 1 ≤ k → ColorsAt n m ends (colorRound n m k ends color) (suc k)
+  pub next : {color : List ℕ} {k : ℕ} → ColorsAt n m ends color k → 1 ≤ k →
+      ColorsAt n m ends (colorRound n m k ends color) (suc k)
   unfolding colorRound
   next {color} {k} at-k h = rw (ne-eqb k 0 (λ e. omega arith)) (spread at-k color (at-k .room))
 
@@ -148,8 +168,14 @@ module _ {n m : ℕ} {ends : List ℕ} (site : Site n m ends) where
   plain {v} {w} (l, r) = (l, (walk-map (Near all n (Link m ends)) (Link m ends) v l (λ a b s h. h .1) (r .0), r .1))
 
   near : {v w : ℕ} → Connected (Link m ends) v w → Connected (Near all n (Link m ends)) v w
-  near {v} {w} (l, r) =
-      (l, (walk-map (Link m ends) (Near all n (Link m ends)) v l (λ a b s h. (unit b (link-below site a b h .1), h)) (r .0), r .1))
+  near {v} {w} (l, r) = (
+    l,
+    (
+      walk-map (Link m ends) (Near all n (Link m ends)) v l (λ a b s h. (unit b (link-below site a b h .1), h))
+          (r .0),
+      r .1,
+    ),
+  )
 
   module _ {color : List ℕ} {k : ℕ} (at-k : ColorsAt n m ends color k) (later : 1 ≤ k) where
     after : ColorsAt n m ends (colorRound n m k ends color) (suc k)
@@ -171,13 +197,16 @@ module _ {n m : ℕ} {ends : List ℕ} (site : Site n m ends) where
 
     still : colorEnds n k color (colorRound n m k ends color) ≡ true → Still all n (colorAfter m ends) k
     still e v h =
-        let same = agree-at n color (colorRound n m k ends color) 0 (at-k .room) (after .room) (sym ends-agree ∙ e) v (h .below) in
+        let same = agree-at n color (colorRound n m k ends color) 0 (at-k .room) (after .room) (sym ends-agree
+        ∙ e) v (h .below) in
         sym (after .values v (h .below)) ∙ sym same ∙ at-k .values v (h .below)
 
     pub done : colorEnds n k color (colorRound n m k ends color) ≡ true → Colored n m ends (colorRound n m k ends color)
     done e =
         record {
-          below = λ v l. rw (after .values v l) (reached-picked all n (Link m ends) v (value v) (unit v l) (value-reached rounds (suc k) v (unit v l)) .below);
+          below = λ v l. rw (after .values v l)
+              (reached-picked all n (Link m ends) v (value v) (unit v l)
+              (value-reached rounds (suc k) v (unit v l)) .below);
           reached = λ v l. rw (after .values v l) (plain (value-reached rounds (suc k) v (unit v l)));
           lowest = λ v w l c. rw (after .values v l) (still-least rounds (suc k) st v w (unit v l) (near c));
           same = same;
@@ -193,12 +222,17 @@ module _ {n m : ℕ} {ends : List ℕ} (site : Site n m ends) where
         both : (v w : ℕ) → Picked all n v → Picked all n w → Link m ends v w → Link m ends w v
         both v w pv pw r = site-graph site .flip v w r
 
-        same : (v w : ℕ) → v < n → w < n → (at (colorRound n m k ends color) v ≡ at (colorRound n m k ends color) w) ↔ Connected (Link m ends) v w
+        same : (v w : ℕ) → v < n → w < n →
+            (at (colorRound n m k ends color) v ≡ at (colorRound n m k ends color) w) ↔ Connected (Link m ends) v w
         same v w lv lw =
-            let classes = still-classes rounds (suc k) st both v w (unit v lv) (unit w lw) in
-            (λ h. plain (classes .0 (sym (after .values v lv) ∙ h ∙ after .values w lw)), λ c. after .values v lv ∙ classes .1 (near c) ∙ sym (after .values w lw))
+            let classes = still-classes rounds (suc k) st both v w (unit v lv) (unit w lw) in (
+              λ h. plain (classes .0 (sym (after .values v lv) ∙ h ∙ after .values w lw)),
+              λ c. after .values v lv ∙ classes .1 (near c) ∙ sym (after .values w lw),
+            )
 
-        own : (v : ℕ) → v < n → at (colorRound n m k ends color) (at (colorRound n m k ends color) v) ≡ at (colorRound n m k ends color) v
+        own : (v : ℕ) → v < n → at (colorRound n m k ends color) (at (colorRound n m k ends color) v)
+            ≡ at (colorRound n m k ends color) v
         own v l =
-            let b : value v < n = reached-picked all n (Link m ends) v (value v) (unit v l) (value-reached rounds (suc k) v (unit v l)) .below in
+            let b : value v < n = reached-picked all n (Link m ends) v (value v) (unit v l)
+            (value-reached rounds (suc k) v (unit v l)) .below in
             rw (after .values v l) (after .values (value v) b ∙ still-own rounds (suc k) st both v (unit v l))

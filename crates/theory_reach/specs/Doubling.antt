@@ -1,5 +1,5 @@
--- List ranking by doubling, once for all lengths and both rankings. No list is built: R a is how far object a stands from the head of its list
--- (the head at 1), and S a is the sum up to it.
+-- List ranking by doubling, once for all lengths and both rankings. No list is built: R a is how far object a stands
+-- from the head of its list (the head at 1), and S a is the sum up to it.
 use mathlib.Core.Path.{_≡_, refl, sym, _∙_}
 use mathlib.Core.Bool.{Bool, true, false, _&&_}
 use mathlib.Core.Logic.{_⊎_, inl, inr, _↔_}
@@ -19,7 +19,8 @@ use Rattle.base_log2.specs.Lg.{lg, lgFrom}
 use Rattle.base_log2.specs.LgLaws.{lg-reaches, lg-least}
 use Rattle.spec_rules.specs.Basics.{ABSENT, MAX-NUMBER, at, bounded}
 use Rattle.spec_rules.specs.Ranking.{asks, sumRound, jumpRound, requestsOf, rankingEnds}
-use Rattle.spec_rules.specs.RankingLaws.{length-jumps, length-sums, silent, asking, jump-kept, jump-taken, sum-kept, sum-taken, sums-still}
+use Rattle.spec_rules.specs.RankingLaws.{length-jumps, length-sums, silent, asking, jump-kept, jump-taken, sum-kept}
+use Rattle.spec_rules.specs.RankingLaws.{sum-taken, sums-still}
 
 -- what is assumed of the objects 0 .. K − 1: no sum leaves its bound, so none is clamped
 pub record Potential (K : ℕ) (R S : ℕ → ℕ) : Type 0 where
@@ -59,7 +60,8 @@ start K R S jump sum p q h = record { manyJumps = p; manySums = q; object = λ (
 abbrev pub asked : ℕ → (ℕ → ℕ) → ℕ → ℕ
 asked K R k = total k (λ (i : ℕ). count K (λ (a : ℕ). ltb (2 ^ i) (R a)))
 
-module _ {K : ℕ} {R S : ℕ → ℕ} (potential : Potential K R S) {jump sum : List ℕ} {k : ℕ} (ranked : Ranked K R S jump sum k) where
+module _ {K : ℕ} {R S : ℕ → ℕ} (potential : Potential K R S) {jump sum : List ℕ} {k : ℕ}
+    (ranked : Ranked K R S jump sum k) where
   -- ---- a round
 
   pub next : Ranked K R S (jumpRound K jump) (sumRound K jump sum) (suc k)
@@ -76,19 +78,29 @@ module _ {K : ℕ} {R S : ℕ → ℕ} (potential : Potential K R S) {jump sum :
       added a l h = sum-taken K jump sum a l (ranked .manySums) (omega (arith, potential .few))
 
       -- the predecessor has reached the head, or has a predecessor of its own
-      taken : (a : ℕ) → a < K → Ahead K R S jump sum k a → Reached R S jump sum k (at jump a) ⊎ Ahead K R S jump sum k (at jump a)
-          → Reached R S (jumpRound K jump) (sumRound K jump sum) (suc k) a ⊎ Ahead K R S (jumpRound K jump) (sumRound K jump sum) (suc k) a
+      taken : (a : ℕ) → a < K → Ahead K R S jump sum k a →
+          Reached R S jump sum k (at jump a) ⊎ Ahead K R S jump sum k (at jump a)
+          → Reached R S (jumpRound K jump) (sumRound K jump sum) (suc k) a
+          ⊎ Ahead K R S (jumpRound K jump) (sumRound K jump sum) (suc k) a
       taken a l w (inl o) =
-          inl
-          (moved a l (w .0) ∙ o .0, omega (arith, w .1, o .1), omega (arith, added a l (w .0), w .2, o .2, potential .small a l))
+          inl (
+            moved a l (w .0) ∙ o .0,
+            omega (arith, w .1, o .1),
+            omega (arith, added a l (w .0), w .2, o .2, potential .small a l),
+          )
       taken a l w (inr o) =
           rw (moved a l (w .0))
           (inr (o .0, omega (arith, w .1, o .1), omega (arith, added a l (w .0), w .2, o .2, potential .small a l)))
 
       entry : (a : ℕ) → a < K → Reached R S jump sum k a ⊎ Ahead K R S jump sum k a
-          → Reached R S (jumpRound K jump) (sumRound K jump sum) (suc k) a ⊎ Ahead K R S (jumpRound K jump) (sumRound K jump sum) (suc k) a
+          → Reached R S (jumpRound K jump) (sumRound K jump sum) (suc k) a
+          ⊎ Ahead K R S (jumpRound K jump) (sumRound K jump sum) (suc k) a
       entry a l (inl w) =
-          inl (jump-kept K jump a l (ranked .manyJumps) (w .0) ∙ w .0, omega (arith, w .1), sum-kept K jump sum a l (ranked .manySums) (w .0) ∙ w .2)
+          inl (
+            jump-kept K jump a l (ranked .manyJumps) (w .0) ∙ w .0,
+            omega (arith, w .1),
+            sum-kept K jump sum a l (ranked .manySums) (w .0) ∙ w .2,
+          )
       entry a l (inr w) = taken a l w (ranked .object (at jump a) (w .0))
 
   -- ---- requests
@@ -121,8 +133,12 @@ module _ {K : ℕ} {R S : ℕ → ℕ} (potential : Potential K R S) {jump sum :
       go (yes h) = h
       go (no h) =
           absurd
-          (omega
-          (arith, requests, eqb-true (requestsOf K jump) 0 e, count-positive K (λ (b : ℕ). ltb (2 ^ k) (R b)) a l (lt-ltb (2 ^ k) (R a) (omega arith))))
+          (omega (
+            arith,
+            requests,
+            eqb-true (requestsOf K jump) 0 e,
+            count-positive K (λ (b : ℕ). ltb (2 ^ k) (R b)) a l (lt-ltb (2 ^ k) (R a) (omega arith)),
+          ))
 
   within-ends : ((a : ℕ) → a < K → R a ≤ 2 ^ k) → rankingEnds K jump ≡ true
   unfolding rankingEnds
@@ -159,10 +175,12 @@ module _ {K : ℕ} {R S : ℕ → ℕ} (potential : Potential K R S) {jump sum :
       go (no n) = omega arith
       go (yes l) =
           let power : 2 ^ lg L ≤ 2 ^ k = pow-mono l in
-          absurd (not-both (rankingEnds K jump) (within-ends (λ (a : ℕ) (b : a < K). omega (arith, h a b, lg-reaches L))) e)
+          absurd (not-both (rankingEnds K jump)
+          (within-ends (λ (a : ℕ) (b : a < K). omega (arith, h a b, lg-reaches L))) e)
 
   -- exactly lg(L) rounds have requests, where L is the longest list
-  pub ranking-rounds : (L : ℕ) → ((a : ℕ) → a < K → R a ≤ L) → (a : ℕ) → a < K → R a ≡ L → (rankingEnds K jump ≡ true) ↔ (lg L ≤ k)
+  pub ranking-rounds : (L : ℕ) → ((a : ℕ) → a < K → R a ≤ L) → (a : ℕ) → a < K → R a ≡ L →
+      (rankingEnds K jump ≡ true) ↔ (lg L ≤ k)
   ranking-rounds L h a l q = (
     λ (e : rankingEnds K jump ≡ true). lg-least L k (omega (arith, ends-within e a l)),
     λ (e : lg L ≤ k).
@@ -199,7 +217,11 @@ most-le k = go (most-total k)
 asked-le : (K A : ℕ) (R : ℕ → ℕ) → A ≤ 510
     → ((x : ℕ) → 1 ≤ x → (a : ℕ) → a < K → x < R a → count K (λ (b : ℕ). ltb x (R b)) + x ≤ A)
     → (k : ℕ) → asked K R k ≤ 4079
-asked-le K A R h within k = omega (arith, most-le k, sum-le k past most (λ (i : ℕ) (l : i < k). each i (count-some K (λ (a : ℕ). ltb (2 ^ i) (R a)))))
+asked-le K A R h within k = omega (
+  arith,
+  most-le k,
+  sum-le k past most (λ (i : ℕ) (l : i < k). each i (count-some K (λ (a : ℕ). ltb (2 ^ i) (R a)))),
+)
   where
     past : ℕ → ℕ
     past i = count K (λ (a : ℕ). ltb (2 ^ i) (R a))
@@ -211,7 +233,8 @@ asked-le K A R h within k = omega (arith, most-le k, sum-le k past most (λ (i :
     each i (inl w) = omega (arith, within (2 ^ i) (pow-pos i) (w .0) (w .1) (ltb-true (2 ^ i) (R (w .0)) (w .2)))
     each i (inr w) = omega (arith, w .0)
 
--- where the objects that p picks hold all that stand past 1, and behind each of those another, there are x of them within x
+-- where the objects that p picks hold all that stand past 1, and behind each of those another, there are x of them
+-- within x
 module _ (K : ℕ) (R : ℕ → ℕ) (p : ℕ → Bool)
     (behind : (a : ℕ) → a < K → 1 < R a → (p a ≡ true) × ((b : ℕ) × (b < K) × (p b ≡ true) × (suc (R b) ≡ R a))) where
   -- every distance up to that of a is some object's
@@ -230,14 +253,17 @@ module _ (K : ℕ) (R : ℕ → ℕ) (p : ℕ → Bool)
         arith,
         within-count x (λ (y : ℕ) (h : 1 ≤ y) (l : y ≤ x). each y h (omega arith)),
         at-level (each (suc x) (omega arith) (omega arith)),
-        count-apart K (λ (b : ℕ). p b && leb (R b) x) (λ (b : ℕ). p b && eqb (R b) (suc x)) (λ (b : ℕ). p b && leb (R b) (suc x)) below level,
+        count-apart K (λ (b : ℕ). p b && leb (R b) x) (λ (b : ℕ). p b && eqb (R b) (suc x))
+            (λ (b : ℕ). p b && leb (R b) (suc x)) below level,
       )
     where
       at-level : (b : ℕ) × (b < K) × (p b ≡ true) × (R b ≡ suc x) → 1 ≤ count K (λ (b : ℕ). p b && eqb (R b) (suc x))
       at-level (b, l, e, q) =
-          count-positive K (λ (b : ℕ). p b && eqb (R b) (suc x)) b l (and-true (p b) (eqb (R b) (suc x)) e (eq-eqb (R b) (suc x) q))
+          count-positive K (λ (b : ℕ). p b && eqb (R b) (suc x)) b l
+          (and-true (p b) (eqb (R b) (suc x)) e (eq-eqb (R b) (suc x) q))
 
-      below : (b : ℕ) → b < K → (p b && leb (R b) x) ≡ true → ((p b && leb (R b) (suc x)) ≡ true) × ((p b && eqb (R b) (suc x)) ≡ false)
+      below : (b : ℕ) → b < K → (p b && leb (R b) x) ≡ true →
+          ((p b && leb (R b) (suc x)) ≡ true) × ((p b && eqb (R b) (suc x)) ≡ false)
       below b l e =
           let picked : p b ≡ true = and-left (p b) (leb (R b) x) e in
           let near : R b ≤ x = leb-true (R b) x (and-right (p b) (leb (R b) x) e) in
@@ -254,7 +280,8 @@ module _ (K : ℕ) (R : ℕ → ℕ) (p : ℕ → Bool)
       omega (
         arith,
         within-count x each,
-        count-apart K (λ (b : ℕ). ltb x (R b)) (λ (b : ℕ). p b && leb (R b) x) p far (λ (b : ℕ) (k : b < K). and-left (p b) (leb (R b) x)),
+        count-apart K (λ (b : ℕ). ltb x (R b)) (λ (b : ℕ). p b && leb (R b) x) p far
+            (λ (b : ℕ) (k : b < K). and-left (p b) (leb (R b) x)),
       )
     where
       each : (y : ℕ) → 1 ≤ y → y ≤ x → (b : ℕ) × (b < K) × (p b ≡ true) × (R b ≡ y)
@@ -323,4 +350,5 @@ five-sums : (a : ℕ) → a < 5
 five-sums = sums five-potential (next five-potential (next five-potential (next five-potential five-ranked))) ends
   where
     ends : rankingEnds 5 (jumpRound 5 (jumpRound 5 (jumpRound 5 five))) ≡ true
-    ends = within-ends five-potential (next five-potential (next five-potential (next five-potential five-ranked))) (λ (a : ℕ) (l : a < 5). omega arith)
+    ends = within-ends five-potential (next five-potential (next five-potential (next five-potential five-ranked)))
+        (λ (a : ℕ) (l : a < 5). omega arith)

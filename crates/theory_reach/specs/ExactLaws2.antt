@@ -1,5 +1,5 @@
--- The exact rules of stages 4 to 6 have the values of the rules: on predecessors that are there, sums that stay within their bound, and ranks of which
--- the two of a unit stand an even number apart.
+-- The exact rules of stages 4 to 6 have the values of the rules: on predecessors that are there, sums that stay within
+-- their bound, and ranks of which the two of a unit stand an even number apart.
 use mathlib.Core.Path.{_≡_, refl}
 use mathlib.Core.Bool.{true, false, cond}
 use mathlib.Core.Logic.{_⊎_, inl, inr}
@@ -15,7 +15,8 @@ use Rattle.spec_rules.specs.Basics.{ABSENT, MAX-NUMBER, at, bounded, isRoot}
 use Rattle.spec_rules.specs.BoundLaws.{Names}
 use Rattle.spec_rules.specs.Tour.{isInto}
 use Rattle.spec_rules.specs.Ranking.{asks, sumRound, jumpRound, requestsOf, rankingEnds}
-use Rattle.spec_rules.specs.Order.{reverseArc, forwardRound, descendants, ndRound, secondSums, secondJumps, placeOf, preRound}
+use Rattle.spec_rules.specs.Order.{reverseArc, forwardRound, descendants, ndRound, secondSums, secondJumps, placeOf}
+use Rattle.spec_rules.specs.Order.{preRound}
 use Rattle.theory_reach.specs.Partial
 use Rattle.theory_reach.specs.Partial.{read, minus, half, both, nots, ands, ifs, counts, overs}
 use Rattle.theory_reach.specs.ExactRules
@@ -51,9 +52,11 @@ module _ (k : ℕ) (jump : List ℕ) where
         (λ a l. ifs (ask a l) (added a l) (λ q. read k sum refl l))
       where
         added : (a : ℕ) → a < k → asks jump a ≡ true
-            → Partial.plus? (Partial.at? k sum (some a)) (Partial.at? k sum (Partial.at? k jump (some a))) ≡ some (bounded (at sum a + at sum (at jump a)))
+            → Partial.plus? (Partial.at? k sum (some a)) (Partial.at? k sum (Partial.at? k jump (some a)))
+            ≡ some (bounded (at sum a + at sum (at jump a)))
         added a l q =
-            let b : bounded (at sum a + at sum (at jump a)) ≡ at sum a + at sum (at jump a) = omega (arith, small a l q) in
+            let b : bounded (at sum a + at sum (at jump a)) ≡ at sum a + at sum (at jump a) =
+            omega (arith, small a l q) in
             rw b (both _+_ (read k sum refl l) (read k sum (read k jump refl l) (names a l q)))
 
 -- ---- stage 5
@@ -70,18 +73,22 @@ reverse n a l = (ifs (into refl) (λ q. both _+_ refl refl) (λ q. minus refl re
     go (inr t) = rw t (omega arith)
 
 module _ (n : ℕ) (parent : List ℕ) (few : n ≤ ABSENT) (names : (v : ℕ) → v < n → Names n (at parent v)) where
-  pub forward-round : (rank forward : List ℕ) → ExactRules.forwardRound? n parent rank forward ≡ some (forwardRound n parent rank forward)
+  pub forward-round : (rank forward : List ℕ) →
+      ExactRules.forwardRound? n parent rank forward ≡ some (forwardRound n parent rank forward)
   unfolding ExactRules.forwardRound? forwardRound
   forward-round rank forward =
       overs (2 * n) _ _ forward
       (λ a l.
       marked
-      (ands (arc n parent few names a l) (λ q. both ltb (read (2 * n) rank refl l) (read (2 * n) rank (reverse n a l .0) (reverse n a l .1)))))
+      (ands (arc n parent few names a l)
+      (λ q. both ltb (read (2 * n) rank refl l) (read (2 * n) rank (reverse n a l .0) (reverse n a l .1)))))
 
-  pub second-sums : (forward sum : List ℕ) → ExactRules.secondSums? n parent forward sum ≡ some (secondSums n parent forward sum)
+  pub second-sums : (forward sum : List ℕ) →
+      ExactRules.secondSums? n parent forward sum ≡ some (secondSums n parent forward sum)
   unfolding ExactRules.secondSums? secondSums
   second-sums forward sum =
-      overs (2 * n) _ _ sum (λ a l. marked (ands (arc n parent few names a l) (λ q. nots (both eqb (read (2 * n) forward refl l) refl))))
+      overs (2 * n) _ _ sum (λ a l. marked
+      (ands (arc n parent few names a l) (λ q. nots (both eqb (read (2 * n) forward refl l) refl))))
 
   pub second-jumps : (pred jump : List ℕ) → ExactRules.secondJumps? n pred jump ≡ some (secondJumps n pred jump)
   unfolding ExactRules.secondJumps? secondJumps
@@ -97,11 +104,13 @@ module _ (n : ℕ) (parent : List ℕ) (few : n ≤ ABSENT) (names : (v : ℕ) �
         overs n _ (descendants n color parent rank) nd
         (λ v l.
         ifs (root n parent refl l)
-        (λ q. counts n _ (λ (w : ℕ). eqb (at color w) (at color v)) (λ w k. both eqb (read n color refl k) (read n color refl l)))
+        (λ q. counts n _ (λ (w : ℕ). eqb (at color w) (at color v))
+        (λ w k. both eqb (read n color refl k) (read n color refl l)))
         (λ q.
         let x = even v l q in
         half ((at rank (2 * v + 1) + 1 - at rank (2 * v)) / 2)
-        (minus (both _+_ (read (2 * n) rank (both _+_ (both _*_ refl refl) refl) (omega arith)) refl) (read (2 * n) rank (both _*_ refl refl) (omega arith)) (omega (arith, x .1)))
+        (minus (both _+_ (read (2 * n) rank (both _+_ (both _*_ refl refl) refl) (omega arith)) refl)
+        (read (2 * n) rank (both _*_ refl refl) (omega arith)) (omega (arith, x .1)))
         (omega (arith, x .1))))
 
     -- places that stay within their bound
@@ -112,7 +121,11 @@ module _ (n : ℕ) (parent : List ℕ) (few : n ≤ ABSENT) (names : (v : ℕ) �
       where
         place : (v : ℕ) → v < n → ExactRules.placeOf? n color parent sum (some v) ≡ some (placeOf n color parent sum v)
         place v l =
-            let b : placeOf n color parent sum v ≡ cond (isRoot parent v) 0 (at sum (2 * v)) + count n (λ (w : ℕ). ltb (at color w) (at color v)) = omega (arith, small v l) in
+            let b : placeOf n color parent sum v
+            ≡ cond (isRoot parent v) 0 (at sum (2 * v)) + count n (λ (w : ℕ). ltb (at color w) (at color v)) =
+            omega (arith, small v l) in
             rw b
-            (both _+_ (ifs (root n parent refl l) (λ q. refl) (λ q. read (2 * n) sum (both _*_ refl refl) (omega arith)))
-            (counts n _ (λ (w : ℕ). ltb (at color w) (at color v)) (λ w k. both ltb (read n color refl k) (read n color refl l))))
+            (both _+_ (ifs (root n parent refl l) (λ q. refl)
+            (λ q. read (2 * n) sum (both _*_ refl refl) (omega arith)))
+            (counts n _ (λ (w : ℕ). ltb (at color w) (at color v))
+            (λ w k. both ltb (read n color refl k) (read n color refl l))))

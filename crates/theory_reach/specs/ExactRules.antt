@@ -1,6 +1,7 @@
--- The rules of the ten stages where the three things that document 01 settles for other states cannot pass unseen: a read at an absent or missing place
--- and half of an odd number have no value, and numbers have no bound. Tables by unit or by place are read below n, by arc below 2n, by link below m,
--- and the ends below 2m. To be read beside `spec_rules`: each word stands under its name there, with a question mark.
+-- The rules of the ten stages where the three things that document 01 settles for other states cannot pass unseen: a
+-- read at an absent or missing place and half of an odd number have no value, and numbers have no bound. Tables by unit
+-- or by place are read below n, by arc below 2n, by link below m, and the ends below 2m. To be read beside
+-- `spec_rules`: each word stands under its name there, with a question mark.
 use mathlib.Core.Bool.{cond}
 use mathlib.Core.Option.{Option, none, some, Option·map}
 use mathlib.Core.List.{List}
@@ -10,7 +11,8 @@ use lib.IntN.{ℤ}
 use Rattle.spec_rules.specs.Components.{colorSaid}
 use Rattle.spec_rules.specs.Tree.{levelAt, Neighbor, NOBODY, prefer}
 use Rattle.spec_rules.specs.Aux.{auxSaid}
-use Rattle.theory_reach.specs.Partial.{Value, Test, absent, at?, half?, minus?, both?, plus?, times?, remainder?, eq?, lt?, le?, not?, and?, or?, if?, fold?, least?, count?, any?, over?}
+use Rattle.theory_reach.specs.Partial.{Value, Test, absent, at?, half?, minus?, both?, plus?, times?, remainder?}
+use Rattle.theory_reach.specs.Partial.{eq?, lt?, le?, not?, and?, or?, if?, fold?, least?, count?, any?, over?}
 
 -- ---- what the stages share
 
@@ -36,7 +38,8 @@ mark? t = if? t (some 1) (some 0)
 -- ---- stage 1
 
 unfoldable pub leastHeard? : ℕ → ℕ → List ℕ → List ℕ → Value → Value
-leastHeard? n m ends value v = least? m (λ (j : Value). heard? n value (endA? m ends j) (endB? m ends j) v) (at? n value v)
+leastHeard? n m ends value v = least? m (λ (j : Value). heard? n value (endA? m ends j) (endB? m ends j) v)
+    (at? n value v)
 
 unfoldable pub colorRound? : ℕ → ℕ → ℕ → List ℕ → List ℕ → Option (List ℕ)
 colorRound? n m made ends color = over? n (leastHeard? n m ends (colorSaid n made color)) color
@@ -51,33 +54,40 @@ levelAt? m levels none = none
 levelAt? m levels (some j) = cond (ltb j m) (some (levelAt levels j)) none
 
 unfoldable pub prefer? : Option Neighbor → Option ℤ → Value → Option Neighbor
-prefer? best z w = both? (λ (b new : Neighbor). prefer b (new .level) (new .unit)) best (both? (λ (y : ℤ) (u : ℕ). record { level = y; unit = u }) z w)
+prefer? best z w = both? (λ (b new : Neighbor). prefer b (new .level) (new .unit)) best
+    (both? (λ (y : ℤ) (u : ℕ). record { level = y; unit = u }) z w)
 
 unfoldable pub overLink? : (Value → Test) → Option ℤ → Value → Value → Value → Option Neighbor → Option Neighbor
-overLink? passes z a b v best = if? (and? (eq? a v) (passes b)) (prefer? best z b) (if? (and? (eq? b v) (passes a)) (prefer? best z a) best)
+overLink? passes z a b v best = if? (and? (eq? a v) (passes b)) (prefer? best z b)
+    (if? (and? (eq? b v) (passes a)) (prefer? best z a) best)
 
 -- over the first k of the m links
 unfoldable pub bestNeighbor? : ℕ → (Value → Test) → ℕ → List ℕ → List ℤ → Value → Option Neighbor
 bestNeighbor? m passes zero ends levels v = some NOBODY
 bestNeighbor? m passes (suc k) ends levels v =
-    overLink? passes (levelAt? m levels (some k)) (endA? m ends (some k)) (endB? m ends (some k)) v (bestNeighbor? m passes k ends levels v)
+    overLink? passes (levelAt? m levels (some k)) (endA? m ends (some k)) (endB? m ends (some k)) v
+    (bestNeighbor? m passes k ends levels v)
 
 unfoldable pub chosenParent? : ℕ → ℕ → ℕ → List ℕ → List ℤ → List ℕ → Value → Value
-chosenParent? n m made ends levels dist v = Option·map (λ (best : Neighbor). best .unit) (bestNeighbor? m (visitedBefore? n made dist) m ends levels v)
+chosenParent? n m made ends levels dist v =
+    Option·map (λ (best : Neighbor). best .unit) (bestNeighbor? m (visitedBefore? n made dist) m ends levels v)
 
 unfoldable pub visits? : ℕ → ℕ → ℕ → List ℕ → List ℤ → List ℕ → List ℕ → Value → Test
 visits? n m made ends levels color dist v =
-    cond (eqb made 0) (eq? (at? n color v) v) (and? (eq? (at? n dist v) absent) (not? (eq? (chosenParent? n m made ends levels dist v) absent)))
+    cond (eqb made 0) (eq? (at? n color v) v)
+    (and? (eq? (at? n dist v) absent) (not? (eq? (chosenParent? n m made ends levels dist v) absent)))
 
 unfoldable pub parentRound? : ℕ → ℕ → ℕ → List ℕ → List ℤ → List ℕ → List ℕ → List ℕ → Option (List ℕ)
 parentRound? n m made ends levels color dist parent =
     over? n
     (λ (v : Value).
-    if? (visits? n m made ends levels color dist v) (cond (eqb made 0) absent (chosenParent? n m made ends levels dist v)) (at? n parent v))
+    if? (visits? n m made ends levels color dist v)
+    (cond (eqb made 0) absent (chosenParent? n m made ends levels dist v)) (at? n parent v))
     parent
 
 unfoldable pub distRound? : ℕ → ℕ → ℕ → List ℕ → List ℤ → List ℕ → List ℕ → Option (List ℕ)
-distRound? n m made ends levels color dist = over? n (λ (v : Value). if? (visits? n m made ends levels color dist v) (some made) (at? n dist v)) dist
+distRound? n m made ends levels color dist =
+    over? n (λ (v : Value). if? (visits? n m made ends levels color dist v) (some made) (at? n dist v)) dist
 
 unfoldable pub treeEnds? : ℕ → ℕ → ℕ → List ℕ → List ℤ → List ℕ → List ℕ → Test
 treeEnds? n m made ends levels color dist = not? (any? n (visits? n m made ends levels color dist))
@@ -117,10 +127,12 @@ unfoldable pub leastNeighbor? : ℕ → List ℕ → Value → Value
 leastNeighbor? n parent v = least? n (λ (w : Value). if? (treeNeighbor? n parent v w) w absent) absent
 
 unfoldable pub greaterNeighbor? : ℕ → List ℕ → Value → Value → Value
-greaterNeighbor? n parent v u = least? n (λ (w : Value). if? (and? (treeNeighbor? n parent v w) (lt? u w)) w absent) absent
+greaterNeighbor? n parent v u = least? n
+    (λ (w : Value). if? (and? (treeNeighbor? n parent v w) (lt? u w)) w absent) absent
 
 unfoldable pub neighborAfter? : ℕ → List ℕ → Value → Value → Value
-neighborAfter? n parent v u = if? (eq? (greaterNeighbor? n parent v u) absent) (leastNeighbor? n parent v) (greaterNeighbor? n parent v u)
+neighborAfter? n parent v u = if? (eq? (greaterNeighbor? n parent v u) absent) (leastNeighbor? n parent v)
+    (greaterNeighbor? n parent v u)
 
 unfoldable pub arcFrom? : ℕ → List ℕ → Value → Value → Value
 arcFrom? n parent v w = if? (eq? (at? n parent w) v) (times? (some 2) w) (plus? (times? (some 2) v) (some 1))
@@ -131,12 +143,14 @@ arcAfter? n parent u v = arcFrom? n parent v (neighborAfter? n parent v u)
 unfoldable pub follower? : ℕ → List ℕ → Value → Value
 follower? n parent a =
     if? (isArc? n parent a)
-    (if? (isInto? a) (arcAfter? n parent (at? n parent (arcUnit? a)) (arcUnit? a)) (arcAfter? n parent (arcUnit? a) (at? n parent (arcUnit? a))))
+    (if? (isInto? a) (arcAfter? n parent (at? n parent (arcUnit? a)) (arcUnit? a))
+    (arcAfter? n parent (arcUnit? a) (at? n parent (arcUnit? a))))
     absent
 
 unfoldable pub isStart? : ℕ → List ℕ → Value → Test
 isStart? n parent a =
-    and? (and? (isInto? a) (isRoot? n parent (at? n parent (arcUnit? a)))) (eq? (leastNeighbor? n parent (at? n parent (arcUnit? a))) (arcUnit? a))
+    and? (and? (isInto? a) (isRoot? n parent (at? n parent (arcUnit? a))))
+    (eq? (leastNeighbor? n parent (at? n parent (arcUnit? a))) (arcUnit? a))
 
 unfoldable pub predecessor? : ℕ → List ℕ → List ℕ → Value → Value
 predecessor? n parent next a =
@@ -189,7 +203,8 @@ unfoldable pub descendants? : ℕ → List ℕ → List ℕ → List ℕ → Val
 descendants? n color parent rank v =
     if? (isRoot? n parent v) (count? n (λ (w : Value). eq? (at? n color w) (at? n color v)))
     (half?
-    (minus? (plus? (at? (2 * n) rank (plus? (times? (some 2) v) (some 1))) (some 1)) (at? (2 * n) rank (times? (some 2) v))))
+    (minus? (plus? (at? (2 * n) rank (plus? (times? (some 2) v) (some 1))) (some 1))
+    (at? (2 * n) rank (times? (some 2) v))))
 
 unfoldable pub ndRound? : ℕ → List ℕ → List ℕ → List ℕ → List ℕ → Option (List ℕ)
 ndRound? n color parent rank nd = over? n (descendants? n color parent rank) nd
@@ -203,7 +218,8 @@ secondJumps? n pred jump = over? (2 * n) (at? (2 * n) pred) jump
 
 unfoldable pub placeOf? : ℕ → List ℕ → List ℕ → List ℕ → Value → Value
 placeOf? n color parent sum v =
-    plus? (if? (isRoot? n parent v) (some 0) (at? (2 * n) sum (times? (some 2) v))) (count? n (λ (w : Value). lt? (at? n color w) (at? n color v)))
+    plus? (if? (isRoot? n parent v) (some 0) (at? (2 * n) sum (times? (some 2) v)))
+    (count? n (λ (w : Value). lt? (at? n color w) (at? n color v)))
 
 unfoldable pub preRound? : ℕ → List ℕ → List ℕ → List ℕ → List ℕ → Option (List ℕ)
 preRound? n color parent sum pre = over? n (placeOf? n color parent sum) pre
@@ -212,7 +228,8 @@ preRound? n color parent sum pre = over? n (placeOf? n color parent sum) pre
 
 unfoldable pub placeHeard? : ℕ → ℕ → List ℕ → List ℕ → List ℕ → Value → Value → Value
 placeHeard? n m ends parent pre v j =
-    if? (offTree? n parent (endA? m ends j) (endB? m ends j)) (heard? n pre (endA? m ends j) (endB? m ends j) v) (at? n pre v)
+    if? (offTree? n parent (endA? m ends j) (endB? m ends j)) (heard? n pre (endA? m ends j) (endB? m ends j) v)
+    (at? n pre v)
 
 unfoldable pub localOf? : (ℕ → ℕ → ℕ) → ℕ → ℕ → List ℕ → List ℕ → List ℕ → Value → Value
 localOf? op n m ends parent pre v = fold? op m (placeHeard? n m ends parent pre v) (at? n pre v)
@@ -230,7 +247,8 @@ unfoldable pub globalFirst? : (ℕ → ℕ → ℕ) → ℕ → ℕ → List ℕ
 globalFirst? op n m ends parent pre global = over? n (localAt? op n m ends parent pre) global
 
 unfoldable pub rangeFirst? : (ℕ → ℕ → ℕ) → ℕ → ℕ → List ℕ → List ℕ → List ℕ → List ℕ → List ℕ → Option (List ℕ)
-rangeFirst? op n m ends parent nd pre range = over? n (λ (v : Value). localAt? op n m ends parent pre (lastPlace? n nd pre v)) range
+rangeFirst? op n m ends parent nd pre range =
+    over? n (λ (v : Value). localAt? op n m ends parent pre (lastPlace? n nd pre v)) range
 
 unfoldable pub littleFirst? : ℕ → List ℕ → List ℕ → Option (List ℕ)
 littleFirst? n pre little = over? n (at? n pre) little
@@ -248,7 +266,8 @@ unfoldable pub movesBig? : ℕ → ℕ → List ℕ → List ℕ → Value → T
 movesBig? i n little big v = and? (lt? (at? n little v) (at? n big v)) (odd? i (at? n big v))
 
 unfoldable pub withLittle? : (ℕ → ℕ → ℕ) → ℕ → ℕ → List ℕ → List ℕ → List ℕ → Value → Value → Value
-withLittle? op i n global little big v x = if? (movesLittle? i n little big v) (both? op x (at? n global (at? n little v))) x
+withLittle? op i n global little big v x =
+    if? (movesLittle? i n little big v) (both? op x (at? n global (at? n little v))) x
 
 unfoldable pub withBig? : (ℕ → ℕ → ℕ) → ℕ → ℕ → List ℕ → List ℕ → List ℕ → Value → Value → Value
 withBig? op i n global little big v x =
@@ -256,11 +275,13 @@ withBig? op i n global little big v x =
 
 unfoldable pub rangeLater? : (ℕ → ℕ → ℕ) → ℕ → ℕ → List ℕ → List ℕ → List ℕ → List ℕ → Option (List ℕ)
 rangeLater? op i n global little big range =
-    over? n (λ (v : Value). withBig? op i n global little big v (withLittle? op i n global little big v (at? n range v))) range
+    over? n (λ (v : Value). withBig? op i n global little big v
+    (withLittle? op i n global little big v (at? n range v))) range
 
 unfoldable pub littleLater? : ℕ → ℕ → List ℕ → List ℕ → Option (List ℕ)
 littleLater? i n big little =
-    over? n (λ (v : Value). if? (movesLittle? i n little big v) (plus? (at? n little v) (some (2 ^ i))) (at? n little v)) little
+    over? n (λ (v : Value). if? (movesLittle? i n little big v) (plus? (at? n little v) (some (2 ^ i)))
+    (at? n little v)) little
 
 unfoldable pub bigLater? : ℕ → ℕ → List ℕ → List ℕ → Option (List ℕ)
 bigLater? i n little big =
@@ -281,7 +302,8 @@ unfoldable pub within? : ℕ → List ℕ → List ℕ → Value → Value → T
 within? n nd pre u v = and? (le? (at? n pre u) (at? n pre v)) (lt? (at? n pre v) (plus? (at? n pre u) (at? n nd u)))
 
 unfoldable pub joinsEnds? : ℕ → List ℕ → List ℕ → List ℕ → Value → Value → Test
-joinsEnds? n parent nd pre a b = and? (and? (offTree? n parent a b) (not? (within? n nd pre a b))) (not? (within? n nd pre b a))
+joinsEnds? n parent nd pre a b = and? (and? (offTree? n parent a b) (not? (within? n nd pre a b)))
+    (not? (within? n nd pre b a))
 
 unfoldable pub linkJoinsRound? : ℕ → ℕ → List ℕ → List ℕ → List ℕ → List ℕ → List ℕ → Option (List ℕ)
 linkJoinsRound? n m ends parent nd pre joins =
@@ -290,15 +312,18 @@ linkJoinsRound? n m ends parent nd pre joins =
 unfoldable pub joinsParent? : ℕ → List ℕ → List ℕ → List ℕ → List ℕ → List ℕ → Value → Test
 joinsParent? n parent nd pre low high u =
     and? (and? (not? (isRoot? n parent u)) (not? (isRoot? n parent (at? n parent u))))
-    (or? (lt? (at? n low u) (at? n pre (at? n parent u))) (le? (plus? (at? n pre (at? n parent u)) (at? n nd (at? n parent u))) (at? n high u)))
+    (or? (lt? (at? n low u) (at? n pre (at? n parent u)))
+    (le? (plus? (at? n pre (at? n parent u)) (at? n nd (at? n parent u))) (at? n high u)))
 
 unfoldable pub parentJoinsRound? : ℕ → List ℕ → List ℕ → List ℕ → List ℕ → List ℕ → List ℕ → Option (List ℕ)
-parentJoinsRound? n parent nd pre low high joins = over? n (λ (u : Value). mark? (joinsParent? n parent nd pre low high u)) joins
+parentJoinsRound? n parent nd pre low high joins =
+    over? n (λ (u : Value). mark? (joinsParent? n parent nd pre low high u)) joins
 
 -- ---- stage 9
 
 unfoldable pub joined? : ℕ → List ℕ → Value → Value → Value → Test
-joined? n parent mark a b = and? (and? (not? (eq? mark (some 0))) (not? (isRoot? n parent a))) (not? (isRoot? n parent b))
+joined? n parent mark a b = and? (and? (not? (eq? mark (some 0))) (not? (isRoot? n parent a)))
+    (not? (isRoot? n parent b))
 
 unfoldable pub heardOver? : ℕ → List ℕ → List ℕ → Value → Value → Value → Value → Value
 heardOver? n parent value mark a b v = if? (joined? n parent mark a b) (heard? n value a b v) (at? n value v)
@@ -307,7 +332,8 @@ unfoldable pub leastJoined? : ℕ → ℕ → List ℕ → List ℕ → List ℕ
 leastJoined? n m ends parent linkJoins parentJoins value v =
     if? (isRoot? n parent v) absent
     (least? n (λ (u : Value). heardOver? n parent value (at? n parentJoins u) u (at? n parent u) v)
-    (least? m (λ (j : Value). heardOver? n parent value (at? m linkJoins j) (endA? m ends j) (endB? m ends j) v) (at? n value v)))
+    (least? m (λ (j : Value). heardOver? n parent value (at? m linkJoins j) (endA? m ends j) (endB? m ends j) v)
+    (at? n value v)))
 
 unfoldable pub auxRound? : ℕ → ℕ → ℕ → List ℕ → List ℕ → List ℕ → List ℕ → List ℕ → Option (List ℕ)
 auxRound? n m made ends parent linkJoins parentJoins color =

@@ -1,5 +1,6 @@
--- One round by the exact rules: it has no value where it reads at an absent or missing place or halves an odd number. No number has a bound, nor have
--- all rounds and requests, and a stage ends at its own rule alone: its ceiling is not looked at. To be read beside survey's `Step`.
+-- One round by the exact rules: it has no value where it reads at an absent or missing place or halves an odd number.
+-- No number has a bound, nor have all rounds and requests, and a stage ends at its own rule alone: its ceiling is not
+-- looked at. To be read beside survey's `Step`.
 use mathlib.Core.Bool.{Bool, true, cond, _||_}
 use mathlib.Core.Option.{Option, some}
 use mathlib.Core.List.{List}
@@ -10,7 +11,8 @@ use Rattle.spec_rules.specs.Range.{rangeEnds}
 use Rattle.spec_rules.specs.Aux.{auxEnds}
 use Rattle.spec_machine.specs.State.{State}
 use Rattle.spec_state.specs.declared.groups.Clock.{Clock}
-use Rattle.spec_machine.specs.State.{units, links, finished, withClock, withComponents, withTree, withTour, withRanking, withOrder, withRange, withGlobal, withAux, withLabels}
+use Rattle.spec_machine.specs.State.{units, links, finished, withClock, withComponents, withTree, withTour, withRanking}
+use Rattle.spec_machine.specs.State.{withOrder, withRange, withGlobal, withAux, withLabels}
 use Rattle.spec_machine.specs.Step.{planned}
 use Rattle.theory_reach.specs.Partial.{Value, Test, _>>=_, or?}
 use Rattle.theory_reach.specs.ExactRules
@@ -27,8 +29,10 @@ components? s = do
 
 unfoldable pub treeSearched? : State → Option State
 treeSearched? s = do
-  parent ← ExactRules.parentRound? (units s) (links s) (s .clock .made) (s .table .ends) (s .table .levels) (s .components .color) (s .tree .dist) (s .tree .parent)
-  dist ← ExactRules.distRound? (units s) (links s) (s .clock .made) (s .table .ends) (s .table .levels) (s .components .color) (s .tree .dist)
+  parent ← ExactRules.parentRound? (units s) (links s) (s .clock .made) (s .table .ends) (s .table .levels)
+      (s .components .color) (s .tree .dist) (s .tree .parent)
+  dist ← ExactRules.distRound? (units s) (links s) (s .clock .made) (s .table .ends) (s .table .levels)
+      (s .components .color) (s .tree .dist)
   some (withTree (record { parent = parent; dist = dist }) s)
 
 unfoldable pub treePlanned? : State → Option State
@@ -71,7 +75,8 @@ marksDescendants? s = do
   nd ← ExactRules.ndRound? (units s) (s .components .color) (s .tree .parent) (s .ranking .sum) (s .order .nd)
   jump ← ExactRules.secondJumps? (units s) (s .tour .pred) (s .ranking .jump)
   sum ← ExactRules.secondSums? (units s) (s .tree .parent) (s .order .forward) (s .ranking .sum)
-  some (withOrder (record { forward = s .order .forward; nd = nd; pre = s .order .pre }) (withRanking (record { jump = jump; sum = sum }) s))
+  some (withOrder (record { forward = s .order .forward; nd = nd; pre = s .order .pre })
+      (withRanking (record { jump = jump; sum = sum }) s))
 
 unfoldable pub marks? : State → Option State
 marks? s = cond (eqb (s .clock .made) 0) (marksForward? s) (marksDescendants? s)
@@ -84,14 +89,19 @@ places? s = do
 
 unfoldable pub rangeBegun? : State → Option State
 rangeBegun? s = do
-  low ← ExactRules.rangeFirst? min (units s) (links s) (s .table .ends) (s .tree .parent) (s .order .nd) (s .order .pre) (s .range .low)
-  high ← ExactRules.rangeFirst? max (units s) (links s) (s .table .ends) (s .tree .parent) (s .order .nd) (s .order .pre) (s .range .high)
+  low ← ExactRules.rangeFirst? min (units s) (links s) (s .table .ends) (s .tree .parent) (s .order .nd) (s .order .pre)
+      (s .range .low)
+  high ← ExactRules.rangeFirst? max (units s) (links s) (s .table .ends) (s .tree .parent) (s .order .nd)
+      (s .order .pre) (s .range .high)
   little ← ExactRules.littleFirst? (units s) (s .order .pre) (s .range .little)
   big ← ExactRules.bigFirst? (units s) (s .order .nd) (s .order .pre) (s .range .big)
-  globalLow ← ExactRules.globalFirst? min (units s) (links s) (s .table .ends) (s .tree .parent) (s .order .pre) (s .global .low)
-  globalHigh ← ExactRules.globalFirst? max (units s) (links s) (s .table .ends) (s .tree .parent) (s .order .pre) (s .global .high)
+  globalLow ← ExactRules.globalFirst? min (units s) (links s) (s .table .ends) (s .tree .parent) (s .order .pre)
+      (s .global .low)
+  globalHigh ← ExactRules.globalFirst? max (units s) (links s) (s .table .ends) (s .tree .parent) (s .order .pre)
+      (s .global .high)
   some
-      (withRange (record { low = low; high = high; little = little; big = big }) (withGlobal (record { low = globalLow; high = globalHigh }) s))
+      (withRange (record { low = low; high = high; little = little; big = big })
+      (withGlobal (record { low = globalLow; high = globalHigh }) s))
 
 unfoldable pub rangeDoubled? : ℕ → State → Option State
 rangeDoubled? i s = do
@@ -102,20 +112,24 @@ rangeDoubled? i s = do
   globalLow ← ExactRules.globalLater? min i (units s) (s .global .low)
   globalHigh ← ExactRules.globalLater? max i (units s) (s .global .high)
   some
-      (withRange (record { low = low; high = high; little = little; big = big }) (withGlobal (record { low = globalLow; high = globalHigh }) s))
+      (withRange (record { low = low; high = high; little = little; big = big })
+      (withGlobal (record { low = globalLow; high = globalHigh }) s))
 
 unfoldable pub range? : State → Option State
 range? s = cond (eqb (s .clock .made) 0) (rangeBegun? s) (rangeDoubled? (s .clock .made - 1) s)
 
 unfoldable pub auxEdges? : State → Option State
 auxEdges? s = do
-  parents ← ExactRules.parentJoinsRound? (units s) (s .tree .parent) (s .order .nd) (s .order .pre) (s .range .low) (s .range .high) (s .aux .parents)
-  joins ← ExactRules.linkJoinsRound? (units s) (links s) (s .table .ends) (s .tree .parent) (s .order .nd) (s .order .pre) (s .aux .links)
+  parents ← ExactRules.parentJoinsRound? (units s) (s .tree .parent) (s .order .nd) (s .order .pre) (s .range .low)
+      (s .range .high) (s .aux .parents)
+  joins ← ExactRules.linkJoinsRound? (units s) (links s) (s .table .ends) (s .tree .parent) (s .order .nd)
+      (s .order .pre) (s .aux .links)
   some (withAux (record { parents = parents; links = joins; color = s .aux .color }) s)
 
 unfoldable pub auxColors? : State → Option (List ℕ)
 auxColors? s =
-    ExactRules.auxRound? (units s) (links s) (s .clock .made) (s .table .ends) (s .tree .parent) (s .aux .links) (s .aux .parents) (s .aux .color)
+    ExactRules.auxRound? (units s) (links s) (s .clock .made) (s .table .ends) (s .tree .parent) (s .aux .links)
+    (s .aux .parents) (s .aux .color)
 
 unfoldable pub auxComponents? : State → Option State
 auxComponents? s = do
@@ -124,7 +138,8 @@ auxComponents? s = do
 
 unfoldable pub labelClasses? : State → Option State
 labelClasses? s = do
-  class ← ExactRules.classRound? (units s) (links s) (s .table .ends) (s .tree .parent) (s .order .pre) (s .aux .color) (s .labels .class)
+  class ← ExactRules.classRound? (units s) (links s) (s .table .ends) (s .tree .parent) (s .order .pre) (s .aux .color)
+      (s .labels .class)
   some (withLabels (record { class = class; label = s .labels .label }) s)
 
 unfoldable pub labelPositions? : State → Option State
@@ -139,16 +154,19 @@ labels? s = cond (eqb (s .clock .made) 0) (labelClasses? s) (labelPositions? s)
 
 unfoldable pub ruleEnds? : State → Test
 ruleEnds? s =
-    cond (eqb (s .clock .stage) 1) (colors? s >>= λ after. some (colorEnds (units s) (s .clock .made) (s .components .color) after))
+    cond (eqb (s .clock .stage) 1) (colors? s >>= λ after. some
+    (colorEnds (units s) (s .clock .made) (s .components .color) after))
     (cond (eqb (s .clock .stage) 2)
-    (or? (some (planned s)) (ExactRules.treeEnds? (units s) (links s) (s .clock .made) (s .table .ends) (s .table .levels) (s .components .color) (s .tree .dist)))
+    (or? (some (planned s)) (ExactRules.treeEnds? (units s) (links s) (s .clock .made) (s .table .ends)
+    (s .table .levels) (s .components .color) (s .tree .dist)))
     (cond (eqb (s .clock .stage) 3) (some (eqb (s .clock .made) 1))
     (cond (eqb (s .clock .stage) 4) (ExactRules.rankingEnds? (2 * units s) (s .ranking .jump))
     (cond (eqb (s .clock .stage) 5) (some (eqb (s .clock .made) 1))
     (cond (eqb (s .clock .stage) 6) (ExactRules.rankingEnds? (2 * units s) (s .ranking .jump))
     (cond (eqb (s .clock .stage) 7) (some (rangeEnds (units s) (s .clock .made)))
     (cond (eqb (s .clock .stage) 8) (some true)
-    (cond (eqb (s .clock .stage) 9) (auxColors? s >>= λ after. some (auxEnds (units s) (s .clock .made) (s .aux .color) after))
+    (cond (eqb (s .clock .stage) 9) (auxColors? s >>= λ after. some
+    (auxEnds (units s) (s .clock .made) (s .aux .color) after))
     (some (eqb (s .clock .made) 1))))))))))
 
 -- ---- the round
@@ -172,7 +190,8 @@ roundTables? last s = tablesAt? (s .clock .stage) last s
 
 unfoldable pub roundRequests? : State → Value
 roundRequests? s =
-    cond (eqb (s .clock .stage) 4 || eqb (s .clock .stage) 6) (ExactRules.requestsOf? (2 * units s) (s .ranking .jump)) (some 0)
+    cond (eqb (s .clock .stage) 4 || eqb (s .clock .stage) 6) (ExactRules.requestsOf? (2 * units s) (s .ranking .jump))
+    (some 0)
 
 -- rounds and requests are added up without a limit
 unfoldable pub exactClock : Bool → ℕ → Clock → Clock

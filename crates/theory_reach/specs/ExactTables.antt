@@ -1,4 +1,5 @@
--- The tables, the end and the requests of a round are the exact ones at every state that the stages' invariants describe.
+-- The tables, the end and the requests of a round are the exact ones at every state that the stages' invariants
+-- describe.
 use mathlib.Core.Path.{_≡_, refl}
 use mathlib.Core.Bool.{true, false, _||_}
 use mathlib.Core.Logic.{_⊎_, inl, inr}
@@ -45,14 +46,16 @@ use Rattle.theory_reach.specs.ExactLaws3 as Laws3
 
 -- ---- what the invariants give
 
-parent-names : {n m : ℕ} {ends color parent : List ℕ} {d : ℕ → ℕ} → Rooted n m ends color parent d → (v : ℕ) → v < n → Names n (at parent v)
+parent-names : {n m : ℕ} {ends color parent : List ℕ} {d : ℕ → ℕ} → Rooted n m ends color parent d → (v : ℕ) → v < n →
+    Names n (at parent v)
 parent-names {n} {parent = parent} {d = d} rooted v l = go (ℕ-discrete (d v) 0)
   where
     go : Dec (d v ≡ 0) → Names n (at parent v)
     go (yes z) = inr (rooted .absentRoot v l .1 z)
     go (no z) = inl (rooted .parentBelow v l (omega arith))
 
-module _ {K : ℕ} {R S : ℕ → ℕ} (potential : Potential K R S) {jump sum : List ℕ} {k : ℕ} (ranked : Ranked K R S jump sum k) where
+module _ {K : ℕ} {R S : ℕ → ℕ} (potential : Potential K R S) {jump sum : List ℕ} {k : ℕ}
+    (ranked : Ranked K R S jump sum k) where
   -- an object that asks has a predecessor
   ahead : (a : ℕ) → a < K → asks jump a ≡ true → Doubling.Ahead K R S jump sum k a
   ahead a l q = go (ranked .object a l)
@@ -78,14 +81,17 @@ module _ (s : State) (b : Base s) where
   few : units s ≤ ABSENT
   few = omega (arith, b .site .fewUnits)
 
-  colors-exact : ExactStep.colors? s ≡ some (colorRound (units s) (links s) (s .clock .made) (s .table .ends) (s .components .color))
+  colors-exact : ExactStep.colors? s ≡ some
+      (colorRound (units s) (links s) (s .clock .made) (s .table .ends) (s .components .color))
   unfolding ExactStep.colors?
-  colors-exact = Laws1.color-round (units s) (links s) (s .table .ends) (b .site .belowA) (b .site .belowB) (s .clock .made) (s .components .color)
+  colors-exact = Laws1.color-round (units s) (links s) (s .table .ends) (b .site .belowA) (b .site .belowB)
+      (s .clock .made) (s .components .color)
 
   classes-exact : Treed s → ExactStep.auxColors? s ≡ some (Step.auxColors s)
   unfolding ExactStep.auxColors?
   classes-exact t =
-      Laws3.aux-round (units s) (s .tree .parent) (parent-names (t .rooted)) (links s) (s .table .ends) (b .site .belowA) (b .site .belowB) (s .clock .made)
+      Laws3.aux-round (units s) (s .tree .parent) (parent-names (t .rooted)) (links s) (s .table .ends)
+      (b .site .belowA) (b .site .belowB) (s .clock .made)
       (s .aux .links) (s .aux .parents) (s .aux .color)
 
   -- only stage 9 asks for the tree
@@ -95,7 +101,8 @@ module _ (s : State) (b : Base s) where
       conds (eqb (s .clock .stage) 1) (λ q. rw colors-exact refl)
       (λ q.
       conds (eqb (s .clock .stage) 2)
-      (λ q. ors refl (λ _. Laws1.tree-ends (units s) (links s) (s .table .ends) (b .site .belowA) (b .site .belowB) (s .table .levels) (s .clock .made) (s .tree .dist) (s .components .color)))
+      (λ q. ors refl (λ _. Laws1.tree-ends (units s) (links s) (s .table .ends) (b .site .belowA) (b .site .belowB)
+      (s .table .levels) (s .clock .made) (s .tree .dist) (s .components .color)))
       (λ q.
       conds (eqb (s .clock .stage) 3) (λ q. refl)
       (λ q.
@@ -108,12 +115,14 @@ module _ (s : State) (b : Base s) where
       conds (eqb (s .clock .stage) 7) (λ q. refl)
       (λ q.
       conds (eqb (s .clock .stage) 8) (λ q. refl)
-      (λ q. conds (eqb (s .clock .stage) 9) (λ q. rw (classes-exact (t (eqb-true (s .clock .stage) 9 q))) refl) (λ q. refl)))))))))
+      (λ q. conds (eqb (s .clock .stage) 9) (λ q. rw (classes-exact (t (eqb-true (s .clock .stage) 9 q))) refl)
+      (λ q. refl)))))))))
 
 pub requests-exact : (s : State) → ExactStep.roundRequests? s ≡ some (Step.roundRequests s)
 unfolding ExactStep.roundRequests? Step.roundRequests
 requests-exact s =
-    conds (eqb (s .clock .stage) 4 || eqb (s .clock .stage) 6) (λ q. Laws2.request-count (2 * units s) (s .ranking .jump)) (λ q. refl)
+    conds (eqb (s .clock .stage) 4 || eqb (s .clock .stage) 6)
+    (λ q. Laws2.request-count (2 * units s) (s .ranking .jump)) (λ q. refl)
 
 -- ---- stages 1 and 2
 
@@ -126,18 +135,22 @@ module _ (s : State) (b : Base s) where
   unfolding ExactStep.treeSearched? Step.treeSearched
   searched-exact =
       rw (
-        Laws1.parent-round (units s) (links s) (s .table .ends) (b .site .belowA) (b .site .belowB) (s .table .levels) (s .clock .made) (s .tree .dist) (s .components .color) (s .tree .parent),
-        Laws1.dist-round (units s) (links s) (s .table .ends) (b .site .belowA) (b .site .belowB) (s .table .levels) (s .clock .made) (s .tree .dist) (s .components .color),
+        Laws1.parent-round (units s) (links s) (s .table .ends) (b .site .belowA) (b .site .belowB) (s .table .levels)
+            (s .clock .made) (s .tree .dist) (s .components .color) (s .tree .parent),
+        Laws1.dist-round (units s) (links s) (s .table .ends) (b .site .belowA) (b .site .belowB) (s .table .levels)
+            (s .clock .made) (s .tree .dist) (s .components .color),
       )
       refl
 
-  planned-exact : Fits (units s) (links s) (s .table .ends) (s .plan .parent) → Colored (units s) (links s) (s .table .ends) (s .components .color)
+  planned-exact : Fits (units s) (links s) (s .table .ends) (s .plan .parent) →
+      Colored (units s) (links s) (s .table .ends) (s .components .color)
       → ExactStep.treePlanned? s ≡ some (Step.treePlanned s)
   unfolding ExactStep.treePlanned? Step.treePlanned
   planned-exact fits colored =
       rw (
         LawsP.planned-parents (units s) (s .plan .parent) (s .tree .parent),
-        LawsP.planned-dists (units s) (s .plan .parent) (plan-names (b .site) fits) (s .components .color) (s .tree .dist),
+        LawsP.planned-dists (units s) (s .plan .parent) (plan-names (b .site) fits) (s .components .color)
+            (s .tree .dist),
       )
       refl
 
@@ -184,15 +197,19 @@ module _ (s : State) (b : Base s) (t : Treed s) where
       deep (yes z) = absurd (not-both (isRoot (s .tree .parent) v) (root-exact (t .rooted) v l .1 z) q)
       deep (no z) = omega arith
 
-  pub marks-exact : ((a : ℕ) → a < 2 * units s → isArc (s .tree .parent) a ≡ true → at (s .ranking .sum) a ≡ Invariant.rank s t a)
+  pub marks-exact : ((a : ℕ) → a < 2 * units s → isArc (s .tree .parent) a ≡ true →
+      at (s .ranking .sum) a ≡ Invariant.rank s t a)
       → ExactStep.marks? s ≡ some (Step.marks s)
-  unfolding ExactStep.marks? ExactStep.marksForward? ExactStep.marksDescendants? Step.marks Step.marksForward Step.marksDescendants
+  unfolding ExactStep.marks? ExactStep.marksForward? ExactStep.marksDescendants? Step.marks Step.marksForward
+      Step.marksDescendants
   marks-exact held =
       conds (eqb (s .clock .made) 0)
-      (λ q. rw (Laws2.forward-round (units s) (s .tree .parent) (few s b) names (s .ranking .sum) (s .order .forward)) refl)
+      (λ q. rw (Laws2.forward-round (units s) (s .tree .parent) (few s b) names (s .ranking .sum) (s .order .forward))
+      refl)
       (λ q.
       rw (
-        Laws2.nd-round (units s) (s .tree .parent) (few s b) names (s .components .color) (s .ranking .sum) (s .order .nd) (apart held),
+        Laws2.nd-round (units s) (s .tree .parent) (few s b) names (s .components .color) (s .ranking .sum)
+            (s .order .nd) (apart held),
         Laws2.second-jumps (units s) (s .tree .parent) (few s b) names (s .tour .pred) (s .ranking .jump),
         Laws2.second-sums (units s) (s .tree .parent) (few s b) names (s .order .forward) (s .ranking .sum),
       )
@@ -200,11 +217,13 @@ module _ (s : State) (b : Base s) (t : Treed s) where
 
 -- ---- stages 4 and 6
 
-pub ranking-exact : (s : State) {R S : ℕ → ℕ} {k : ℕ} → Potential (2 * units s) R S → Ranked (2 * units s) R S (s .ranking .jump) (s .ranking .sum) k
+pub ranking-exact : (s : State) {R S : ℕ → ℕ} {k : ℕ} → Potential (2 * units s) R S →
+    Ranked (2 * units s) R S (s .ranking .jump) (s .ranking .sum) k
     → ExactStep.ranking? s ≡ some (Step.ranking s)
 unfolding ExactStep.ranking? Step.ranking
 ranking-exact s potential ranked =
-    let there : (a : ℕ) → a < 2 * units s → asks (s .ranking .jump) a ≡ true → at (s .ranking .jump) a < 2 * units s = λ a l q. ahead potential ranked a l q .0 in
+    let there : (a : ℕ) → a < 2 * units s → asks (s .ranking .jump) a ≡ true →
+    at (s .ranking .jump) a < 2 * units s = λ a l q. ahead potential ranked a l q .0 in
     rw (
       Laws2.jump-round (2 * units s) (s .ranking .jump) there,
       Laws2.sum-round (2 * units s) (s .ranking .jump) there (s .ranking .sum) (sum-small potential ranked),
@@ -212,20 +231,24 @@ ranking-exact s potential ranked =
     refl
 
 -- the last round's places
-pub places-exact : (s : State) → Base s → (i : In6 s) → rankingEnds (2 * units s) (s .ranking .jump) ≡ true → ExactStep.places? s ≡ some (Step.places s)
+pub places-exact : (s : State) → Base s → (i : In6 s) → rankingEnds (2 * units s) (s .ranking .jump) ≡ true →
+    ExactStep.places? s ≡ some (Step.places s)
 unfolding ExactStep.places? Step.places
 places-exact s b i r =
     rw (
-      Laws2.pre-round (units s) (s .tree .parent) (few s b) (names s b (i .treed)) (s .components .color) (s .ranking .sum) (s .order .pre) small,
+      Laws2.pre-round (units s) (s .tree .parent) (few s b) (names s b (i .treed)) (s .components .color)
+          (s .ranking .sum) (s .order .pre) small,
       ranking-exact s (second-potential s b (i .treed)) (i .ranked),
     )
     refl
   where
-    small : (v : ℕ) → v < units s → placeOf (units s) (s .components .color) (s .tree .parent) (s .ranking .sum) v < MAX-NUMBER
+    small : (v : ℕ) → v < units s → placeOf (units s) (s .components .color) (s .tree .parent) (s .ranking .sum) v
+        < MAX-NUMBER
     small v l =
         omega (
           arith,
-          place-exact (i .treed .rooted) (b .site .fewUnits) (s .ranking .sum) (Doubling.sums (second-potential s b (i .treed)) (i .ranked) r) v l,
+          place-exact (i .treed .rooted) (b .site .fewUnits) (s .ranking .sum)
+              (Doubling.sums (second-potential s b (i .treed)) (i .ranked) r) v l,
           place-below (i .treed .rooted) v l,
           b .site .fewUnits,
         )
@@ -234,13 +257,15 @@ places-exact s b i r =
 
 -- where little or big moves, a segment's length lies between them
 between : {le : ℕ → ℕ → Type 0} {n : ℕ} {local first last : ℕ → ℕ} {global range little big : List ℕ} {i : ℕ}
-    → SegmentsAt le n local first last global range little big i → (v : ℕ) → v < n → ltb (at little v) (at big v) ≡ true → at little v + 2 ^ i ≤ at big v
+    → SegmentsAt le n local first last global range little big i → (v : ℕ) → v < n →
+    ltb (at little v) (at big v) ≡ true → at little v + 2 ^ i ≤ at big v
 between {little = little} {big = big} {i = i} now v l q = go (now .aligned v l)
   where
     less : at little v < at big v
     less = ltb-true (at little v) (at big v) q
 
-    go : (at little v ≡ at big v) ⊎ (Multiple (2 ^ i) (at little v) × Multiple (2 ^ i) (at big v)) → at little v + 2 ^ i ≤ at big v
+    go : (at little v ≡ at big v) ⊎ (Multiple (2 ^ i) (at little v) × Multiple (2 ^ i) (at big v)) →
+        at little v + 2 ^ i ≤ at big v
     go (inl e) = absurd (omega (arith, less))
     go (inr w) = multiple-step (2 ^ i) (at little v) (at big v) (w .0) (w .1) less
 
@@ -252,7 +277,8 @@ module _ (s : State) (b : Base s) (numbered : Numbered s) where
   taken : (q : ℕ) → q < units s → unitAt (units s) (s .order .pre) q < units s
   taken q l =
       let w = numbered .ordered .placeTaken q l in
-      let e : unitAt (units s) (s .order .pre) (at (s .order .pre) (w .0)) ≡ w .0 = unit-at (units s) (s .order .pre) (few s b) (numbered .ordered .placeOnce) (w .0) (w .1) in
+      let e : unitAt (units s) (s .order .pre) (at (s .order .pre) (w .0)) ≡ w .0 =
+      unit-at (units s) (s .order .pre) (few s b) (numbered .ordered .placeOnce) (w .0) (w .1) in
       rw (← (w .2), e) (w .1)
 
   begun-exact : ExactStep.rangeBegun? s ≡ some (Step.rangeBegun s)
@@ -262,7 +288,8 @@ module _ (s : State) (b : Base s) (numbered : Numbered s) where
         range-first min (s .range .low),
         range-first max (s .range .high),
         Laws3.little-first (units s) (s .order .pre) (s .range .little),
-        Laws3.big-first (units s) (links s) (s .table .ends) (b .site .belowA) (b .site .belowB) (s .tree .parent) (s .order .pre) (few s b) taken (s .order .nd)
+        Laws3.big-first (units s) (links s) (s .table .ends) (b .site .belowA) (b .site .belowB) (s .tree .parent)
+            (s .order .pre) (few s b) taken (s .order .nd)
             (numbered .ordered .ndSome) (numbered .ordered .within) few-places (s .range .big),
         global-first min (s .global .low),
         global-first max (s .global .high),
@@ -273,26 +300,34 @@ module _ (s : State) (b : Base s) (numbered : Numbered s) where
           → ExactRules.globalFirst? op (units s) (links s) (s .table .ends) (s .tree .parent) (s .order .pre) global
           ≡ some (globalFirst op (units s) (links s) (s .table .ends) (s .tree .parent) (s .order .pre) global)
       global-first =
-          Laws3.global-first (units s) (links s) (s .table .ends) (b .site .belowA) (b .site .belowB) (s .tree .parent) (s .order .pre) (few s b) taken
+          Laws3.global-first (units s) (links s) (s .table .ends) (b .site .belowA) (b .site .belowB) (s .tree .parent)
+          (s .order .pre) (few s b) taken
 
       range-first : (op : ℕ → ℕ → ℕ) (range : List ℕ)
-          → ExactRules.rangeFirst? op (units s) (links s) (s .table .ends) (s .tree .parent) (s .order .nd) (s .order .pre) range
-          ≡ some (rangeFirst op (units s) (links s) (s .table .ends) (s .tree .parent) (s .order .nd) (s .order .pre) range)
+          → ExactRules.rangeFirst? op (units s) (links s) (s .table .ends) (s .tree .parent) (s .order .nd)
+          (s .order .pre) range
+          ≡ some (rangeFirst op (units s) (links s) (s .table .ends) (s .tree .parent) (s .order .nd)
+          (s .order .pre) range)
       range-first =
-          Laws3.range-first (units s) (links s) (s .table .ends) (b .site .belowA) (b .site .belowB) (s .tree .parent) (s .order .pre) (few s b) taken (s .order .nd)
+          Laws3.range-first (units s) (links s) (s .table .ends) (b .site .belowA) (b .site .belowB) (s .tree .parent)
+          (s .order .pre) (few s b) taken (s .order .nd)
           (numbered .ordered .ndSome) (numbered .ordered .within)
 
   spans : Spans (units s) (at (s .order .pre)) (lastPlace (s .order .nd) (s .order .pre))
-  spans = place-spans (units s) (s .order .nd) (s .order .pre) few-places (numbered .ordered .ndSome) (numbered .ordered .within)
+  spans = place-spans (units s) (s .order .nd) (s .order .pre) few-places (numbered .ordered .ndSome)
+      (numbered .ordered .within)
 
   doubled-exact : {le : ℕ → ℕ → Type 0} {local : ℕ → ℕ} {global range : List ℕ} (i : ℕ)
-      → SegmentsAt le (units s) local (at (s .order .pre)) (lastPlace (s .order .nd) (s .order .pre)) global range (s .range .little) (s .range .big) i
+      → SegmentsAt le (units s) local (at (s .order .pre)) (lastPlace (s .order .nd) (s .order .pre)) global range
+      (s .range .little) (s .range .big) i
       → ExactStep.rangeDoubled? i s ≡ some (Step.rangeDoubled i s)
   unfolding ExactStep.rangeDoubled? Step.rangeDoubled
   doubled-exact i now =
       rw (
-        Laws3.range-later i (units s) few-places (s .range .little) (s .range .big) bigBelow steps room min (s .global .low) (s .range .low),
-        Laws3.range-later i (units s) few-places (s .range .little) (s .range .big) bigBelow steps room max (s .global .high) (s .range .high),
+        Laws3.range-later i (units s) few-places (s .range .little) (s .range .big) bigBelow steps room min
+            (s .global .low) (s .range .low),
+        Laws3.range-later i (units s) few-places (s .range .little) (s .range .big) bigBelow steps room max
+            (s .global .high) (s .range .high),
         Laws3.little-later i (units s) few-places (s .range .little) (s .range .big) bigBelow steps room,
         Laws3.big-later i (units s) few-places (s .range .little) (s .range .big) bigBelow steps room,
         Laws3.global-later min i (units s) (s .global .low),
@@ -303,11 +338,18 @@ module _ (s : State) (b : Base s) (numbered : Numbered s) where
       bigBelow : (v : ℕ) → v < units s → at (s .range .big) v < units s
       bigBelow v l = omega (arith, now .bigLast v l, spans .lastBelow v l)
 
-      steps : (v : ℕ) → v < units s → movesLittle i (s .range .little) (s .range .big) v ≡ true → at (s .range .little) v + 2 ^ i ≤ at (s .range .big) v
-      steps v l q = between now v l (and-left (ltb (at (s .range .little) v) (at (s .range .big) v)) (odd i (at (s .range .little) v)) q)
+      steps : (v : ℕ) → v < units s → movesLittle i (s .range .little) (s .range .big) v ≡ true →
+          at (s .range .little) v + 2 ^ i ≤ at (s .range .big) v
+      steps v l q = between now v l (and-left (ltb (at (s .range .little) v) (at (s .range .big) v))
+          (odd i (at (s .range .little) v)) q)
 
-      room : (v : ℕ) → v < units s → movesBig i (s .range .little) (s .range .big) v ≡ true → 2 ^ i ≤ at (s .range .big) v
-      room v l q = omega (arith, between now v l (and-left (ltb (at (s .range .little) v) (at (s .range .big) v)) (odd i (at (s .range .big) v)) q))
+      room : (v : ℕ) → v < units s → movesBig i (s .range .little) (s .range .big) v ≡ true →
+          2 ^ i ≤ at (s .range .big) v
+      room v l q = omega (
+        arith,
+        between now v l
+            (and-left (ltb (at (s .range .little) v) (at (s .range .big) v)) (odd i (at (s .range .big) v)) q),
+      )
 
 pub range-exact : (s : State) → Base s → In7 s → ExactStep.range? s ≡ some (Step.range s)
 unfolding ExactStep.range? Step.range
@@ -317,10 +359,14 @@ range-exact s b i =
     later : eqb (s .clock .made) 0 ≡ false
         → (s .clock .made ≡ 0)
         ⊎ ((1 ≤ s .clock .made)
-        × SegmentsAt _≤_ (units s) (localAt min (units s) (links s) (s .table .ends) (s .tree .parent) (s .order .pre)) (at (s .order .pre))
-        (lastPlace (s .order .nd) (s .order .pre)) (s .global .low) (s .range .low) (s .range .little) (s .range .big) (s .clock .made - 1)
-        × SegmentsAt AtLeast (units s) (localAt max (units s) (links s) (s .table .ends) (s .tree .parent) (s .order .pre)) (at (s .order .pre))
-        (lastPlace (s .order .nd) (s .order .pre)) (s .global .high) (s .range .high) (s .range .little) (s .range .big) (s .clock .made - 1))
+        × SegmentsAt _≤_ (units s) (localAt min (units s) (links s) (s .table .ends) (s .tree .parent) (s .order .pre))
+        (at (s .order .pre))
+        (lastPlace (s .order .nd) (s .order .pre)) (s .global .low) (s .range .low) (s .range .little) (s .range .big)
+        (s .clock .made - 1)
+        × SegmentsAt AtLeast (units s) (localAt max (units s) (links s) (s .table .ends) (s .tree .parent)
+        (s .order .pre)) (at (s .order .pre))
+        (lastPlace (s .order .nd) (s .order .pre)) (s .global .high) (s .range .high) (s .range .little) (s .range .big)
+        (s .clock .made - 1))
         → ExactStep.rangeDoubled? (s .clock .made - 1) s ≡ some (Step.rangeDoubled (s .clock .made - 1) s)
     later q (inl z) = absurd (eqb-false (s .clock .made) 0 q z)
     later q (inr (p, l, h)) = doubled-exact s b (i .numbered) (s .clock .made - 1) l
@@ -332,8 +378,10 @@ module _ (s : State) (b : Base s) where
   unfolding ExactStep.auxEdges? Step.auxEdges
   edges-exact t =
       rw (
-        Laws3.parent-joins (units s) (s .tree .parent) (names s b t) (s .order .nd) (s .order .pre) (s .range .low) (s .range .high) (s .aux .parents),
-        Laws3.link-joins (units s) (s .tree .parent) (names s b t) (links s) (s .table .ends) (b .site .belowA) (b .site .belowB) (s .order .nd) (s .order .pre) (s .aux .links),
+        Laws3.parent-joins (units s) (s .tree .parent) (names s b t) (s .order .nd) (s .order .pre) (s .range .low)
+            (s .range .high) (s .aux .parents),
+        Laws3.link-joins (units s) (s .tree .parent) (names s b t) (links s) (s .table .ends) (b .site .belowA)
+            (b .site .belowB) (s .order .nd) (s .order .pre) (s .aux .links),
       )
       refl
 
@@ -342,10 +390,12 @@ module _ (s : State) (b : Base s) where
   aux-exact t = rw (classes-exact s b t) refl
 
   pub labels-exact : ExactStep.labels? s ≡ some (Step.labels s)
-  unfolding ExactStep.labels? ExactStep.labelClasses? ExactStep.labelPositions? Step.labels Step.labelClasses Step.labelPositions
+  unfolding ExactStep.labels? ExactStep.labelClasses? ExactStep.labelPositions? Step.labels Step.labelClasses
+      Step.labelPositions
   labels-exact =
       conds (eqb (s .clock .made) 0)
       (λ q.
-      rw (Laws3.class-round (units s) (links s) (s .table .ends) (b .site .belowA) (b .site .belowB) (s .tree .parent) (s .order .pre) (s .aux .color) (s .labels .class))
+      rw (Laws3.class-round (units s) (links s) (s .table .ends) (b .site .belowA) (b .site .belowB) (s .tree .parent)
+      (s .order .pre) (s .aux .color) (s .labels .class))
       refl)
       (λ q. rw (Laws3.label-round (links s) (s .labels .class) (s .labels .label)) refl)

@@ -1,4 +1,5 @@
--- What holds of every state that a load reaches, stage by stage: what the stages before have left, and how far this one has come.
+-- What holds of every state that a load reaches, stage by stage: what the stages before have left, and how far this one
+-- has come.
 use mathlib.Core.Path.{_≡_}
 use mathlib.Core.Bool.{true, false, cond}
 use mathlib.Core.Logic.{_⊎_}
@@ -51,7 +52,8 @@ Followers s = (a : ℕ) → a < 2 * units s → at (s .tour .next) a ≡ followe
 
 -- round two of stage 3
 abbrev Predecessors : State → Type 0
-Predecessors s = (a : ℕ) → a < 2 * units s → at (s .tour .pred) a ≡ predecessor (units s) (s .tree .parent) (s .tour .next) a
+Predecessors s = (a : ℕ) → a < 2 * units s →
+    at (s .tour .pred) a ≡ predecessor (units s) (s .tree .parent) (s .tour .next) a
 
 -- the tour as stage 3 leaves it
 pub record Toured (s : State) : Type 0 where
@@ -91,7 +93,8 @@ pub record In2 (s : State) : Type 0 where
   pub plan : PlanFits s
   pub colored : Colored (units s) (links s) (s .table .ends) (s .components .color)
   pub tree : ((s .clock .made ≡ 0) × Fresh s)
-      ⊎ ((1 ≤ s .clock .made) × TreeAt (units s) (links s) (s .table .ends) (s .components .color) (s .tree .parent) (s .tree .dist) (s .clock .made))
+      ⊎ ((1 ≤ s .clock .made) × TreeAt (units s) (links s) (s .table .ends) (s .components .color) (s .tree .parent)
+      (s .tree .dist) (s .clock .made))
 
 pub record In3 (s : State) : Type 0 where
   pub stage : s .clock .stage ≡ 3
@@ -103,15 +106,18 @@ pub record In4 (s : State) : Type 0 where
   pub stage : s .clock .stage ≡ 4
   pub toured : Toured s
   pub asks : s .clock .requests ≡ asked (2 * units s) (rank s (toured .treed)) (s .clock .made)
-  pub ranked : Ranked (2 * units s) (rank s (toured .treed)) (ranks s (toured .treed)) (s .ranking .jump) (s .ranking .sum) (s .clock .made)
+  pub ranked : Ranked (2 * units s) (rank s (toured .treed)) (ranks s (toured .treed)) (s .ranking .jump)
+      (s .ranking .sum) (s .clock .made)
 
 pub record In5 (s : State) : Type 0 where
   pub stage : s .clock .stage ≡ 5
   pub few : s .clock .requests ≤ 4079
   pub toured : Toured s
-  pub held : (a : ℕ) → a < 2 * units s → isArc (s .tree .parent) a ≡ true → at (s .ranking .sum) a ≡ rank s (toured .treed) a
+  pub held : (a : ℕ) → a < 2 * units s → isArc (s .tree .parent) a ≡ true →
+      at (s .ranking .sum) a ≡ rank s (toured .treed) a
   pub marks : (s .clock .made ≡ 0)
-      ⊎ ((s .clock .made ≡ 1) × ((a : ℕ) → a < 2 * units s → isArc (s .tree .parent) a ≡ true → at (s .order .forward) a ≡ cond (isInto a) 1 0))
+      ⊎ ((s .clock .made ≡ 1) × ((a : ℕ) → a < 2 * units s → isArc (s .tree .parent) a ≡ true →
+      at (s .order .forward) a ≡ cond (isInto a) 1 0))
 
 pub record In6 (s : State) : Type 0 where
   pub stage : s .clock .stage ≡ 6
@@ -127,37 +133,46 @@ pub record In7 (s : State) : Type 0 where
   pub numbered : Numbered s
   pub segments : (s .clock .made ≡ 0)
       ⊎ ((1 ≤ s .clock .made)
-      × SegmentsAt _≤_ (units s) (localAt min (units s) (links s) (s .table .ends) (s .tree .parent) (s .order .pre)) (at (s .order .pre))
-      (lastPlace (s .order .nd) (s .order .pre)) (s .global .low) (s .range .low) (s .range .little) (s .range .big) (s .clock .made - 1)
-      × SegmentsAt AtLeast (units s) (localAt max (units s) (links s) (s .table .ends) (s .tree .parent) (s .order .pre)) (at (s .order .pre))
-      (lastPlace (s .order .nd) (s .order .pre)) (s .global .high) (s .range .high) (s .range .little) (s .range .big) (s .clock .made - 1))
+      × SegmentsAt _≤_ (units s) (localAt min (units s) (links s) (s .table .ends) (s .tree .parent) (s .order .pre))
+      (at (s .order .pre))
+      (lastPlace (s .order .nd) (s .order .pre)) (s .global .low) (s .range .low) (s .range .little) (s .range .big)
+      (s .clock .made - 1)
+      × SegmentsAt AtLeast (units s) (localAt max (units s) (links s) (s .table .ends) (s .tree .parent)
+      (s .order .pre)) (at (s .order .pre))
+      (lastPlace (s .order .nd) (s .order .pre)) (s .global .high) (s .range .high) (s .range .little) (s .range .big)
+      (s .clock .made - 1))
 
 pub record In8 (s : State) : Type 0 where
   pub stage : s .clock .stage ≡ 8
   pub few : s .clock .requests ≤ 8158
   pub start : s .clock .made ≡ 0
   pub numbered : Numbered s
-  pub ranged : Ranged (units s) (links s) (s .table .ends) (s .tree .parent) (s .order .pre) (numbered .treed .depth) (s .range .low) (s .range .high)
+  pub ranged : Ranged (units s) (links s) (s .table .ends) (s .tree .parent) (s .order .pre) (numbered .treed .depth)
+      (s .range .low) (s .range .high)
 
 pub record In9 (s : State) : Type 0 where
   pub stage : s .clock .stage ≡ 9
   pub few : s .clock .requests ≤ 8158
   pub numbered : Numbered s
-  pub marked : Marked (units s) (links s) (s .table .ends) (s .tree .parent) (s .aux .links) (s .aux .parents) (numbered .treed .depth)
+  pub marked : Marked (units s) (links s) (s .table .ends) (s .tree .parent) (s .aux .links) (s .aux .parents)
+      (numbered .treed .depth)
   pub classes : (s .clock .made ≡ 0)
       ⊎ ((first : List ℕ) × (units s ≤ lib.ListN.length first) × (1 ≤ s .clock .made)
-      × (s .aux .color ≡ auxAfter (units s) (links s) (s .table .ends) (s .tree .parent) (s .aux .links) (s .aux .parents) first (s .clock .made)))
+      × (s .aux .color ≡ auxAfter (units s) (links s) (s .table .ends) (s .tree .parent) (s .aux .links)
+      (s .aux .parents) first (s .clock .made)))
 
 pub record In10 (s : State) : Type 0 where
   pub stage : s .clock .stage ≡ 10
   pub few : s .clock .requests ≤ 8158
   pub numbered : Numbered s
-  pub classes : Classes (Link (links s) (s .table .ends)) (at (s .tree .parent)) (numbered .treed .depth) (at (s .aux .color))
+  pub classes : Classes (Link (links s) (s .table .ends)) (at (s .tree .parent)) (numbered .treed .depth)
+      (at (s .aux .color))
   pub named : (s .clock .made ≡ 0)
       ⊎ ((s .clock .made ≡ 1)
       × ((j : ℕ) → j < links s
       → at (s .labels .class) j
-      ≡ at (s .aux .color) (namingUnit (s .tree .parent) (s .order .pre) (Rattle.table.specs.Table.endA (s .table .ends) j) (Rattle.table.specs.Table.endB (s .table .ends) j))))
+      ≡ at (s .aux .color) (namingUnit (s .tree .parent) (s .order .pre)
+      (Rattle.table.specs.Table.endA (s .table .ends) j) (Rattle.table.specs.Table.endB (s .table .ends) j))))
 
 pub record In11 (s : State) : Type 0 where
   pub stage : s .clock .stage ≡ FINISHED
@@ -165,10 +180,12 @@ pub record In11 (s : State) : Type 0 where
   pub right : Right (units s) (links s) (s .table .ends) (s .labels .label)
   -- the tree and its classes are still there
   pub numbered : Numbered s
-  pub classes : Classes (Link (links s) (s .table .ends)) (at (s .tree .parent)) (numbered .treed .depth) (at (s .aux .color))
+  pub classes : Classes (Link (links s) (s .table .ends)) (at (s .tree .parent)) (numbered .treed .depth)
+      (at (s .aux .color))
   pub named : (j : ℕ) → j < links s
       → at (s .labels .class) j
-      ≡ at (s .aux .color) (namingUnit (s .tree .parent) (s .order .pre) (Rattle.table.specs.Table.endA (s .table .ends) j) (Rattle.table.specs.Table.endB (s .table .ends) j))
+      ≡ at (s .aux .color) (namingUnit (s .tree .parent) (s .order .pre)
+      (Rattle.table.specs.Table.endA (s .table .ends) j) (Rattle.table.specs.Table.endB (s .table .ends) j))
   pub labelled : (j : ℕ) → j < links s → at (s .labels .label) j ≡ labelOf (links s) (s .labels .class) j
 
 pub data Reached (s : State) : Type 0 where

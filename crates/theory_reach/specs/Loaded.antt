@@ -22,14 +22,20 @@ module _ (input : Input) (e : storedLoadRefusal input ≡ 0) where
 
   -- the ends in the state's array are the table's
   pub end-a : (j : ℕ) → j < linkCount (input .words) → endA (endsOf (input .words)) j ≡ endA (input .words) j
-  end-a j l = List·getD-append (input .words) (drop (length (input .words)) (absents 2048)) 0 (2 * j) (omega (arith, p .pairs))
+  end-a j l = List·getD-append (input .words) (drop (length (input .words)) (absents 2048)) 0 (2 * j)
+      (omega (arith, p .pairs))
 
   pub end-b : (j : ℕ) → j < linkCount (input .words) → endB (endsOf (input .words)) j ≡ endB (input .words) j
-  end-b j l = List·getD-append (input .words) (drop (length (input .words)) (absents 2048)) 0 (2 * j + 1) (omega (arith, p .pairs))
+  end-b j l = List·getD-append (input .words) (drop (length (input .words)) (absents 2048)) 0 (2 * j + 1)
+      (omega (arith, p .pairs))
 
   -- so a link of the state is a link of the table
-  pub same-links : (u v : ℕ) → Link (linkCount (input .words)) (endsOf (input .words)) u v ↔ Link (linkCount (input .words)) (input .words) u v
-  same-links u v = (λ (j, l, s). (j, l, rw (end-a j l, end-b j l) at s), λ (j, l, s). (j, l, rw (end-a j l, end-b j l) s))
+  pub same-links : (u v : ℕ) → Link (linkCount (input .words)) (endsOf (input .words)) u v
+      ↔ Link (linkCount (input .words)) (input .words) u v
+  same-links u v = (
+    λ (j, l, s). (j, l, rw (end-a j l, end-b j l) at s),
+    λ (j, l, s). (j, l, rw (end-a j l, end-b j l) s),
+  )
 
   pub site-loaded : Site (input .units) (linkCount (input .words)) (endsOf (input .words))
   site-loaded =
@@ -67,4 +73,10 @@ module _ (input : Input) (e : storedLoadRefusal input ≡ 0) where
   pub reached-loaded : Reached (loaded input)
   unfolding loaded begun
   reached-loaded =
-      in1 (record { stage = refl; quiet = refl; plan = inl refl; fresh = record { parents = absent-at; distances = absent-at }; colors = inl refl })
+      in1 (record {
+        stage = refl;
+        quiet = refl;
+        plan = inl refl;
+        fresh = record { parents = absent-at; distances = absent-at };
+        colors = inl refl;
+      })

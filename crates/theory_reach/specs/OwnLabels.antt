@@ -1,5 +1,5 @@
--- T-14, "the sum over all labels": `machine/Parts.parts` sums over the positions that are their own label, and of a finished survey these are exactly the
--- labels that its links carry, each once.
+-- T-14, "the sum over all labels": `machine/Parts.parts` sums over the positions that are their own label, and of a
+-- finished survey these are exactly the labels that its links carry, each once.
 use mathlib.Core.Path.{_≡_, sym, ap, _∙_}
 use mathlib.Core.Bool.{true}
 use mathlib.Core.Logic.{_↔_}
@@ -15,7 +15,8 @@ pub record LabelsCarried (input : Input) (e : State) : Type 0 where
   -- every label is a position
   pub below : (k : ℕ) → k < linksIn input → linkLabel e k < linksIn input
   -- a position is its own label exactly where some link carries it as its label
-  pub carried : (j : ℕ) → j < linksIn input → (isLabel (e .labels .label) j ≡ true) ↔ ((k : ℕ) × (k < linksIn input) × (linkLabel e k ≡ j))
+  pub carried : (j : ℕ) → j < linksIn input →
+      (isLabel (e .labels .label) j ≡ true) ↔ ((k : ℕ) × (k < linksIn input) × (linkLabel e k ≡ j))
 
 pub labels-carried : (input : Input) (e : State) → SurveyRight input e → LabelsCarried input e
 labels-carried input e right =

@@ -1,4 +1,5 @@
--- The parent that a round of stage 2 stores is the best: proofs, from spec_rules/specs/BestParent and what a kept state is.
+-- The parent that a round of stage 2 stores is the best: proofs, from spec_rules/specs/BestParent and what a kept state
+-- is.
 use mathlib.Core.Path.{_≡_, refl, sym, ap, subst, _∙_}
 use mathlib.Core.Bool.{Bool, true, false, cond, not, _&&_}
 use mathlib.Core.Logic.{_⊎_, inl, inr, _≢_}
@@ -33,12 +34,20 @@ use Rattle.theory_reach.specs.ParentsByLevel.{ParentsByLevel}
 
 range-small : (z : ℤ) → InRange z → mag z < 32768
 unfolding inRange
-range-small (pos a) h = omega (arith, leb-true a 0 (and-right (leZ LOWEST (pos a)) (leb a 0) (range-exact (pos a) .1 h)))
-range-small (negsuc b) h = omega (arith, leb-true b 126 (and-left (leb b 126) (leZ (negsuc b) HIGHEST) (range-exact (negsuc b) .1 h)))
+range-small (pos a) h = omega (
+  arith,
+  leb-true a 0
+      (and-right (leZ LOWEST (pos a)) (leb a 0) (range-exact (pos a) .1 h)),
+)
+range-small (negsuc b) h = omega (
+  arith,
+  leb-true b 126 (and-left (leb b 126) (leZ (negsuc b) HIGHEST) (range-exact (negsuc b) .1 h)),
+)
 
 -- ---- a kept state
 
-module _ (s : State) (kept : Kept s) (sized : Sized s) (stage : s .clock .stage ≡ 2) (unplanned : Step.planned s ≡ false) (later : 1 ≤ s .clock .made) where
+module _ (s : State) (kept : Kept s) (sized : Sized s) (stage : s .clock .stage ≡ 2)
+    (unplanned : Step.planned s ≡ false) (later : 1 ≤ s .clock .made) where
   table : Passes (units s) (words s)
   table = passes (units s) (words s) (kept .passes)
 
@@ -56,21 +65,25 @@ module _ (s : State) (kept : Kept s) (sized : Sized s) (stage : s .clock .stage 
       go : MadeOk s → s .clock .made < ABSENT
       go (inl w) = absurd (omega (arith, w .0, stage))
       go (inr w) =
-          let c : s .clock .made < ceiling (units s) 2 = subst (λ (k : ℕ). s .clock .made < ceiling (units s) k) stage (w .1) in
+          let c : s .clock .made < ceiling (units s) 2 =
+          subst (λ (k : ℕ). s .clock .made < ceiling (units s) k) stage (w .1) in
           omega (arith, table .fewUnits)
 
   stepped : Step.step s ≡ ticked s (Step.treeSearched s)
   unfolding Step.tree
-  stepped = step-at 2 tt s stage ∙ ap (ticked s) (cond-false (Step.planned s) (Step.treePlanned s) (Step.treeSearched s) unplanned)
+  stepped = step-at 2 tt s stage ∙ ap (ticked s)
+      (cond-false (Step.planned s) (Step.treePlanned s) (Step.treeSearched s) unplanned)
 
   module _ (v : ℕ) (l : v < units s) where
     visit : Bool
-    visit = visits (links s) (s .clock .made) (s .table .ends) (s .table .levels) (s .components .color) (s .tree .dist) v
+    visit = visits (links s) (s .clock .made) (s .table .ends) (s .table .levels) (s .components .color)
+        (s .tree .dist) v
 
     parent : ℕ
     parent = chosenParent (links s) (s .clock .made) (s .table .ends) (s .table .levels) (s .tree .dist) v
 
-    parent-stored : at (Step.step s .tree .parent) v ≡ cond visit (cond (eqb (s .clock .made) 0) ABSENT parent) (at (s .tree .parent) v)
+    parent-stored : at (Step.step s .tree .parent) v
+        ≡ cond visit (cond (eqb (s .clock .made) 0) ABSENT parent) (at (s .tree .parent) v)
     unfolding Step.treeSearched parentRound visit parent
     parent-stored =
         ap (λ (t : State). at (t .tree .parent) v) stepped
@@ -84,17 +97,22 @@ module _ (s : State) (kept : Kept s) (sized : Sized s) (stage : s .clock .stage 
 
     visit-exact : visit ≡ (eqb (at (s .tree .dist) v) ABSENT && not (eqb parent ABSENT))
     unfolding visit parent
-    visit-exact = visits-later (links s) (s .clock .made) (s .table .ends) (s .table .levels) (s .components .color) (s .tree .dist) v later
+    visit-exact = visits-later (links s) (s .clock .made) (s .table .ends) (s .table .levels) (s .components .color)
+        (s .tree .dist) v later
 
     -- a visit is of an unvisited unit with a choice, and stores both
-    visit-chosen : visit ≡ true → (parent ≢ ABSENT) × (at (Step.step s .tree .parent) v ≡ parent) × (at (Step.step s .tree .dist) v ≢ ABSENT)
+    visit-chosen : visit ≡ true → (parent ≢ ABSENT) × (at (Step.step s .tree .parent) v ≡ parent)
+        × (at (Step.step s .tree .dist) v ≢ ABSENT)
     visit-chosen t = (
-      eqb-false parent ABSENT (not-true (eqb parent ABSENT) (and-right (eqb (at (s .tree .dist) v) ABSENT) (not (eqb parent ABSENT)) (sym visit-exact ∙ t))),
-      parent-stored ∙ cond-true visit _ _ t ∙ cond-false (eqb (s .clock .made) 0) ABSENT parent (ne-eqb (s .clock .made) 0 (λ e. omega arith)),
+      eqb-false parent ABSENT (not-true (eqb parent ABSENT)
+          (and-right (eqb (at (s .tree .dist) v) ABSENT) (not (eqb parent ABSENT)) (sym visit-exact ∙ t))),
+      parent-stored ∙ cond-true visit _ _ t
+          ∙ cond-false (eqb (s .clock .made) 0) ABSENT parent (ne-eqb (s .clock .made) 0 (λ e. omega arith)),
       λ e. omega (arith, made-small, dist-stored, cond-true visit (s .clock .made) (at (s .tree .dist) v) t),
     )
 
-    unvisited : visit ≡ false → (at (Step.step s .tree .parent) v ≡ at (s .tree .parent) v) × (at (Step.step s .tree .dist) v ≡ at (s .tree .dist) v)
+    unvisited : visit ≡ false → (at (Step.step s .tree .parent) v ≡ at (s .tree .parent) v)
+        × (at (Step.step s .tree .dist) v ≡ at (s .tree .dist) v)
     unvisited f = (parent-stored ∙ cond-false visit _ _ f, dist-stored ∙ cond-false visit _ _ f)
 
     visits-it : at (s .tree .dist) v ≡ ABSENT → at (Step.step s .tree .dist) v ≢ ABSENT → visit ≡ true
@@ -105,30 +123,38 @@ module _ (s : State) (kept : Kept s) (sized : Sized s) (stage : s .clock .stage 
         go (inr f) = absurd (h (unvisited f .1 ∙ a))
 
     takes : at (s .tree .dist) v ≡ ABSENT → at (Step.step s .tree .dist) v ≢ ABSENT
-        → Best (links s) (s .clock .made) (s .table .ends) (s .table .levels) (s .tree .dist) v (at (Step.step s .tree .parent) v)
+        → Best (links s) (s .clock .made) (s .table .ends) (s .table .levels) (s .tree .dist) v
+        (at (Step.step s .tree .parent) v)
     unfolding parent
     takes a h =
         let c = visit-chosen (visits-it a h) in
         rw (c .1)
-        (chosen-best (links s) (s .clock .made) (s .table .ends) (s .table .levels) (s .tree .dist) (λ j k. end-small (2 * j) (omega arith)) (λ j k. end-small (2 * j + 1) (omega arith)) v
+        (chosen-best (links s) (s .clock .made) (s .table .ends) (s .table .levels) (s .tree .dist)
+        (λ j k. end-small (2 * j) (omega arith)) (λ j k. end-small (2 * j + 1) (omega arith)) v
         (c .0))
 
     visited : at (s .tree .dist) v ≡ ABSENT
-        → (i : ℕ) × (w : ℕ) × Offers (links s) (s .clock .made) (s .table .ends) (s .tree .dist) v i w → at (Step.step s .tree .dist) v ≢ ABSENT
+        → (i : ℕ) × (w : ℕ) × Offers (links s) (s .clock .made) (s .table .ends) (s .tree .dist) v i w →
+        at (Step.step s .tree .dist) v ≢ ABSENT
     unfolding parent
     visited a (i, w, o) =
         go
-        (chosen (links s) (s .clock .made) (s .table .ends) (s .table .levels) (s .tree .dist) (λ j k. end-small (2 * j) (omega arith)) (λ j k. end-small (2 * j + 1) (omega arith)) v)
+        (chosen (links s) (s .clock .made) (s .table .ends) (s .table .levels) (s .tree .dist)
+        (λ j k. end-small (2 * j) (omega arith)) (λ j k. end-small (2 * j + 1) (omega arith)) v)
       where
-        go : Choice (links s) (s .clock .made) (s .table .ends) (s .tree .dist) v parent → at (Step.step s .tree .dist) v ≢ ABSENT
+        go : Choice (links s) (s .clock .made) (s .table .ends) (s .tree .dist) v parent →
+            at (Step.step s .tree .dist) v ≢ ABSENT
         go (nobody e none) = absurd (none i w (o .0) (o .1) (o .2))
         go (nearer c j k joins d) =
             visit-chosen
             (visit-exact
-            ∙ and-true (eqb (at (s .tree .dist) v) ABSENT) (not (eqb parent ABSENT)) (eq-eqb (at (s .tree .dist) v) ABSENT a) (rw (ne-eqb parent ABSENT (λ e. omega arith)) refl))
+            ∙ and-true (eqb (at (s .tree .dist) v) ABSENT) (not (eqb parent ABSENT))
+            (eq-eqb (at (s .tree .dist) v) ABSENT a) (rw (ne-eqb parent ABSENT (λ e. omega arith)) refl))
             .2
 
-    stays : at (s .tree .dist) v ≢ ABSENT → (at (Step.step s .tree .parent) v ≡ at (s .tree .parent) v) × (at (Step.step s .tree .dist) v ≡ at (s .tree .dist) v)
+    stays : at (s .tree .dist) v ≢ ABSENT →
+        (at (Step.step s .tree .parent) v ≡ at (s .tree .parent) v)
+        × (at (Step.step s .tree .dist) v ≡ at (s .tree .dist) v)
     stays h = unvisited (visit-exact ∙ rw (ne-eqb (at (s .tree .dist) v) ABSENT h) refl)
 
 pub parents-by-level : ParentsByLevel

@@ -1,5 +1,6 @@
--- Numbers and tests that may have no value, and the words of the rules over them. A read at an absent or missing place, half of an odd number and a
--- difference below 0 have none; whatever needs one that is missing has none either, and what is not needed is not looked at.
+-- Numbers and tests that may have no value, and the words of the rules over them. A read at an absent or missing place,
+-- half of an odd number and a difference below 0 have none; whatever needs one that is missing has none either, and
+-- what is not needed is not looked at.
 use mathlib.Core.Path.{_≡_, refl}
 use mathlib.Core.Bool.{Bool, true, false, cond, not, _&&_, _||_}
 use mathlib.Core.Option.{Option, none, some, Option·map}
@@ -145,7 +146,8 @@ pub minus : {x y : Value} {a b : ℕ} → x ≡ some a → y ≡ some b → b �
 unfolding minus?
 minus {x} {y} {a} {b} e f l = rw (e, f, le-leb b a l) refl
 
-pub both : {A B C : Type 0} (f : A → B → C) {x : Option A} {y : Option B} {a : A} {b : B} → x ≡ some a → y ≡ some b → both? f x y ≡ some (f a b)
+pub both : {A B C : Type 0} (f : A → B → C) {x : Option A} {y : Option B} {a : A} {b : B} → x ≡ some a → y ≡ some b →
+    both? f x y ≡ some (f a b)
 unfolding both?
 both f e g = rw (e, g) refl
 
@@ -163,34 +165,41 @@ unfolding or?
 ors {b = true} e f = rw e refl
 ors {b = false} e f = rw e (f refl)
 
-pub ifs : {A : Type 0} {t : Test} {b : Bool} {x y : Option A} {u v : A} → t ≡ some b → (b ≡ true → x ≡ some u) → (b ≡ false → y ≡ some v) → if? t x y ≡ some (cond b u v)
+pub ifs : {A : Type 0} {t : Test} {b : Bool} {x y : Option A} {u v : A} → t ≡ some b → (b ≡ true → x ≡ some u) →
+    (b ≡ false → y ≡ some v) → if? t x y ≡ some (cond b u v)
 unfolding if?
 ifs {b = true} e f g = rw e (f refl)
 ifs {b = false} e f g = rw e (g refl)
 
 -- the same of a test that has its value
-pub conds : {A : Type 0} (b : Bool) {x y : Option A} {u v : A} → (b ≡ true → x ≡ some u) → (b ≡ false → y ≡ some v) → cond b x y ≡ some (cond b u v)
+pub conds : {A : Type 0} (b : Bool) {x y : Option A} {u v : A} → (b ≡ true → x ≡ some u) → (b ≡ false → y ≡ some v) →
+    cond b x y ≡ some (cond b u v)
 conds true f g = f refl
 conds false f g = g refl
 
-pub folds : (op : ℕ → ℕ → ℕ) (n : ℕ) (f : Value → Value) (g : ℕ → ℕ) {x : Value} {a : ℕ} → ((i : ℕ) → i < n → f (some i) ≡ some (g i)) → x ≡ some a
+pub folds : (op : ℕ → ℕ → ℕ) (n : ℕ) (f : Value → Value) (g : ℕ → ℕ) {x : Value} {a : ℕ} →
+    ((i : ℕ) → i < n → f (some i) ≡ some (g i)) → x ≡ some a
     → fold? op n f x ≡ some (fold op n g a)
 unfolding fold?
 folds op zero f g h e = e
 folds op (suc n) f g h e = both op (folds op n f g (λ (i : ℕ) (l : i < n). h i (le-step l)) e) (h n (le-refl (suc n)))
 
-pub counts : (n : ℕ) (p : Value → Test) (q : ℕ → Bool) → ((i : ℕ) → i < n → p (some i) ≡ some (q i)) → count? n p ≡ some (count n q)
+pub counts : (n : ℕ) (p : Value → Test) (q : ℕ → Bool) → ((i : ℕ) → i < n → p (some i) ≡ some (q i)) →
+    count? n p ≡ some (count n q)
 counts n p q h = folds _+_ n _ (λ (i : ℕ). cond (q i) 1 0) (λ i l. ifs (h i l) (λ e. refl) (λ e. refl)) refl
 
-pub anys : (n : ℕ) (p : Value → Test) (q : ℕ → Bool) → ((i : ℕ) → i < n → p (some i) ≡ some (q i)) → any? n p ≡ some (any n q)
+pub anys : (n : ℕ) (p : Value → Test) (q : ℕ → Bool) → ((i : ℕ) → i < n → p (some i) ≡ some (q i)) →
+    any? n p ≡ some (any n q)
 unfolding any?
 anys zero p q h = refl
 anys (suc n) p q h = ors (anys n p q (λ (i : ℕ) (l : i < n). h i (le-step l))) (λ e. h n (le-refl (suc n)))
 
-pub overs : (n : ℕ) (f : Value → Value) (g : ℕ → ℕ) (old : List ℕ) → ((i : ℕ) → i < n → f (some i) ≡ some (g i)) → over? n f old ≡ some (over n g old)
+pub overs : (n : ℕ) (f : Value → Value) (g : ℕ → ℕ) (old : List ℕ) → ((i : ℕ) → i < n → f (some i) ≡ some (g i)) →
+    over? n f old ≡ some (over n g old)
 unfolding over?
 overs zero f g old h = refl
 overs (suc n) f g [] h = refl
 overs (suc n) f g (x ∷ old) h =
     both _∷_ (h zero (suc-le-suc zero-le))
-    (overs n (λ (i : Value). f (Option·map suc i)) (λ (k : ℕ). g (suc k)) old (λ (i : ℕ) (l : i < n). h (suc i) (suc-le-suc l)))
+    (overs n (λ (i : Value). f (Option·map suc i)) (λ (k : ℕ). g (suc k)) old
+    (λ (i : ℕ) (l : i < n). h (suc i) (suc-le-suc l)))

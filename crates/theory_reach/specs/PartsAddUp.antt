@@ -1,5 +1,6 @@
--- T-14: over all labels, the units that a label's links touch, less one, and the groups add up to the units. A tree link is counted by the label of its
--- class, once; a label's links touch one unit more than its class has tree links; the units without a tree link are the groups' colour units.
+-- T-14: over all labels, the units that a label's links touch, less one, and the groups add up to the units. A tree
+-- link is counted by the label of its class, once; a label's links touch one unit more than its class has tree links;
+-- the units without a tree link are the groups' colour units.
 use mathlib.Core.Path.{_≡_, refl, sym, ap, _∙_}
 use mathlib.Core.Bool.{Bool, true, false, cond, not, _&&_, _||_}
 use mathlib.Core.Logic.{_⊎_, inl, inr, _↔_, _≢_}
@@ -9,7 +10,8 @@ use native.Mathlib.Decide.{ℕ-discrete, decLt}
 use native.Mathlib.Omega.{arith}
 use lib.Dec.{eqb, ltb}
 use borrow.Author.Tests.{eqb-true, eqb-false, eq-eqb, ne-eqb, lt-ltb}
-use Rattle.base_lists.specs.Tests.{either, and-exact, and-left, and-right, and-true, not-both, refuted, same-test, cond-true, cond-false}
+use Rattle.base_lists.specs.Tests.{either, and-exact, and-left, and-right, and-true, not-both, refuted, same-test}
+use Rattle.base_lists.specs.Tests.{cond-true, cond-false}
 use Rattle.base_lists.specs.Folds.{sum, count, some}
 use Rattle.base_lists.specs.Some.{some-exact}
 use Rattle.base_lists.specs.Sums.{sum-cong, sum-swap, sum-one, sum-zero}
@@ -28,7 +30,8 @@ use Rattle.theory_graph.specs.Touches.{Touches, Names, touched-count}
 use Rattle.theory_reach.specs.Site.{Site, Link, link-below, site-graph}
 use Rattle.theory_reach.specs.Rooted.{Rooted, rootOf, root-exact, nonroot-exact}
 use Rattle.theory_reach.specs.Ordered.{Ordered}
-use Rattle.theory_reach.specs.LabelsRight.{class-of, label-class, labels-as-classes, class-at-link, at-unit, link-touches}
+use Rattle.theory_reach.specs.LabelsRight.{class-of, label-class, labels-as-classes, class-at-link, at-unit}
+use Rattle.theory_reach.specs.LabelsRight.{link-touches}
 
 -- ---- counts
 
@@ -36,7 +39,8 @@ count-split : (n : ℕ) (p q : ℕ → Bool) → ((i : ℕ) → i < n → q i �
 count-split zero p q h = refl
 count-split (suc n) p q h = go (p n) (q n) (h n (omega arith)) (count-split n p q (λ i l. h i (omega arith)))
   where
-    go : (a b : Bool) → b ≡ not a → count n p + count n q ≡ n → (count n p + cond a 1 0) + (count n q + cond b 1 0) ≡ suc n
+    go : (a b : Bool) → b ≡ not a → count n p + count n q ≡ n →
+        (count n p + cond a 1 0) + (count n q + cond b 1 0) ≡ suc n
     go true b e k = rw e (omega arith)
     go false b e k = rw e (omega arith)
 
@@ -54,10 +58,12 @@ module _
 
     named-exact : (j v : ℕ) → v < n → (named j v ≡ true) ↔ Names d cl (at class j) v
     unfolding named
-    named-exact j v l = and-exact (not (isRoot parent v)) (eqb (cl v) (at class j)) (nonroot-exact rooted v l) (eq-exact (cl v) (at class j))
+    named-exact j v l = and-exact (not (isRoot parent v)) (eqb (cl v) (at class j)) (nonroot-exact rooted v l)
+        (eq-exact (cl v) (at class j))
 
     -- what a class touches, by its label
-    touched-exact : (j : ℕ) → j < m → at label j ≡ j → (x : ℕ) → (touchedBy m ends label j x ≡ true) ↔ Touches (Link m ends) (at parent) d cl (at class j) x
+    touched-exact : (j : ℕ) → j < m → at label j ≡ j → (x : ℕ) →
+        (touchedBy m ends label j x ≡ true) ↔ Touches (Link m ends) (at parent) d cl (at class j) x
     touched-exact j hj own x = (λ e. there (some-exact m test .0 e), back)
       where
         test : ℕ → Bool
@@ -66,22 +72,34 @@ module _
         there : (k : ℕ) × (k < m) × (test k ≡ true) → Touches (Link m ends) (at parent) d cl (at class j) x
         there (k, hk, e) =
             let same : at class k ≡ at class j =
-            labels-as-classes site rooted ordered classes class label class-is label-is k j hk hj .0 (eqb-true (at label k) j (and-left (eqb (at label k) j) (touches ends x k) e) ∙ sym own) in
-            rw same at (at-unit site rooted ordered classes class label class-is label-is x k hk (and-right (eqb (at label k) j) (touches ends x k) e))
+            labels-as-classes site rooted ordered classes class label class-is label-is k j hk hj .0
+            (eqb-true (at label k) j (and-left (eqb (at label k) j) (touches ends x k) e) ∙ sym own) in
+            rw same at (at-unit site rooted ordered classes class label class-is label-is x k hk
+            (and-right (eqb (at label k) j) (touches ends x k) e))
 
         back : Touches (Link m ends) (at parent) d cl (at class j) x → touchedBy m ends label j x ≡ true
         back (y, c) =
-            let w = class-at-link site rooted ordered classes class label class-is label-is x y (at class j) (class-link (site-graph site) (rooted .forest) c) c in
+            let w = class-at-link site rooted ordered classes class label class-is label-is x y (at class j)
+            (class-link (site-graph site) (rooted .forest) c) c in
             let k : ℕ = w .0 in
-            let e : at label k ≡ j = labels-as-classes site rooted ordered classes class label class-is label-is k j (w .1) hj .1 (w .3) ∙ own in
-            some-exact m test .1 (k, w .1, and-true (eqb (at label k) j) (touches ends x k) (eq-eqb (at label k) j e) (link-touches site rooted ordered classes class label class-is label-is x y k (w .2)))
+            let e : at label k ≡ j = labels-as-classes site rooted ordered classes class label class-is label-is k j
+            (w .1) hj .1 (w .3) ∙ own in
+            some-exact m test .1 (
+              k,
+              w .1,
+              and-true (eqb (at label k) j) (touches ends x k) (eq-eqb (at label k) j e)
+                  (link-touches site rooted ordered classes class label class-is label-is x y k (w .2)),
+            )
 
     -- a link's class is that of a tree link
     tree-of : {u v c : ℕ} → ClassOf (Link m ends) (at parent) d cl u v c → (w : ℕ) × Names d cl c w
     tree-of {u} (lower h e f) = (u, (h, sym f))
     tree-of {v = v} (upper h e f) = (v, (h, sym f))
     tree-of {u} {v} (first o k f) = (u, (not-top (site-graph site) (rooted .forest) u v (o .link) k, sym f))
-    tree-of {u} {v} (second o k f) = (v, (not-top (site-graph site) (rooted .forest) v u (site-graph site .flip u v (o .link)) k, sym f))
+    tree-of {u} {v} (second o k f) = (
+      v,
+      (not-top (site-graph site) (rooted .forest) v u (site-graph site .flip u v (o .link)) k, sym f),
+    )
 
     -- units touched less one: the tree links of the class
     part : (j : ℕ) → j < m → at label j ≡ j → touched n m ends label j - 1 ≡ count n (named j)
@@ -89,7 +107,8 @@ module _
         let w = tree-of (class-of site rooted ordered classes class label class-is label-is j hj) in
         omega (
           arith,
-          touched-count (site-graph site) (rooted .forest) classes n (at class j) (w .0) (touchedBy m ends label j) (named j) (w .1)
+          touched-count (site-graph site) (rooted .forest) classes n (at class j) (w .0) (touchedBy m ends label j)
+              (named j) (w .1)
               (λ u v l. link-below site u v l .0) (λ x l. touched-exact j hj own x) (λ x l. named-exact j x l),
         )
 
@@ -97,17 +116,23 @@ module _
     counts : ℕ → ℕ → Bool
     counts j v = isLabel label j && named j v
 
-    row : (j : ℕ) → j < m → cond (isLabel label j) (touched n m ends label j - 1) 0 ≡ sum n (λ (v : ℕ). cond (counts j v) 1 0)
+    row : (j : ℕ) → j < m → cond (isLabel label j) (touched n m ends label j - 1) 0
+        ≡ sum n (λ (v : ℕ). cond (counts j v) 1 0)
     unfolding counts
     row j hj = go (either (isLabel label j))
       where
-        go : (isLabel label j ≡ true) ⊎ (isLabel label j ≡ false) → cond (isLabel label j) (touched n m ends label j - 1) 0 ≡ count n (counts j)
+        go : (isLabel label j ≡ true) ⊎ (isLabel label j ≡ false) →
+            cond (isLabel label j) (touched n m ends label j - 1) 0 ≡ count n (counts j)
         go (inl e) =
             cond-true (isLabel label j) (touched n m ends label j - 1) 0 e ∙ part j hj (eqb-true (at label j) j e)
-            ∙ count-cong n (named j) (counts j) (λ i l. same-test (named j i) (counts j i) (λ t. and-true (isLabel label j) (named j i) e t) (λ t. and-right (isLabel label j) (named j i) t))
+            ∙ count-cong n (named j) (counts j)
+            (λ i l. same-test (named j i) (counts j i) (λ t. and-true (isLabel label j) (named j i) e t)
+            (λ t. and-right (isLabel label j) (named j i) t))
         go (inr e) =
             cond-false (isLabel label j) (touched n m ends label j - 1) 0 e
-            ∙ sym (sum-zero n (λ (v : ℕ). cond (counts j v) 1 0) (λ i l. cond-false (counts j i) 1 0 (refuted (counts j i) (λ t. not-both (isLabel label j) (and-left (isLabel label j) (named j i) t) e))))
+            ∙ sym (sum-zero n (λ (v : ℕ). cond (counts j v) 1 0)
+            (λ i l. cond-false (counts j i) 1 0
+            (refuted (counts j i) (λ t. not-both (isLabel label j) (and-left (isLabel label j) (named j i) t) e))))
 
     -- each unit below a root is counted by one label, a root by none
     column : (v : ℕ) → v < n → sum m (λ (j : ℕ). cond (counts j v) 1 0) ≡ cond (not (isRoot parent v)) 1 0
@@ -115,12 +140,19 @@ module _
     column v hv = go (either (not (isRoot parent v)))
       where
         none : not (isRoot parent v) ≡ false → (j : ℕ) → j < m → _≡_ {A = ℕ} (cond (counts j v) 1 0) 0
-        none e j l = cond-false (counts j v) 1 0 (refuted (counts j v) (λ t. not-both (not (isRoot parent v)) (and-left (not (isRoot parent v)) (eqb (cl v) (at class j)) (and-right (isLabel label j) (named j v) t)) e))
+        none e j l = cond-false (counts j v) 1 0
+            (refuted (counts j v) (λ t. not-both (not (isRoot parent v))
+            (and-left (not (isRoot parent v)) (eqb (cl v) (at class j)) (and-right (isLabel label j) (named j v) t)) e))
 
-        go : (not (isRoot parent v) ≡ true) ⊎ (not (isRoot parent v) ≡ false) → sum m (λ (j : ℕ). cond (counts j v) 1 0) ≡ cond (not (isRoot parent v)) 1 0
-        go (inr e) = sum-zero m (λ (j : ℕ). cond (counts j v) 1 0) (none e) ∙ sym (cond-false (not (isRoot parent v)) 1 0 e)
+        go : (not (isRoot parent v) ≡ true) ⊎ (not (isRoot parent v) ≡ false) →
+            sum m (λ (j : ℕ). cond (counts j v) 1 0) ≡ cond (not (isRoot parent v)) 1 0
+        go (inr e) = sum-zero m (λ (j : ℕ). cond (counts j v) 1 0) (none e)
+            ∙ sym (cond-false (not (isRoot parent v)) 1 0 e)
         go (inl e) =
-            sum-one m (λ (j : ℕ). cond (counts j v) 1 0) j hj only ∙ cond-true (counts j v) 1 0 (and-true (isLabel label j) (named j v) (eq-eqb (at label j) j own) (and-true (not (isRoot parent v)) (eqb (cl v) (at class j)) e (eq-eqb (cl v) (at class j) same)))
+            sum-one m (λ (j : ℕ). cond (counts j v) 1 0) j hj only
+            ∙ cond-true (counts j v) 1 0
+            (and-true (isLabel label j) (named j v) (eq-eqb (at label j) j own)
+            (and-true (not (isRoot parent v)) (eqb (cl v) (at class j)) e (eq-eqb (cl v) (at class j) same)))
             ∙ sym (cond-true (not (isRoot parent v)) 1 0 e)
           where
             h : 0 < d v
@@ -128,7 +160,8 @@ module _
 
             -- the link from v to its parent
             link : (k : ℕ) × (k < m) × SameLink (endA ends k) (endB ends k) v (at parent v) × (at class k ≡ cl v)
-            link = class-at-link site rooted ordered classes class label class-is label-is v (at parent v) (cl v) (rooted .forest .link v h) (lower h refl refl)
+            link = class-at-link site rooted ordered classes class label class-is label-is v (at parent v) (cl v)
+                (rooted .forest .link v h) (lower h refl refl)
 
             k : ℕ
             k = link .0
@@ -143,7 +176,8 @@ module _
             class-j = label-class site rooted ordered classes class label class-is label-is k (link .1) .1
 
             own : at label j ≡ j
-            own = labels-as-classes site rooted ordered classes class label class-is label-is j k hj (link .1) .1 class-j ∙ label-is k (link .1)
+            own = labels-as-classes site rooted ordered classes class label class-is label-is j k hj
+                (link .1) .1 class-j ∙ label-is k (link .1)
 
             same : cl v ≡ at class j
             same = sym (link .3) ∙ sym class-j
@@ -154,8 +188,12 @@ module _
                 equal : counts i v ≡ true → i ≡ j
                 equal t =
                     let q : at label i ≡ i = eqb-true (at label i) i (and-left (isLabel label i) (named i v) t) in
-                    let c : cl v ≡ at class i = eqb-true (cl v) (at class i) (and-right (not (isRoot parent v)) (eqb (cl v) (at class i)) (and-right (isLabel label i) (named i v) t)) in
-                    sym q ∙ labels-as-classes site rooted ordered classes class label class-is label-is i j hi hj .1 (sym c ∙ same) ∙ own
+                    let c : cl v ≡ at class i =
+                    eqb-true (cl v) (at class i)
+                    (and-right (not (isRoot parent v)) (eqb (cl v) (at class i))
+                    (and-right (isLabel label i) (named i v) t)) in
+                    sym q ∙ labels-as-classes site rooted ordered classes class label class-is label-is i j hi hj .1
+                    (sym c ∙ same) ∙ own
 
     -- roots are the units that equal their colour
     root-color : (v : ℕ) → v < n → eqb (at color v) v ≡ isRoot parent v
@@ -173,7 +211,16 @@ module _
     pub parts-add-up : parts n m ends label + groups n color ≡ n
     unfolding parts groups
     parts-add-up =
-        let f : parts n m ends label ≡ sum m (λ (j : ℕ). sum n (λ (v : ℕ). cond (counts j v) 1 0)) = sum-cong m _ _ row in
-        let g : sum n (λ (v : ℕ). sum m (λ (j : ℕ). cond (counts j v) 1 0)) ≡ count n (λ (v : ℕ). not (isRoot parent v)) = sum-cong n _ _ column in
+        let f : parts n m ends label ≡ sum m (λ (j : ℕ). sum n (λ (v : ℕ). cond (counts j v) 1 0)) =
+        sum-cong m _ _ row in
+        let g : sum n (λ (v : ℕ). sum m (λ (j : ℕ). cond (counts j v) 1 0))
+        ≡ count n (λ (v : ℕ). not (isRoot parent v)) = sum-cong n _ _ column in
         let s = sum-swap m n (λ (j v : ℕ). cond (counts j v) 1 0) in
-        omega (arith, f, g, s, count-split n (λ (v : ℕ). eqb (at color v) v) (λ (v : ℕ). not (isRoot parent v)) (λ i l. ap not (sym (root-color i l))))
+        omega (
+          arith,
+          f,
+          g,
+          s,
+          count-split n (λ (v : ℕ). eqb (at color v) v) (λ (v : ℕ). not (isRoot parent v))
+              (λ i l. ap not (sym (root-color i l))),
+        )

@@ -15,7 +15,8 @@ use Rattle.spec_machine.specs.Step
 use Rattle.spec_machine.specs.Report.{unitColor}
 use Rattle.theory_reach.specs.Site.{Link}
 use Rattle.theory_reach.specs.Colors.{Colored}
-use Rattle.theory_reach.specs.Invariant.{Base, In11, Reached, in1, in2, in3, in4, in5, in6, in7, in8, in9, in10, in11}
+use Rattle.theory_reach.specs.Invariant.{Base, In11, Reached, in1, in2, in3, in4, in5, in6, in7, in8, in9, in10}
+use Rattle.theory_reach.specs.Invariant.{in11}
 use Rattle.theory_reach.specs.Loaded.{same-links}
 use Rattle.theory_reach.specs.PartsAddUp.{parts-add-up}
 use Rattle.theory_reach.specs.Reach.{base-steps, reached-steps, table-steps}
@@ -41,14 +42,16 @@ last-stage s (in11 i) f = i
 
 sum-of : (s : State) → Base s → In11 s → partsOf s + groupsOf s ≡ units s
 sum-of s b i =
-    parts-add-up (b .site) (i .numbered .treed .rooted) (i .numbered .ordered) (i .classes) (s .labels .class) (s .labels .label) (i .named) (i .labelled)
+    parts-add-up (b .site) (i .numbered .treed .rooted) (i .numbered .ordered) (i .classes) (s .labels .class)
+    (s .labels .label) (i .named) (i .labelled)
 
 -- a unit equals its colour exactly where it is the least of those linked up with it
 least-of : {n m : ℕ} {ends color : List ℕ} → Colored n m ends color → (v : ℕ) → v < n
     → (at color v ≡ v) ↔ ((w : ℕ) → Connected (Link m ends) v w → v ≤ w)
 least-of {m = m} {ends = ends} {color = color} c v l = (
   λ e w k. let h : at color v ≤ w = c .lowest v w l k in omega (arith, e, h),
-  λ h. let a : v ≤ at color v = h (at color v) (c .reached v l) in let b : at color v ≤ v = c .lowest v v l (connected-refl (Link m ends) v) in omega arith,
+  λ h. let a : v ≤ at color v = h (at color v) (c .reached v l) in let b : at color v ≤ v =
+      c .lowest v v l (connected-refl (Link m ends) v) in omega arith,
 )
 
 module _ {input : Input} {s₀ : State} (S : Started input s₀) where
@@ -58,12 +61,15 @@ module _ {input : Input} {s₀ : State} (S : Started input s₀) where
         sum = sum-of s b i ∙ ap (λ (t : Table). t .units) e;
         components = λ v l.
             let q = least-of (i .numbered .treed .colored) v (rw e l) in
-            let there = connected-more (Link (linksIn input) (endsOf (input .words))) (Link (linksIn input) (input .words)) (λ x y k. same-links input (S .accepted) x y .0 k) in
-            let back = connected-more (Link (linksIn input) (input .words)) (Link (linksIn input) (endsOf (input .words))) (λ x y k. same-links input (S .accepted) x y .1 k) in
+            let there = connected-more (Link (linksIn input) (endsOf (input .words)))
+            (Link (linksIn input) (input .words)) (λ x y k. same-links input (S .accepted) x y .0 k) in
+            let back = connected-more (Link (linksIn input) (input .words))
+            (Link (linksIn input) (endsOf (input .words))) (λ x y k. same-links input (S .accepted) x y .1 k) in
             (λ x w k. (rw e at (q .0 x)) w (back v w k), λ h. q .1 (rw e (λ w k. h w (there v w k))));
       }
 
   -- whenever it is finished
   pub parts-right : (k : ℕ) → Step.steps k s₀ .clock .stage ≡ FINISHED → PartsRight input (Step.steps k s₀)
   parts-right k f =
-      over-words (Step.steps k s₀) (table-steps S k) (base-steps S k) (last-stage (Step.steps k s₀) (reached-steps S k) f)
+      over-words (Step.steps k s₀) (table-steps S k) (base-steps S k)
+      (last-stage (Step.steps k s₀) (reached-steps S k) f)

@@ -1,5 +1,5 @@
--- Stages 5 and 6 from the potentials: forward arcs, descendants and places; and what places are: a numbering of the units from 0 in which the
--- descendants of each unit are an interval.
+-- Stages 5 and 6 from the potentials: forward arcs, descendants and places; and what places are: a numbering of the
+-- units from 0 in which the descendants of each unit are an interval.
 use mathlib.Core.Path.{_≡_, refl, sym, ap, _∙_}
 use mathlib.Core.Bool.{true, false}
 use mathlib.Core.Logic.{_↔_, _⊎_, inl, inr}
@@ -20,8 +20,10 @@ use Rattle.table.specs.Table.{maxUnits}
 use Rattle.theory_graph.specs.Forest.{Anc}
 use Rattle.theory_graph.specs.Ancestors.{anc?, anc-depth, anc-level, root-along, root-anc, top-anc}
 use Rattle.theory_reach.specs.Rooted.{Rooted, rootOf, root-exact}
-use Rattle.theory_reach.specs.SizeAndOrder.{nd, pre, isAbove, above-exact, nd-positive, pre-root, anc-within, pre-apart}
-use Rattle.theory_reach.specs.Potentials.{rankOf, forwardSum, arc-cases, arc-exact, forward-into, pre-size, rank-less, rank-size}
+use Rattle.theory_reach.specs.SizeAndOrder.{nd, pre, isAbove, above-exact, nd-positive, pre-root, anc-within}
+use Rattle.theory_reach.specs.SizeAndOrder.{pre-apart}
+use Rattle.theory_reach.specs.Potentials.{rankOf, forwardSum, arc-cases, arc-exact, forward-into, pre-size}
+use Rattle.theory_reach.specs.Potentials.{rank-less, rank-size}
 
 -- how many units have a smaller color, and how many this one
 abbrev offset : ℕ → List ℕ → ℕ → ℕ
@@ -40,7 +42,10 @@ offset-size n color c =
       arith,
       count-true n,
       count-apart n (λ (w : ℕ). ltb (at color w) c) (λ (w : ℕ). eqb (at color w) c) (λ (w : ℕ). true)
-          (λ (w : ℕ) (l : w < n) (t : ltb (at color w) c ≡ true). let k = ltb-true (at color w) c t in (refl, ne-eqb (at color w) c (omega arith)))
+          (λ (w : ℕ) (l : w < n) (t : ltb (at color w) c ≡ true). let k = ltb-true (at color w) c t in (
+            refl,
+            ne-eqb (at color w) c (omega arith),
+          ))
           (λ (w : ℕ) (l : w < n) (t : eqb (at color w) c ≡ true). refl),
     )
 
@@ -49,7 +54,8 @@ offset-next n color c e h =
     count-apart n (λ (w : ℕ). ltb (at color w) c) (λ (w : ℕ). eqb (at color w) c) (λ (w : ℕ). ltb (at color w) e)
     (λ (w : ℕ) (l : w < n) (t : ltb (at color w) c ≡ true).
     let k = ltb-true (at color w) c t in (lt-ltb (at color w) e (omega arith), ne-eqb (at color w) c (omega arith)))
-    (λ (w : ℕ) (l : w < n) (t : eqb (at color w) c ≡ true). let k = eqb-true (at color w) c t in lt-ltb (at color w) e (omega arith))
+    (λ (w : ℕ) (l : w < n) (t : eqb (at color w) c ≡ true). let k = eqb-true (at color w) c t in lt-ltb (at color w) e
+    (omega arith))
 
 module _ {n m : ℕ} {ends color parent : List ℕ} {d : ℕ → ℕ} (rooted : Rooted n m ends color parent d) where
   -- ---- components
@@ -64,7 +70,8 @@ module _ {n m : ℕ} {ends color parent : List ℕ} {d : ℕ → ℕ} (rooted : 
       count-cong n (λ (w : ℕ). eqb (at color w) (at color v)) (isAbove parent d v)
       (λ (w : ℕ) (k : w < n).
       same-test (eqb (at color w) (at color v)) (isAbove parent d v w)
-      (λ t. above-exact rooted v w .1 (top-anc (rooted .forest) (root-color v l ∙ sym (eqb-true (at color w) (at color v) t) ∙ sym (root-color w k)) z))
+      (λ t. above-exact rooted v w .1 (top-anc (rooted .forest) (root-color v l
+      ∙ sym (eqb-true (at color w) (at color v) t) ∙ sym (root-color w k)) z))
       (λ t.
       eq-eqb (at color w) (at color v)
       (sym (root-color w k) ∙ sym (root-along (rooted .forest) (above-exact rooted v w .0 t)) ∙ root-color v l)))
@@ -75,7 +82,8 @@ module _ {n m : ℕ} {ends color parent : List ℕ} {d : ℕ → ℕ} (rooted : 
       let e = root-color v l in
       let k = rooted .colorBelow v l in
       let z : d (at color v) ≡ 0 = rw e at (root-anc (rooted .forest) v .1) in
-      let c : at color (at color v) ≡ at color v = sym (root-color (at color v) k) ∙ rooted .forest .top (at color v) z in
+      let c : at color (at color v) ≡ at color v =
+      sym (root-color (at color v) k) ∙ rooted .forest .top (at color v) z in
       let s : size n color (at color v) ≡ nd n parent d (at color v) = rw c at (root-size (at color v) k z) in
       let b : pre n parent d v + nd n parent d v ≤ nd n parent d (at color v) = rw e at (pre-size rooted v) in
       omega arith
@@ -90,18 +98,21 @@ module _ {n m : ℕ} {ends color parent : List ℕ} {d : ℕ → ℕ} (rooted : 
   place-below v l = omega (arith, place-fits v l, nd-positive rooted v l)
 
   -- components one after another
-  place-next : (v w : ℕ) → v < n → at color v < at color w → place n color parent d v + nd n parent d v ≤ place n color parent d w
+  place-next : (v w : ℕ) → v < n → at color v < at color w →
+      place n color parent d v + nd n parent d v ≤ place n color parent d w
   unfolding place
   place-next v w l h = omega (arith, pre-color v l, offset-next n color (at color v) (at color w) h)
 
   -- the descendants of v are the units whose places are from v's on, as many as they are
   pub interval : (v w : ℕ) → v < n → w < n
-      → Anc (at parent) d v w ↔ ((place n color parent d v ≤ place n color parent d w) × (place n color parent d w < place n color parent d v + nd n parent d v))
+      → Anc (at parent) d v w ↔ ((place n color parent d v ≤ place n color parent d w)
+      × (place n color parent d w < place n color parent d v + nd n parent d v))
   unfolding place
   interval v w l k = (to, from)
     where
       Within : Type 0
-      Within = (place n color parent d v ≤ place n color parent d w) × (place n color parent d w < place n color parent d v + nd n parent d v)
+      Within = (place n color parent d v ≤ place n color parent d w)
+          × (place n color parent d w < place n color parent d v + nd n parent d v)
 
       to : Anc (at parent) d v w → Within
       to a =
@@ -110,7 +121,8 @@ module _ {n m : ℕ} {ends color parent : List ℕ} {d : ℕ → ℕ} (rooted : 
           let z = nd-positive rooted w k in
           rw e (omega arith, omega arith)
 
-      other : at color v ≡ at color w → Within → (pre n parent d w < pre n parent d v) ⊎ (pre n parent d v + nd n parent d v ≤ pre n parent d w) → ⊥
+      other : at color v ≡ at color w → Within →
+          (pre n parent d w < pre n parent d v) ⊎ (pre n parent d v + nd n parent d v ≤ pre n parent d w) → ⊥
       other e b (inl h) = let i = rw e at (b .0) in omega arith
       other e b (inr h) = let i = rw e at (b .1) in omega arith
 
@@ -157,7 +169,8 @@ module _ {n m : ℕ} {ends color parent : List ℕ} {d : ℕ → ℕ} (rooted : 
       held : (b x : ℕ) → b < 2 * n → arcUnit b ≡ v → b ≡ x → at rank b ≡ rankOf n parent d x
       held b x k u e = f b k (arc-exact rooted b k .1 (rw u h)) ∙ ap (rankOf n parent d) e
 
-      go : ((a ≡ 2 * v) × (isInto a ≡ true)) ⊎ ((a ≡ 2 * v + 1) × (isInto a ≡ false)) → ltb (at rank a) (at rank (reverseArc a)) ≡ isInto a
+      go : ((a ≡ 2 * v) × (isInto a ≡ true)) ⊎ ((a ≡ 2 * v + 1) × (isInto a ≡ false)) →
+          ltb (at rank a) (at rank (reverseArc a)) ≡ isInto a
       go (inl (e, i)) =
           let x = held a (2 * v) l refl e in
           let y = held (a + 1) (2 * v + 1) (omega arith) (omega arith) (omega arith) in
@@ -172,7 +185,8 @@ module _ {n m : ℕ} {ends color parent : List ℕ} {d : ℕ → ℕ} (rooted : 
   unfolding descendants
   descendants-nd rank f v l = go (either (isRoot parent v)) (ℕ-discrete (d v) 0)
     where
-      go : (isRoot parent v ≡ true) ⊎ (isRoot parent v ≡ false) → Dec (d v ≡ 0) → descendants n color parent rank v ≡ nd n parent d v
+      go : (isRoot parent v ≡ true) ⊎ (isRoot parent v ≡ false) → Dec (d v ≡ 0) →
+          descendants n color parent rank v ≡ nd n parent d v
       go (inl t) z = rw t (root-size v l (root-exact rooted v l .0 t))
       go (inr t) (yes z) = absurd (not-both (isRoot parent v) (root-exact rooted v l .1 z) t)
       go (inr t) (no z) =
@@ -183,7 +197,8 @@ module _ {n m : ℕ} {ends color parent : List ℕ} {d : ℕ → ℕ} (rooted : 
           let y = f (2 * v + 1) (omega arith) (arc-exact rooted (2 * v + 1) (omega arith) .1 (rw odd h)) in
           rw (t, x, y) (rank-size rooted v h)
 
-  pub place-exact : n ≤ maxUnits → (sum : List ℕ) → ((a : ℕ) → a < 2 * n → at sum a ≡ forwardSum n parent d a) → (v : ℕ) → v < n
+  pub place-exact : n ≤ maxUnits → (sum : List ℕ) → ((a : ℕ) → a < 2 * n → at sum a ≡ forwardSum n parent d a) →
+      (v : ℕ) → v < n
       → placeOf n color parent sum v ≡ place n color parent d v
   unfolding placeOf place
   place-exact small sum f v l = go (either (isRoot parent v)) (ℕ-discrete (d v) 0)
@@ -191,7 +206,11 @@ module _ {n m : ℕ} {ends color parent : List ℕ} {d : ℕ → ℕ} (rooted : 
       fits : pre n parent d v + offset n color (at color v) < n
       fits = place-below v l
 
-      go : (isRoot parent v ≡ true) ⊎ (isRoot parent v ≡ false) → Dec (d v ≡ 0) → placeOf n color parent sum v ≡ place n color parent d v
+      go : (isRoot parent v ≡ true) ⊎ (isRoot parent v ≡ false) → Dec (d v ≡ 0) →
+          placeOf n color parent sum v ≡ place n color parent d v
       go (inl t) z = let p = pre-root rooted v (root-exact rooted v l .0 t) in rw t (omega (arith, fits))
       go (inr t) (yes z) = absurd (not-both (isRoot parent v) (root-exact rooted v l .1 z) t)
-      go (inr t) (no z) = let p = forward-into rooted v (omega arith) in rw (t, f (2 * v) (omega arith)) (omega (arith, fits))
+      go (inr t) (no z) = let p = forward-into rooted v (omega arith) in rw (
+        t,
+        f (2 * v) (omega arith),
+      ) (omega (arith, fits))

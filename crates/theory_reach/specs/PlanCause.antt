@@ -1,5 +1,5 @@
--- T-05, what 18 asks of a planner's table of parents, in the words of document 02 (`Drawn`), and that 18's test finds it exactly (`PlanCause`):
--- PlanCauseProof.antt proves it.
+-- T-05, what 18 asks of a planner's table of parents, in the words of document 02 (`Drawn`), and that 18's test finds
+-- it exactly (`PlanCause`): PlanCauseProof.antt proves it.
 use mathlib.Core.Path.{_≡_}
 use mathlib.Core.Bool.{false}
 use mathlib.Core.Logic.{_↔_, _≢_}
@@ -21,7 +21,8 @@ pub record Drawn (n m : ℕ) (ends color plan : List ℕ) : Type 0 where
   pub neighbour : (v : ℕ) → v < n → at color v ≢ v → Link m ends v (at plan v)
   pub arrives : (v : ℕ) → v < n → at color v ≢ v → (k : ℕ) × Climbs plan (at color v) k v
 
--- 18 is not given exactly where the table is so drawn, by the colours that stage 1 ends with; and there are such colours
+-- 18 is not given exactly where the table is so drawn, by the colours that stage 1 ends with; and there are such
+-- colours
 pub record PlanCause (n m : ℕ) (ends plan : List ℕ) : Type 0 where
   pub colors : (color : List ℕ) × Colored n m ends color
   pub exact : (color : List ℕ) → Colored n m ends color → (planUnfit n m ends plan ≡ false) ↔ Drawn n m ends color plan

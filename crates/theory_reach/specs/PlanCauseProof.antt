@@ -54,14 +54,16 @@ module _ (n m : ℕ) (ends plan : List ℕ) where
       linked : (v : ℕ) → v < n → at plan v ≢ ABSENT → Link m ends v (at plan v)
       linked v l h = go (either (some m (parentLink ends plan v)))
         where
-          go : (some m (parentLink ends plan v) ≡ true) ⊎ (some m (parentLink ends plan v) ≡ false) → Link m ends v (at plan v)
+          go : (some m (parentLink ends plan v) ≡ true) ⊎ (some m (parentLink ends plan v) ≡ false) →
+              Link m ends v (at plan v)
           go (inl t) = parent-link v (parent-linked m ends plan v .0 t)
           go (inr f) = absurd (none (inl (v, l, (h, λ w. not-both _ (parent-linked m ends plan v .1 w) f))))
 
       same : (j : ℕ) → j < m → topOf plan n (endA ends j) ≡ topOf plan n (endB ends j)
       same j l = go (ℕ-discrete (topOf plan n (endA ends j)) (topOf plan n (endB ends j)))
         where
-          go : Dec (topOf plan n (endA ends j) ≡ topOf plan n (endB ends j)) → topOf plan n (endA ends j) ≡ topOf plan n (endB ends j)
+          go : Dec (topOf plan n (endA ends j) ≡ topOf plan n (endB ends j)) →
+              topOf plan n (endA ends j) ≡ topOf plan n (endB ends j)
           go (yes h) = h
           go (no h) = absurd (none (inr (inr (j, l, h))))
 
@@ -88,7 +90,8 @@ module _ {n m : ℕ} {ends color plan : List ℕ} (site : Site n m ends) (colore
       record {
         colourless = λ v l e. orphan v l (ℕ-discrete (at plan v) ABSENT) e;
         neighbour = λ v l e. F .linked v l (parented v l e);
-        arrives = λ v l e. subst (λ (c : ℕ). (k : ℕ) × Climbs plan c k v) (top-color site F colored v l) (climbs-up′ v l);
+        arrives = λ v l e. subst (λ (c : ℕ). (k : ℕ) × Climbs plan c k v) (top-color site F colored v l)
+            (climbs-up′ v l);
       }
     where
       parented : (v : ℕ) → v < n → at color v ≢ v → at plan v ≢ ABSENT
@@ -100,7 +103,8 @@ module _ {n m : ℕ} {ends color plan : List ℕ} (site : Site n m ends) (colore
       orphan v l (no a) e = rw (top-color site F colored v l ∙ e) at (top-orphan plan n v (ends-at site F v l))
 
       climbs-up′ : (v : ℕ) → v < n → (k : ℕ) × Climbs plan (topOf plan n v) k v
-      climbs-up′ v l = climbs-up site F (λ (c k z : ℕ). Climbs plan c k z) (λ z. here refl) (λ z p k c q. up p q) v l refl
+      climbs-up′ v l = climbs-up site F (λ (c k z : ℕ). Climbs plan c k z) (λ z. here refl)
+          (λ z p k c q. up p q) v l refl
 
   -- ---- back
 
@@ -118,7 +122,8 @@ module _ {n m : ℕ} {ends color plan : List ℕ} (site : Site n m ends) (colore
         go (no e) = D .arrives v l e
 
     -- a unit with a parent is no colour unit, and its parent is a unit of the same colour
-    parent-unit : (v : ℕ) → v < n → at plan v ≢ ABSENT → Link m ends v (at plan v) × (at plan v < n) × (at color (at plan v) ≡ at color v)
+    parent-unit : (v : ℕ) → v < n → at plan v ≢ ABSENT →
+        Link m ends v (at plan v) × (at plan v < n) × (at color (at plan v) ≡ at color v)
     parent-unit v l h =
         let lk = D .neighbour v l (λ e. h (D .colourless v l e)) in
         let b = link-below site v (at plan v) lk .1 in
@@ -142,7 +147,8 @@ module _ {n m : ℕ} {ends color plan : List ℕ} (site : Site n m ends) (colore
     trail-length (suc k) v = ap suc (trail-length k (at plan v))
 
     -- each of them has a chain no longer to c, and is a unit
-    trail-members : (c : ℕ) {k v : ℕ} → v < n → Climbs plan c k v → (z : ℕ) → Mem z (trail k v) → (z < n) × ((j : ℕ) × (j ≤ k) × Climbs plan c j z)
+    trail-members : (c : ℕ) {k v : ℕ} → v < n → Climbs plan c k v → (z : ℕ) → Mem z (trail k v) →
+        (z < n) × ((j : ℕ) × (j ≤ k) × Climbs plan c j z)
     unfolding trail
     trail-members c {v = v} l (here e) z (inl f) = rw f (l, (zero, omega arith, here e))
     trail-members c l (here e) z (inr f) = absurd f
@@ -155,7 +161,8 @@ module _ {n m : ℕ} {ends color plan : List ℕ} (site : Site n m ends) (colore
     unfolding trail
     trail-different c o l (here e) = (λ m. m, tt)
     trail-different c o {k = suc k} {v} l (up h q) = (
-      λ m. let r = trail-members c (parent-unit v l h .1) q v m .1 in let i : r .0 ≤ k = r .1 in omega (arith, one-length c o (up h q) (r .2)),
+      λ m. let r = trail-members c (parent-unit v l h .1) q v m .1 in let i : r .0 ≤ k =
+          r .1 in omega (arith, one-length c o (up h q) (r .2)),
       trail-different c o (parent-unit v l h .1) q,
     )
 
@@ -164,24 +171,30 @@ module _ {n m : ℕ} {ends color plan : List ℕ} (site : Site n m ends) (colore
     short c o {k} {v} l q =
         omega (
           arith,
-          pigeonhole (λ i. true) n (trail k v) (trail-different c o l q) (λ z m. record { below = trail-members c l q z m .0; passes = refl }),
+          pigeonhole (λ i. true) n (trail k v) (trail-different c o l q)
+              (λ z m. record { below = trail-members c l q z m .0; passes = refl }),
           count-le n (λ i. true),
           trail-length k v,
         )
 
     -- and the top that is looked for within n units is the colour unit
-    top-climbs : (c : ℕ) → c ≢ ABSENT → at plan c ≡ ABSENT → {k v : ℕ} → Climbs plan c k v → (i : ℕ) → suc k ≤ i → topOf plan i v ≡ c
+    top-climbs : (c : ℕ) → c ≢ ABSENT → at plan c ≡ ABSENT → {k v : ℕ} → Climbs plan c k v → (i : ℕ) → suc k ≤ i →
+        topOf plan i v ≡ c
     top-climbs c p o (here e) zero h = absurd (omega arith)
-    top-climbs c p o {v = v} (here e) (suc i) h = cond-true (eqb (at plan v) ABSENT) v (topOf plan i (at plan v)) (eq-eqb (at plan v) ABSENT (ap (at plan) e ∙ o)) ∙ e
+    top-climbs c p o {v = v} (here e) (suc i) h =
+        cond-true (eqb (at plan v) ABSENT) v (topOf plan i (at plan v)) (eq-eqb (at plan v) ABSENT (ap (at plan) e ∙ o))
+        ∙ e
     top-climbs c p o (up g q) zero h = absurd (omega arith)
     top-climbs c p o {v = v} (up g q) (suc i) h =
-        cond-false (eqb (at plan v) ABSENT) v (topOf plan i (at plan v)) (ne-eqb (at plan v) ABSENT g) ∙ top-climbs c p o q i (omega arith)
+        cond-false (eqb (at plan v) ABSENT) v (topOf plan i (at plan v)) (ne-eqb (at plan v) ABSENT g)
+        ∙ top-climbs c p o q i (omega arith)
 
     top-is : (v : ℕ) → v < n → topOf plan n v ≡ at color v
     top-is v l =
         let r = reaches v l in
         let o = colour-orphan v l in
-        top-climbs (at color v) (unit-present site (at color v) (colored .below v l)) o (r .1) n (short (at color v) o l (r .1))
+        top-climbs (at color v) (unit-present site (at color v) (colored .below v l)) o (r .1) n
+        (short (at color v) o l (r .1))
 
     pub drawn-fits : Fits n m ends plan
     drawn-fits =
@@ -198,19 +211,25 @@ module _ {n m : ℕ} {ends color plan : List ℕ} (site : Site n m ends) (colore
 
 module _ {n m : ℕ} {ends : List ℕ} (site : Site n m ends) where
   pub coloring : (color : List ℕ) × Colored n m ends color
-  coloring = go n 1 (colorRound n m 0 ends (replicate n 0)) (Colors.first site (replicate n 0) (omega (arith, length-replicate {A = ℕ} n 0))) (omega arith) (omega arith)
+  coloring = go n 1 (colorRound n m 0 ends (replicate n 0))
+      (Colors.first site (replicate n 0) (omega (arith, length-replicate {A = ℕ} n 0))) (omega arith) (omega arith)
     where
       -- rounds go on until one changes nothing, and the ceiling comes after it
-      go : (fuel k : ℕ) (color : List ℕ) → ColorsAt n m ends color k → 1 ≤ k → n ≤ k + fuel → (color : List ℕ) × Colored n m ends color
+      go : (fuel k : ℕ) (color : List ℕ) → ColorsAt n m ends color k → 1 ≤ k → n ≤ k + fuel →
+          (color : List ℕ) × Colored n m ends color
       go zero k color c l h = on (either (colorEnds n k color (colorRound n m k ends color)))
         where
-          on : (colorEnds n k color (colorRound n m k ends color) ≡ true) ⊎ (colorEnds n k color (colorRound n m k ends color) ≡ false) → (color : List ℕ) × Colored n m ends color
+          on : (colorEnds n k color (colorRound n m k ends color) ≡ true)
+              ⊎ (colorEnds n k color (colorRound n m k ends color) ≡ false) → (color : List ℕ) × Colored n m ends color
           on (inl e) = (colorRound n m k ends color, Colors.done site c l e)
           on (inr e) = absurd (omega (arith, Colors.bound site c l e))
-      go (suc fuel) k color c l h = on (either (colorEnds n k color (colorRound n m k ends color))) (go fuel (suc k) (colorRound n m k ends color) (Colors.next site c l))
+      go (suc fuel) k color c l h = on (either (colorEnds n k color (colorRound n m k ends color)))
+          (go fuel (suc k) (colorRound n m k ends color) (Colors.next site c l))
         where
-          on : (colorEnds n k color (colorRound n m k ends color) ≡ true) ⊎ (colorEnds n k color (colorRound n m k ends color) ≡ false)
-              → (1 ≤ suc k → n ≤ suc k + fuel → (color : List ℕ) × Colored n m ends color) → (color : List ℕ) × Colored n m ends color
+          on : (colorEnds n k color (colorRound n m k ends color) ≡ true)
+              ⊎ (colorEnds n k color (colorRound n m k ends color) ≡ false)
+              → (1 ≤ suc k → n ≤ suc k + fuel → (color : List ℕ) × Colored n m ends color) →
+              (color : List ℕ) × Colored n m ends color
           on (inl e) later = (colorRound n m k ends color, Colors.done site c l e)
           on (inr e) later = later (omega arith) (omega arith)
 
@@ -218,5 +237,8 @@ module _ {n m : ℕ} {ends : List ℕ} (site : Site n m ends) where
   plan-cause plan =
       record {
         colors = coloring;
-        exact = λ color colored. (λ e. fits-drawn site colored (test-fits n m ends plan e), λ d. fits-test n m ends plan (drawn-fits site colored d));
+        exact = λ color colored. (
+          λ e. fits-drawn site colored (test-fits n m ends plan e),
+          λ d. fits-test n m ends plan (drawn-fits site colored d),
+        );
       }

@@ -1,5 +1,6 @@
--- T-05, number 18 whole: a load with a planner's table of parents is refused by 18 exactly where the stored table passes, the parents are n, and the
--- table of parents is not drawn as document 02 asks. PlanRefusedProof.antt proves it.
+-- T-05, number 18 whole: a load with a planner's table of parents is refused by 18 exactly where the stored table
+-- passes, the parents are n, and the table of parents is not drawn as document 02 asks. PlanRefusedProof.antt proves
+-- it.
 use mathlib.Core.Path.{_≡_}
 use mathlib.Core.Logic.{_⊎_, _↔_, _≢_}
 use mathlib.Core.List.{List}
@@ -13,8 +14,8 @@ use Rattle.theory_reach.specs.Site.{Link}
 use Rattle.theory_reach.specs.Colors.{Colored}
 use Rattle.theory_reach.specs.PlannedSteps.{Never}
 
--- what document 02 gives 18 for, of unit v: a colour unit has a parent, or another unit's parent isn't its neighbour or its chain of parents doesn't end
--- at its colour unit
+-- what document 02 gives 18 for, of unit v: a colour unit has a parent, or another unit's parent isn't its neighbour or
+-- its chain of parents doesn't end at its colour unit
 abbrev pub Misdrawn : ℕ → List ℕ → List ℕ → List ℕ → ℕ → Type 0
 Misdrawn m ends color ps v =
     ((at color v ≡ v) × (at ps v ≢ ABSENT))
@@ -33,4 +34,5 @@ Eighteen = (input : Input) (ps : List ℕ) → (plannedLoadRefusal input ps ≡ 
 
 -- as the call replies, on any state
 abbrev pub EighteenReplied : Type 0
-EighteenReplied = (input : Input) (ps : List ℕ) (s : State) → (numberOf (plannedLoadAnswer input ps s .reply) ≡ 18) ↔ Cause18 input ps
+EighteenReplied = (input : Input) (ps : List ℕ) (s : State) →
+    (numberOf (plannedLoadAnswer input ps s .reply) ≡ 18) ↔ Cause18 input ps

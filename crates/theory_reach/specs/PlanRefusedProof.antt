@@ -1,4 +1,5 @@
--- 18 is given exactly for its cause: proofs. Of a table of parents that some unit doesn't spoil, chains stay among the units, so `steps-to` decides where they end.
+-- 18 is given exactly for its cause: proofs. Of a table of parents that some unit doesn't spoil, chains stay among the
+-- units, so `steps-to` decides where they end.
 use mathlib.Core.Path.{_≡_, refl, sym, _∙_}
 use mathlib.Core.Bool.{Bool, true, false, cond}
 use mathlib.Core.Logic.{_⊎_, inl, inr, _↔_, _≢_}
@@ -19,7 +20,8 @@ use Rattle.spec_rules.specs.BoundLaws.{Names}
 use Rattle.spec_rules.specs.Planned.{stepsTo, parentLink}
 use Rattle.spec_rules.specs.PlannedLaws.{ParentLink, parent-linked, steps-few}
 use Rattle.spec_state.specs.declared.reply.Reply.the-variants.{Done}
-use Rattle.spec_machine.specs.Load.{Input, linksIn, storedLoadRefusal, parentsDiffer, parentsUnfit, plannedLoadRefusal, plannedLoaded}
+use Rattle.spec_machine.specs.Load.{Input, linksIn, storedLoadRefusal, parentsDiffer, parentsUnfit, plannedLoadRefusal}
+use Rattle.spec_machine.specs.Load.{plannedLoaded}
 use Rattle.spec_machine.specs.Calls.{plannedLoadAnswer}
 use Rattle.spec_machine.specs.AnswerLaws.{answered-number}
 use Rattle.spec_machine.specs.PlannedLoad.{planned-stored, planned-17, planned-18, planned-last}
@@ -34,11 +36,13 @@ use Rattle.theory_reach.specs.PlanRefused.{Misdrawn, Cause18, Eighteen, 
 
 -- ---- a table of parents is drawn as asked, or some unit says why not
 
-some-or-all : (n : ℕ) (P Q : ℕ → Type 0) → ((i : ℕ) → i < n → P i ⊎ Q i) → ((i : ℕ) → i < n → P i) ⊎ ((i : ℕ) × (i < n) × Q i)
+some-or-all : (n : ℕ) (P Q : ℕ → Type 0) → ((i : ℕ) → i < n → P i ⊎ Q i) →
+    ((i : ℕ) → i < n → P i) ⊎ ((i : ℕ) × (i < n) × Q i)
 some-or-all zero P Q h = inl (λ i l. absurd (omega arith))
 some-or-all (suc n) P Q h = go (some-or-all n P Q (λ i l. h i (omega arith))) (h n (omega arith))
   where
-    go : ((i : ℕ) → i < n → P i) ⊎ ((i : ℕ) × (i < n) × Q i) → P n ⊎ Q n → ((i : ℕ) → i < suc n → P i) ⊎ ((i : ℕ) × (i < suc n) × Q i)
+    go : ((i : ℕ) → i < n → P i) ⊎ ((i : ℕ) × (i < n) × Q i) → P n ⊎ Q n →
+        ((i : ℕ) → i < suc n → P i) ⊎ ((i : ℕ) × (i < suc n) × Q i)
     go (inl all) (inl here) = inl (below-suc P n all here)
     go (inl all) (inr q) = inr (n, omega arith, q)
     go (inr (i, l, q)) w = inr (i, omega arith, q)
@@ -59,12 +63,16 @@ module _ {n m : ℕ} {ends color : List ℕ} (site : Site n m ends) (colored : C
       back (j, l, inl e) = (j, l, inl e)
       back (j, l, inr e) = (j, l, inr (e .1, e .0))
 
-      go : Dec (at color v ≡ v) → Dec (at ps v ≡ ABSENT) → (some m (parentLink ends ps v) ≡ true) ⊎ (some m (parentLink ends ps v) ≡ false)
+      go : Dec (at color v ≡ v) → Dec (at ps v ≡ ABSENT) →
+          (some m (parentLink ends ps v) ≡ true) ⊎ (some m (parentLink ends ps v) ≡ false)
           → Parented m ends color ps v ⊎ Misdrawn m ends color ps v
       go (yes c) (yes a) t = inl (λ e. a, λ h. absurd (h c))
       go (yes c) (no a) t = inr (inl (c, a))
       go (no c) a (inl t) = inl (λ e. absurd (c e), λ h. link (parent-linked m ends ps v .0 t))
-      go (no c) a (inr f) = inr (inr (c, inl (λ k. not-both (some m (parentLink ends ps v)) (parent-linked m ends ps v .1 (back k)) f)))
+      go (no c) a (inr f) = inr (inr (
+        c,
+        inl (λ k. not-both (some m (parentLink ends ps v)) (parent-linked m ends ps v .1 (back k)) f),
+      ))
 
   drawn-or-not : Drawn n m ends color ps ⊎ ((v : ℕ) × (v < n) × Misdrawn m ends color ps v)
   drawn-or-not = go (some-or-all n (Parented m ends color ps) (Misdrawn m ends color ps) (λ v l. parented v))
@@ -90,9 +98,13 @@ module _ {n m : ℕ} {ends color : List ℕ} (site : Site n m ends) (colored : C
               s : StepsTo ps (at color v) v (stepsTo ps (at color v) n v)
               s = steps-to n ps names (at color v) (omega (arith, site .fewUnits)) v l
 
-              by : Dec (at color v ≡ v) → (stepsTo ps (at color v) n v < n) ⊎ (stepsTo ps (at color v) n v ≡ ABSENT) → Arrives v ⊎ Misdrawn m ends color ps v
+              by : Dec (at color v ≡ v) → (stepsTo ps (at color v) n v < n) ⊎ (stepsTo ps (at color v) n v ≡ ABSENT) →
+                  Arrives v ⊎ Misdrawn m ends color ps v
               by (yes c) w = inl (λ h. absurd (h c))
-              by (no c) (inl b) = inl (λ h. (stepsTo ps (at color v) n v, s .steps (stepsTo ps (at color v) n v) (omega (arith, site .fewUnits)) .0 refl .there))
+              by (no c) (inl b) = inl (λ h. (
+                stepsTo ps (at color v) n v,
+                s .steps (stepsTo ps (at color v) n v) (omega (arith, site .fewUnits)) .0 refl .there,
+              ))
               by (no c) (inr a) = inr (inr (c, inr (s .absent .0 a)))
 
           on : ((v : ℕ) → v < n → Arrives v) ⊎ ((v : ℕ) × (v < n) × Misdrawn m ends color ps v)
@@ -165,7 +177,8 @@ eighteen input ps = (to, from)
                     fault : Drawn (input .units) (linksIn input) (input .words) (c .colors .0) ps
                         ⊎ ((v : ℕ) × (v < input .units) × Misdrawn (linksIn input) (input .words) (c .colors .0) ps v)
                         → (v : ℕ) × (v < input .units) × Misdrawn (linksIn input) (input .words) (c .colors .0) ps v
-                    fault (inl w) = absurd (not-both (parentsUnfit input ps) u (c .exact (c .colors .0) (c .colors .1) .1 w))
+                    fault (inl w) = absurd
+                        (not-both (parentsUnfit input ps) u (c .exact (c .colors .0) (c .colors .1) .1 w))
                     fault (inr w) = w
                 drawn (inr u) = absurd (fresh-not-18 input (planned-last input ps z d u ∙ e))
 
@@ -174,7 +187,8 @@ eighteen input ps = (to, from)
       where
         go : (parentsUnfit input ps ≡ true) ⊎ (parentsUnfit input ps ≡ false) → plannedLoadRefusal input ps ≡ 18
         go (inl u) = sym (planned-18 input ps z (rw (eq-eqb (length ps) (input .units) l) refl) u)
-        go (inr u) = absurd (not-drawn (site-words input z) colored ps (eighteen-cause input ps z .exact color colored .0 u) v b h)
+        go (inr u) = absurd (not-drawn (site-words input z) colored ps
+            (eighteen-cause input ps z .exact color colored .0 u) v b h)
 
 -- as the call replies
 pub eighteen-replied : EighteenReplied

@@ -1,5 +1,5 @@
--- T-05: a planner's table of parents that passes 18 is a spanning forest rooted at the colour units, which is all that stages 3 to 10 assume of stages 1
--- and 2.
+-- T-05: a planner's table of parents that passes 18 is a spanning forest rooted at the colour units, which is all that
+-- stages 3 to 10 assume of stages 1 and 2.
 use mathlib.Core.Path.{_≡_, refl, sym, ap, subst, _∙_}
 use mathlib.Core.Bool.{Bool, true, false, cond}
 use mathlib.Core.Logic.{_⊎_, inl, inr, _↔_, _≢_}
@@ -25,7 +25,8 @@ use Rattle.theory_reach.specs.Site.{Site, Link, link-below}
 use Rattle.theory_reach.specs.Rooted.{Rooted, rootOf}
 use Rattle.theory_reach.specs.Colors.{Colored}
 
--- what 18's test finds in a table that passes: every chain ends at a unit not above its own; a parent is a neighbour; the ends of a link have one top
+-- what 18's test finds in a table that passes: every chain ends at a unit not above its own; a parent is a neighbour;
+-- the ends of a link have one top
 pub record Fits (n m : ℕ) (ends plan : List ℕ) : Type 0 where
   pub least : (v : ℕ) → v < n → topOf plan n v ≤ v
   pub linked : (v : ℕ) → v < n → at plan v ≢ ABSENT → Link m ends v (at plan v)
@@ -48,7 +49,8 @@ module _ (plan : List ℕ) where
   top-more (suc k) v h = go (eqb (at plan v) ABSENT) (top-more k (at plan v)) h
     where
       go : (b : Bool) → (topOf plan k (at plan v) ≢ ABSENT → topOf plan (suc k) (at plan v) ≡ topOf plan k (at plan v))
-          → cond b v (topOf plan k (at plan v)) ≢ ABSENT → cond b v (topOf plan (suc k) (at plan v)) ≡ cond b v (topOf plan k (at plan v))
+          → cond b v (topOf plan k (at plan v)) ≢ ABSENT →
+          cond b v (topOf plan (suc k) (at plan v)) ≡ cond b v (topOf plan k (at plan v))
       go true ih h = refl
       go false ih h = ih h
 
@@ -57,8 +59,10 @@ module _ (plan : List ℕ) where
   depth-more zero v h = absurd (h refl)
   depth-more (suc k) v h = go (eqb (at plan v) ABSENT) (depth-more k (at plan v)) h
     where
-      go : (b : Bool) → (topOf plan k (at plan v) ≢ ABSENT → depthTo plan (suc k) (at plan v) ≡ depthTo plan k (at plan v))
-          → cond b v (topOf plan k (at plan v)) ≢ ABSENT → cond b 0 (suc (depthTo plan (suc k) (at plan v))) ≡ cond b 0 (suc (depthTo plan k (at plan v)))
+      go : (b : Bool) → (topOf plan k (at plan v) ≢ ABSENT →
+          depthTo plan (suc k) (at plan v) ≡ depthTo plan k (at plan v))
+          → cond b v (topOf plan k (at plan v)) ≢ ABSENT →
+          cond b 0 (suc (depthTo plan (suc k) (at plan v))) ≡ cond b 0 (suc (depthTo plan k (at plan v)))
       go true ih h = refl
       go false ih h = ap suc (ih h)
 
@@ -76,7 +80,8 @@ module _ (plan : List ℕ) where
   top-orphan zero v h = absurd (h refl)
   top-orphan (suc k) v h = go (eqb (at plan v) ABSENT) refl (top-orphan k (at plan v)) h
     where
-      go : (b : Bool) → eqb (at plan v) ABSENT ≡ b → (topOf plan k (at plan v) ≢ ABSENT → at plan (topOf plan k (at plan v)) ≡ ABSENT)
+      go : (b : Bool) → eqb (at plan v) ABSENT ≡ b →
+          (topOf plan k (at plan v) ≢ ABSENT → at plan (topOf plan k (at plan v)) ≡ ABSENT)
           → cond b v (topOf plan k (at plan v)) ≢ ABSENT → at plan (cond b v (topOf plan k (at plan v))) ≡ ABSENT
       go true e ih h = eqb-true (at plan v) ABSENT e
       go false e ih h = ih h
@@ -86,17 +91,24 @@ module _ (plan : List ℕ) where
   unfolding depthTo
   steps-depth zero v few h = absurd (h refl)
   steps-depth (suc k) v few h =
-      go (eqb (at plan v) ABSENT) refl h (steps-depth k (at plan v) (omega arith)) (ℕ-discrete v (topOf plan k (at plan v)))
+      go (eqb (at plan v) ABSENT) refl h (steps-depth k (at plan v) (omega arith))
+      (ℕ-discrete v (topOf plan k (at plan v)))
     where
       go : (b : Bool) → eqb (at plan v) ABSENT ≡ b → cond b v (topOf plan k (at plan v)) ≢ ABSENT
-          → (topOf plan k (at plan v) ≢ ABSENT → stepsTo plan (topOf plan k (at plan v)) k (at plan v) ≡ depthTo plan k (at plan v))
+          → (topOf plan k (at plan v) ≢ ABSENT →
+          stepsTo plan (topOf plan k (at plan v)) k (at plan v) ≡ depthTo plan k (at plan v))
           → Dec (v ≡ topOf plan k (at plan v))
-          → cond (eqb v (cond b v (topOf plan k (at plan v)))) 0 (cond b ABSENT (onward (stepsTo plan (cond b v (topOf plan k (at plan v))) k (at plan v))))
+          → cond (eqb v (cond b v (topOf plan k (at plan v)))) 0
+          (cond b ABSENT (onward (stepsTo plan (cond b v (topOf plan k (at plan v))) k (at plan v))))
           ≡ cond b 0 (suc (depthTo plan k (at plan v)))
       go true e h ih q = rw (eq-eqb v v refl) refl
       go false e h ih (yes q) = absurd (eqb-false (at plan v) ABSENT e (ap (at plan) q ∙ top-orphan k (at plan v) h))
       go false e h ih (no q) =
-          rw (ne-eqb v (topOf plan k (at plan v)) q, ih h, ne-eqb (depthTo plan k (at plan v)) ABSENT (λ z. omega (arith, depth-few k (at plan v)))) (omega arith)
+          rw (
+            ne-eqb v (topOf plan k (at plan v)) q,
+            ih h,
+            ne-eqb (depthTo plan k (at plan v)) ABSENT (λ z. omega (arith, depth-few k (at plan v))),
+          ) (omega arith)
 
 module _ {n m : ℕ} {ends plan : List ℕ} (site : Site n m ends) (fits : Fits n m ends plan) where
   few : n ≤ 256
@@ -126,15 +138,19 @@ module _ {n m : ℕ} {ends plan : List ℕ} (site : Site n m ends) (fits : Fits 
       go (no e) = inl (parent-below v l e)
 
   -- one step up
-  pub top-up : (v : ℕ) → v < n → at plan v ≢ ABSENT → (topOf plan n (at plan v) ≡ topOf plan n v) × (depthTo plan n v ≡ suc (depthTo plan n (at plan v)))
+  pub top-up : (v : ℕ) → v < n → at plan v ≢ ABSENT →
+      (topOf plan n (at plan v) ≡ topOf plan n v) × (depthTo plan n v ≡ suc (depthTo plan n (at plan v)))
   unfolding depthTo
   top-up v l h = go (before .0) (before .1)
     where
-      go : (k : ℕ) → n ≡ suc k → (topOf plan n (at plan v) ≡ topOf plan n v) × (depthTo plan n v ≡ suc (depthTo plan n (at plan v)))
+      go : (k : ℕ) → n ≡ suc k → (topOf plan n (at plan v) ≡ topOf plan n v)
+          × (depthTo plan n v ≡ suc (depthTo plan n (at plan v)))
       go k e =
           let ne : eqb (at plan v) ABSENT ≡ false = ne-eqb (at plan v) ABSENT h in
-          let t : topOf plan (suc k) v ≡ topOf plan k (at plan v) = cond-false (eqb (at plan v) ABSENT) v (topOf plan k (at plan v)) ne in
-          let d : depthTo plan (suc k) v ≡ suc (depthTo plan k (at plan v)) = cond-false (eqb (at plan v) ABSENT) 0 (suc (depthTo plan k (at plan v))) ne in
+          let t : topOf plan (suc k) v ≡ topOf plan k (at plan v) =
+          cond-false (eqb (at plan v) ABSENT) v (topOf plan k (at plan v)) ne in
+          let d : depthTo plan (suc k) v ≡ suc (depthTo plan k (at plan v)) =
+          cond-false (eqb (at plan v) ABSENT) 0 (suc (depthTo plan k (at plan v))) ne in
           let some : topOf plan k (at plan v) ≢ ABSENT = λ z. ends-at v l (ap (λ (i : ℕ). topOf plan i v) e ∙ t ∙ z) in
           rw e (top-more plan k (at plan v) some ∙ sym t, d ∙ ap suc (sym (depth-more plan k (at plan v) some)))
 
@@ -145,7 +161,10 @@ module _ {n m : ℕ} {ends plan : List ℕ} (site : Site n m ends) (fits : Fits 
       go : (k : ℕ) → n ≡ suc k → (topOf plan n v ≡ v) × (depthTo plan n v ≡ 0)
       go k e =
           let t = eq-eqb (at plan v) ABSENT h in
-          rw e (cond-true (eqb (at plan v) ABSENT) v (topOf plan k (at plan v)) t, cond-true (eqb (at plan v) ABSENT) 0 (suc (depthTo plan k (at plan v))) t)
+          rw e (
+            cond-true (eqb (at plan v) ABSENT) v (topOf plan k (at plan v)) t,
+            cond-true (eqb (at plan v) ABSENT) 0 (suc (depthTo plan k (at plan v))) t,
+          )
 
   -- a chain is a route
   climbs : (k v : ℕ) → v < n → depthTo plan n v ≤ k → Connected (Link m ends) v (topOf plan n v)
@@ -156,15 +175,18 @@ module _ {n m : ℕ} {ends plan : List ℕ} (site : Site n m ends) (fits : Fits 
       go (no e) = absurd (omega (arith, top-up v l e .1))
   climbs (suc k) v l h = go (ℕ-discrete (at plan v) ABSENT) (climbs k (at plan v))
     where
-      go : Dec (at plan v ≡ ABSENT) → (at plan v < n → depthTo plan n (at plan v) ≤ k → Connected (Link m ends) (at plan v) (topOf plan n (at plan v)))
+      go : Dec (at plan v ≡ ABSENT) → (at plan v < n → depthTo plan n (at plan v) ≤ k →
+          Connected (Link m ends) (at plan v) (topOf plan n (at plan v)))
           → Connected (Link m ends) v (topOf plan n v)
       go (yes e) ih = rw (orphan-top v e .0) (connected-refl (Link m ends) v)
       go (no e) ih =
-          connected-trans (Link m ends) v (at plan v) (topOf plan n v) (connected-link (Link m ends) v (at plan v) (fits .linked v l e))
+          connected-trans (Link m ends) v (at plan v) (topOf plan n v)
+          (connected-link (Link m ends) v (at plan v) (fits .linked v l e))
           (rw (top-up v l e .0) at (ih (parent-below v l e) (omega (arith, top-up v l e .1))))
 
   -- a chain up to the top, for whatever is true of its end and kept by a step down
-  pub climbs-up : (P : ℕ → ℕ → ℕ → Type 0) → ((z : ℕ) → P z zero z) → ((z : ℕ) → at plan z ≢ ABSENT → (k c : ℕ) → P c k (at plan z) → P c (suc k) z)
+  pub climbs-up : (P : ℕ → ℕ → ℕ → Type 0) → ((z : ℕ) → P z zero z) →
+      ((z : ℕ) → at plan z ≢ ABSENT → (k c : ℕ) → P c k (at plan z) → P c (suc k) z)
       → {c : ℕ} (v : ℕ) → v < n → topOf plan n v ≡ c → (k : ℕ) × P c k v
   climbs-up P base step {c} v l e = go (depthTo plan n v) v l (omega arith) e
     where
@@ -176,7 +198,9 @@ module _ {n m : ℕ} {ends plan : List ℕ} (site : Site n m ends) (fits : Fits 
           pick (no a) = absurd (omega (arith, top-up w lw a .1))
       go (suc i) w lw h e = pick (ℕ-discrete (at plan w) ABSENT) (go i (at plan w))
         where
-          pick : Dec (at plan w ≡ ABSENT) → (at plan w < n → depthTo plan n (at plan w) ≤ i → topOf plan n (at plan w) ≡ c → (k : ℕ) × P c k (at plan w)) → (k : ℕ) × P c k w
+          pick : Dec (at plan w ≡ ABSENT) →
+              (at plan w < n → depthTo plan n (at plan w) ≤ i → topOf plan n (at plan w) ≡ c →
+              (k : ℕ) × P c k (at plan w)) → (k : ℕ) × P c k w
           pick (yes a) f = (zero, subst (λ (z : ℕ). P z zero w) (sym (orphan-top w a .0) ∙ e) (base w))
           pick (no a) f =
               let r = f (parent-below w lw a) (omega (arith, top-up w lw a .1)) (top-up w lw a .0 ∙ e) in
@@ -194,7 +218,8 @@ module _ {n m : ℕ} {ends plan : List ℕ} (site : Site n m ends) (fits : Fits 
     -- the top is the colour unit: it is linked up with v, and the least of those
     pub top-color : (v : ℕ) → v < n → topOf plan n v ≡ at color v
     top-color v l =
-        let a : at color v ≤ topOf plan n v = colored .lowest v (topOf plan n v) l (climbs n v l (depth-few plan n v)) in
+        let a : at color v ≤ topOf plan n v =
+        colored .lowest v (topOf plan n v) l (climbs n v l (depth-few plan n v)) in
         let b : topOf plan n (at color v) ≤ at color v = fits .least (at color v) (colored .below v l) in
         let c : topOf plan n v ≡ topOf plan n (at color v) = top-along v (at color v) (colored .reached v l) in
         omega arith
@@ -226,8 +251,16 @@ module _ {n m : ℕ} {ends plan : List ℕ} (site : Site n m ends) (fits : Fits 
       pub planned-rooted : Rooted n m ends color (plannedParents n plan parent) (depthIn n plan)
       planned-rooted =
           record {
-            forest = record { deeper = deeper; link = λ v h. let (l, e) = inside v h in rw (parent-at v l) (fits .linked v l e); top = top; spans = spans };
-            absentRoot = λ v l. (λ e. depth-at v l ∙ orphan-top v (sym (parent-at v l) ∙ e) .1, λ z. parent-at v l ∙ orphan v l z);
+            forest = record {
+              deeper = deeper;
+              link = λ v h. let (l, e) = inside v h in rw (parent-at v l) (fits .linked v l e);
+              top = top;
+              spans = spans;
+            };
+            absentRoot = λ v l. (
+              λ e. depth-at v l ∙ orphan-top v (sym (parent-at v l) ∙ e) .1,
+              λ z. parent-at v l ∙ orphan v l z,
+            );
             parentBelow = λ v l h. rw (parent-at v l) (parent-below v l (inside v h .1));
             colorBelow = colored .below;
             outside = outside;
@@ -240,11 +273,13 @@ module _ {n m : ℕ} {ends plan : List ℕ} (site : Site n m ends) (fits : Fits 
               go (yes e) = e
               go (no e) = absurd (omega (arith, depth-at v l, top-up v l e .1))
 
-          deeper : (v : ℕ) → 0 < depthIn n plan v → depthIn n plan v ≡ suc (depthIn n plan (at (plannedParents n plan parent) v))
+          deeper : (v : ℕ) → 0 < depthIn n plan v →
+              depthIn n plan v ≡ suc (depthIn n plan (at (plannedParents n plan parent) v))
           deeper v h =
               let l = inside v h .0 in
               let e = inside v h .1 in
-              depth-at v l ∙ top-up v l e .1 ∙ ap suc (sym (ap (depthIn n plan) (parent-at v l) ∙ depth-at (at plan v) (parent-below v l e)))
+              depth-at v l ∙ top-up v l e .1
+              ∙ ap suc (sym (ap (depthIn n plan) (parent-at v l) ∙ depth-at (at plan v) (parent-below v l e)))
 
           top : (v : ℕ) → depthIn n plan v ≡ 0 → rootOf n color v ≡ v
           top v z = go (decLt v n)
@@ -263,4 +298,5 @@ module _ {n m : ℕ} {ends plan : List ℕ} (site : Site n m ends) (fits : Fits 
       unfolding plannedDists
       planned-dist v l =
           getD-over n (λ (w : ℕ). stepsTo plan (at color w) n w) dist v 0 l (omega arith)
-          ∙ ap (λ (c : ℕ). stepsTo plan c n v) (sym (top-color v l)) ∙ steps-depth plan n v few (ends-at v l) ∙ sym (depth-at v l)
+          ∙ ap (λ (c : ℕ). stepsTo plan c n v) (sym (top-color v l)) ∙ steps-depth plan n v few (ends-at v l)
+          ∙ sym (depth-at v l)

@@ -13,7 +13,8 @@ use Rattle.spec_rules.specs.Basics.{ABSENT, at}
 use Rattle.spec_rules.specs.BoundLaws.{Names}
 use Rattle.spec_rules.specs.Planned.{topOf}
 use Rattle.spec_machine.specs.State.{State}
-use Rattle.spec_machine.specs.Load.{Input, linksIn, storedLoadRefusal, absents, endsOf, begun, loaded, parentsOf, plannedLoadRefusal, plannedLoaded}
+use Rattle.spec_machine.specs.Load.{Input, linksIn, storedLoadRefusal, absents, endsOf, begun, loaded, parentsOf}
+use Rattle.spec_machine.specs.Load.{plannedLoadRefusal, plannedLoaded}
 use Rattle.spec_machine.specs.StepLaws.{first-countdown}
 use Rattle.spec_machine.specs.PlannedLoad.{PlanAccepted, plan-accepted, parent-names, planned-wellFormed}
 use Rattle.theory_reach.specs.Site.{Site, Link, link-below}
@@ -26,16 +27,19 @@ use Rattle.theory_reach.specs.Loaded.{same-links, site-words, absent-at,
 use Rattle.theory_reach.specs.Started.{Started}
 
 -- two tables of parents that agree on the units have the same tops, where parents are units
-same-tops : (n : ℕ) (ps qs : List ℕ) → ((v : ℕ) → v < n → at ps v ≡ at qs v) → ((v : ℕ) → v < n → Names n (at ps v)) → (k v : ℕ) → v < n
+same-tops : (n : ℕ) (ps qs : List ℕ) → ((v : ℕ) → v < n → at ps v ≡ at qs v) → ((v : ℕ) → v < n → Names n (at ps v)) →
+    (k v : ℕ) → v < n
     → topOf ps k v ≡ topOf qs k v
 same-tops n ps qs same names zero v l = refl
-same-tops n ps qs same names (suc k) v l = rw (sym (same v l)) (go (either (eqb (at ps v) ABSENT)) (same-tops n ps qs same names k (at ps v)))
+same-tops n ps qs same names (suc k) v l =
+    rw (sym (same v l)) (go (either (eqb (at ps v) ABSENT)) (same-tops n ps qs same names k (at ps v)))
   where
     below : eqb (at ps v) ABSENT ≡ false → Names n (at ps v) → at ps v < n
     below r (inl h) = h
     below r (inr h) = absurd (eqb-false (at ps v) ABSENT r h)
 
-    go : (eqb (at ps v) ABSENT ≡ true) ⊎ (eqb (at ps v) ABSENT ≡ false) → (at ps v < n → topOf ps k (at ps v) ≡ topOf qs k (at ps v))
+    go : (eqb (at ps v) ABSENT ≡ true) ⊎ (eqb (at ps v) ABSENT ≡ false) →
+        (at ps v < n → topOf ps k (at ps v) ≡ topOf qs k (at ps v))
         → cond (eqb (at ps v) ABSENT) v (topOf ps k (at ps v)) ≡ cond (eqb (at ps v) ABSENT) v (topOf qs k (at ps v))
     go (inl e) later = rw e refl
     go (inr e) later = rw e (later (below e (names v l)))
@@ -54,7 +58,8 @@ module _ (input : Input) (ps : List ℕ) (a : PlanAccepted input ps) where
         least = λ v l. rw (sym (top-at v l)) (F .least v l);
         linked =
             λ v l h.
-            let there = same-links input (a .stored) v (at ps v) .1 (F .linked v l (λ e. h (sym (parent-at v l) ∙ e))) in
+            let there = same-links input (a .stored) v (at ps v) .1
+            (F .linked v l (λ e. h (sym (parent-at v l) ∙ e))) in
             rw (sym (parent-at v l)) there;
         together =
             λ u v k.
@@ -86,10 +91,12 @@ module _ (input : Input) (ps : List ℕ) (a : PlanAccepted input ps) where
       })
 
 -- 18 at this load: not given exactly where document 02 asks nothing more of the parents
-pub eighteen-cause : (input : Input) (ps : List ℕ) → storedLoadRefusal input ≡ 0 → PlanCause (input .units) (linksIn input) (input .words) ps
+pub eighteen-cause : (input : Input) (ps : List ℕ) → storedLoadRefusal input ≡ 0 →
+    PlanCause (input .units) (linksIn input) (input .words) ps
 eighteen-cause input ps e = plan-cause (site-words input e) ps
 
-pub planned-started : (input : Input) (ps : List ℕ) → plannedLoadRefusal input ps ≡ 0 → Started input (plannedLoaded input ps)
+pub planned-started : (input : Input) (ps : List ℕ) → plannedLoadRefusal input ps ≡ 0 →
+    Started input (plannedLoaded input ps)
 unfolding plannedLoaded loaded begun
 planned-started input ps accepted =
     let a = plan-accepted input ps accepted in

@@ -1,6 +1,6 @@
--- T-05: in any table of parents whose entries are absent or name units, whether or not a load would accept it, the distance that stage 2's round
--- stores is the number of steps after which the chain of parents first meets the colour unit, and absent exactly where it never gets there.
--- PlannedStepsProof.antt proves it.
+-- T-05: in any table of parents whose entries are absent or name units, whether or not a load would accept it, the
+-- distance that stage 2's round stores is the number of steps after which the chain of parents first meets the colour
+-- unit, and absent exactly where it never gets there. PlannedStepsProof.antt proves it.
 use mathlib.Core.Path.{_≡_}
 use mathlib.Core.Bool.{true}
 use mathlib.Core.Logic.{_↔_}

@@ -1,4 +1,5 @@
--- The steps along a planner's table of parents, counted: proofs. Before a chain meets c no unit comes twice, so n units are enough to look at.
+-- The steps along a planner's table of parents, counted: proofs. Before a chain meets c no unit comes twice, so n units
+-- are enough to look at.
 use mathlib.Core.Path.{_≡_, refl, sym, ap, subst, _∙_}
 use mathlib.Core.Bool.{true, cond}
 use mathlib.Core.Logic.{_⊎_, inl, inr, _≢_}
@@ -57,17 +58,29 @@ module _ (plan : List ℕ) (c : ℕ) where
 
       go : Dec (v ≡ c) → Dec (at plan v ≡ ABSENT) → Within plan c k (at plan v) → Within plan c (suc k) v
       go (yes e) h w =
-          inl
-          (zero, omega arith, record { there = here e; first = λ j q. omega arith }, cond-true (eqb v c) 0 (cond (eqb (at plan v) ABSENT) ABSENT later) (eq-eqb v c e))
+          inl (
+            zero,
+            omega arith,
+            record { there = here e; first = λ j q. omega arith },
+            cond-true (eqb v c) 0 (cond (eqb (at plan v) ABSENT) ABSENT later) (eq-eqb v c e),
+          )
       go (no d) (yes a) w =
-          inr
-          (ended, cond-false (eqb v c) 0 (cond (eqb (at plan v) ABSENT) ABSENT later) (ne-eqb v c d) ∙ cond-true (eqb (at plan v) ABSENT) ABSENT later (eq-eqb (at plan v) ABSENT a))
+          inr (
+            ended,
+            cond-false (eqb v c) 0 (cond (eqb (at plan v) ABSENT) ABSENT later) (ne-eqb v c d)
+                ∙ cond-true (eqb (at plan v) ABSENT) ABSENT later (eq-eqb (at plan v) ABSENT a),
+          )
         where
           ended : (j : ℕ) → j < suc k → Climbs plan c j v → ⊥
           ended j l (here e) = d e
           ended j l (up h q) = h a
       go (no d) (no h) (inl (j, l, w, e)) =
-          inl (suc j, omega arith, record { there = up h (w .there); first = first-up j v d w }, on d h ∙ ap onward e ∙ onward-some j (omega arith))
+          inl (
+            suc j,
+            omega arith,
+            record { there = up h (w .there); first = first-up j v d w },
+            on d h ∙ ap onward e ∙ onward-some j (omega arith),
+          )
       go (no d) (no h) (inr (none, e)) = inr (further, on d h ∙ ap onward e)
         where
           further : (j : ℕ) → j < suc k → Climbs plan c j v → ⊥
@@ -81,7 +94,13 @@ module _ (n : ℕ) (plan : List ℕ) (names : (v : ℕ) → v < n → Names n (a
   onto-next k v l w = go (w .there) (names v l)
     where
       go : Climbs plan c (suc k) v → Names n (at plan v) → (at plan v < n) × Meets plan c k (at plan v)
-      go (up h q) (inl b) = (b, record { there = q; first = λ j r. let s : suc k ≤ suc j = w .first (suc j) (up h r) in omega arith })
+      go (up h q) (inl b) = (
+        b,
+        record {
+          there = q;
+          first = λ j r. let s : suc k ≤ suc j = w .first (suc j) (up h r) in omega arith;
+        },
+      )
       go (up h q) (inr a) = absurd (h a)
 
   trail : ℕ → ℕ → List ℕ
@@ -93,7 +112,8 @@ module _ (n : ℕ) (plan : List ℕ) (names : (v : ℕ) → v < n → Names n (a
   trail-length zero v = refl
   trail-length (suc k) v = ap suc (trail-length k (at plan v))
 
-  trail-members : (k v : ℕ) → v < n → Meets plan c k v → (z : ℕ) → Mem z (trail k v) → (z < n) × ((j : ℕ) × (j ≤ k) × Meets plan c j z)
+  trail-members : (k v : ℕ) → v < n → Meets plan c k v → (z : ℕ) → Mem z (trail k v) →
+      (z < n) × ((j : ℕ) × (j ≤ k) × Meets plan c j z)
   unfolding trail
   trail-members zero v l w z (inl f) = rw f (l, (zero, omega arith, w))
   trail-members zero v l w z (inr f) = absurd f
@@ -120,7 +140,8 @@ module _ (n : ℕ) (plan : List ℕ) (names : (v : ℕ) → v < n → Names n (a
   short k v l w =
       omega (
         arith,
-        pigeonhole (λ i. true) n (trail k v) (trail-different k v l w) (λ z m. record { below = trail-members k v l w z m .0; passes = refl }),
+        pigeonhole (λ i. true) n (trail k v) (trail-different k v l w)
+            (λ z m. record { below = trail-members k v l w z m .0; passes = refl }),
         count-le n (λ i. true),
         trail-length k v,
       )
@@ -140,13 +161,19 @@ module _ (n : ℕ) (plan : List ℕ) (names : (v : ℕ) → v < n → Names n (a
       go : Within plan c n v → StepsTo plan c v (stepsTo plan c n v)
       go (inl (j, b, w, e)) =
           record {
-            steps = λ k h. (λ f. subst (λ (i : ℕ). Meets plan c i v) (sym e ∙ f) w, λ m. omega (arith, e, m .first j (w .there), w .first k (m .there)));
+            steps = λ k h. (
+              λ f. subst (λ (i : ℕ). Meets plan c i v) (sym e ∙ f) w,
+              λ m. omega (arith, e, m .first j (w .there), w .first k (m .there)),
+            );
             absent = (λ f. absurd (omega (arith, e)), λ never. absurd (never j (w .there)));
           }
       go (inr (none, e)) =
           record {
             steps = λ k h. (λ f. absurd (omega (arith, e)), λ m. absurd (none k (short k v l m) (m .there)));
-            absent = (λ f j q. let r = meeting j v q in none (r .0) (short (r .0) v l (r .1)) (r .1 .there), λ never. e);
+            absent = (
+              λ f j q. let r = meeting j v q in none (r .0) (short (r .0) v l (r .1)) (r .1 .there),
+              λ never. e,
+            );
           }
 
 -- ---- stage 2's round with a plan, of any kept state
@@ -154,7 +181,9 @@ module _ (n : ℕ) (plan : List ℕ) (names : (v : ℕ) → v < n → Names n (a
 pub planned-distance : PlannedDistances
 unfolding Step.tree Step.treePlanned plannedDists
 planned-distance s kept sized stage given v l =
-    subst (λ (x : ℕ). StepsTo plan c v x) (sym stored) (steps-to n plan (λ u b. names-at n plan u (table .someUnit) (kept .unitNames .1 .1 .1 .1 .1 .0)) c (omega (arith, table .fewUnits)) v l)
+    subst (λ (x : ℕ). StepsTo plan c v x) (sym stored)
+    (steps-to n plan (λ u b. names-at n plan u (table .someUnit) (kept .unitNames .1 .1 .1 .1 .1 .0)) c
+    (omega (arith, table .fewUnits)) v l)
   where
     n : ℕ
     n = units s
@@ -170,5 +199,6 @@ planned-distance s kept sized stage given v l =
 
     stored : at (Step.step s .tree .dist) v ≡ stepsTo plan c n v
     stored =
-        ap (λ (t : State). at (t .tree .dist) v) (step-at 2 tt s stage ∙ ap (ticked s) (cond-true (Step.planned s) (Step.treePlanned s) (Step.treeSearched s) given))
+        ap (λ (t : State). at (t .tree .dist) v) (step-at 2 tt s stage
+        ∙ ap (ticked s) (cond-true (Step.planned s) (Step.treePlanned s) (Step.treeSearched s) given))
         ∙ getD-over n _ (s .tree .dist) v 0 l (omega (arith, sized .byUnit .1 .1 .0, table .fewUnits))

@@ -1,5 +1,5 @@
--- The Euler tour by potentials, never as a list: the rank of an arc in its tour and its forward sum, as numbers that the forest gives. Round a unit
--- both are sums over the children passed so far.
+-- The Euler tour by potentials, never as a list: the rank of an arc in its tour and its forward sum, as numbers that
+-- the forest gives. Round a unit both are sums over the children passed so far.
 use mathlib.Core.Path.{_≡_, refl, ap, subst⁻¹, _∙_}
 use mathlib.Core.Bool.{true, false, cond}
 use mathlib.Core.Logic.{_↔_, _⊎_, inl, inr}
@@ -12,7 +12,9 @@ use borrow.Author.Tests.{eq-eqb, ne-eqb, lt-ltb, le-ltb}
 use Rattle.spec_rules.specs.Tour.{arcUnit, isInto, isArc}
 use Rattle.theory_graph.specs.Ancestors.{root-anc}
 use Rattle.theory_reach.specs.Rooted.{Rooted, rootOf, nonroot-exact}
-use Rattle.theory_reach.specs.SizeAndOrder.{nd, pre, earlier, key, Child, inside, deeper, nd-le, nd-positive, pre-root, pre-child, pre-deep, earlier-child, earlier-parent, anc-within}
+use Rattle.theory_reach.specs.SizeAndOrder.{nd, pre, earlier, key, Child, inside, deeper, nd-le, nd-positive}
+use Rattle.theory_reach.specs.SizeAndOrder.{pre-root, pre-child, pre-deep, earlier-child, earlier-parent}
+use Rattle.theory_reach.specs.SizeAndOrder.{anc-within}
 
 -- where an arc stands in its tour, from 1; what is no arc has rank 1 and forward sum 0
 unfoldable pub rankOf : ℕ → List ℕ → (ℕ → ℕ) → ℕ → ℕ
@@ -22,7 +24,8 @@ rankOf n parent d a =
 
 -- how many arcs of its tour up to it, itself included, lead into a unit
 unfoldable pub forwardSum : ℕ → List ℕ → (ℕ → ℕ) → ℕ → ℕ
-forwardSum n parent d a = cond (ltb 0 (d (arcUnit a))) (pre n parent d (arcUnit a) + cond (isInto a) 0 (nd n parent d (arcUnit a) - 1)) 0
+forwardSum n parent d a = cond (ltb 0 (d (arcUnit a)))
+    (pre n parent d (arcUnit a) + cond (isInto a) 0 (nd n parent d (arcUnit a) - 1)) 0
 
 -- a is the arc from u to v
 abbrev pub Arc : List ℕ → (ℕ → ℕ) → ℕ → ℕ → ℕ → Type 0
@@ -59,7 +62,8 @@ module _ {n m : ℕ} {ends color parent : List ℕ} {d : ℕ → ℕ} (rooted : 
       let u : arcUnit (2 * v) ≡ v = omega arith in
       rw (u, into-even v, lt-ltb 0 (d v) h) (omega (arith, pre-deep rooted v))
 
-  pub rank-out : (v : ℕ) → 0 < d v → rankOf n parent d (2 * v + 1) + d v + 1 ≡ 2 * pre n parent d v + 2 * nd n parent d v
+  pub rank-out : (v : ℕ) → 0 < d v → rankOf n parent d (2 * v + 1) + d v + 1
+      ≡ 2 * pre n parent d v + 2 * nd n parent d v
   unfolding rankOf
   rank-out v h =
       let u : arcUnit (2 * v + 1) ≡ v = omega arith in
@@ -95,7 +99,8 @@ module _ {n m : ℕ} {ends color parent : List ℕ} {d : ℕ → ℕ} (rooted : 
   pub rank-less : (v : ℕ) → 0 < d v → rankOf n parent d (2 * v) < rankOf n parent d (2 * v + 1)
   rank-less v h = omega (arith, rank-into v h, rank-out v h, nd-positive rooted v (inside rooted v h))
 
-  pub rank-size : (v : ℕ) → 0 < d v → (rankOf n parent d (2 * v + 1) + 1 - rankOf n parent d (2 * v)) / 2 ≡ nd n parent d v
+  pub rank-size : (v : ℕ) → 0 < d v → (rankOf n parent d (2 * v + 1) + 1 - rankOf n parent d (2 * v)) / 2
+      ≡ nd n parent d v
   rank-size v h = omega (arith, rank-into v h, rank-out v h, nd-positive rooted v (inside rooted v h))
 
   -- a law of the two arcs of each unit is a law of all arcs
@@ -106,7 +111,8 @@ module _ {n m : ℕ} {ends color parent : List ℕ} {d : ℕ → ℕ} (rooted : 
       go (inl (e, t)) = subst⁻¹ P e (f (arcUnit a) h .0)
       go (inr (e, t)) = subst⁻¹ P e (f (arcUnit a) h .1)
 
-  bounds : (a : ℕ) → 0 < d (arcUnit a) → (1 ≤ rankOf n parent d a) × (rankOf n parent d a + 2 ≤ 2 * n) × (forwardSum n parent d a ≤ n)
+  bounds : (a : ℕ) → 0 < d (arcUnit a) →
+      (1 ≤ rankOf n parent d a) × (rankOf n parent d a + 2 ≤ 2 * n) × (forwardSum n parent d a ≤ n)
   bounds =
       by-arcs (λ (a : ℕ). (1 ≤ rankOf n parent d a) × (rankOf n parent d a + 2 ≤ 2 * n) × (forwardSum n parent d a ≤ n))
       (λ (v : ℕ) (h : 0 < d v).
@@ -164,7 +170,8 @@ module _ {n m : ℕ} {ends color parent : List ℕ} {d : ℕ → ℕ} (rooted : 
 
   -- into v from its child u: as many as stand under the children up to u
   pub rank-to : (v u : ℕ) → Child parent d v u
-      → (rankOf n parent d (2 * u + 1) + d v ≡ 2 * pre n parent d v + 2 * earlier n parent d v (suc (key n parent d v u)))
+      → (rankOf n parent d (2 * u + 1) + d v
+      ≡ 2 * pre n parent d v + 2 * earlier n parent d v (suc (key n parent d v u)))
       × (forwardSum n parent d (2 * u + 1) ≡ pre n parent d v + earlier n parent d v (suc (key n parent d v u)))
   rank-to v u (h, e) =
       let a = rank-out u h in

@@ -1,5 +1,5 @@
--- Document 01, stages 4 and 6, for all lengths at once: a list of L objects needs lg(L) rounds with requests, the stage follows its longest list
--- and ends with one round without requests. RankedListsProof.antt proves it.
+-- Document 01, stages 4 and 6, for all lengths at once: a list of L objects needs lg(L) rounds with requests, the stage
+-- follows its longest list and ends with one round without requests. RankedListsProof.antt proves it.
 use mathlib.Core.Path.{_≡_}
 use mathlib.Core.Bool.{true, cond}
 use mathlib.Core.Logic.{_⊎_, _↔_}
@@ -37,7 +37,8 @@ ranking (suc fuel) K jump =
 pub record InLists (K : ℕ) (place : ℕ → ℕ) (pred : List ℕ) : Type 0 where
   pub few : K < ABSENT
   pub entries : K ≤ length pred
-  pub object : (a : ℕ) → a < K → ((at pred a ≡ ABSENT) × (place a ≡ 1)) ⊎ ((at pred a < K) × (place a ≡ place (at pred a) + 1))
+  pub object : (a : ℕ) → a < K → ((at pred a ≡ ABSENT) × (place a ≡ 1))
+      ⊎ ((at pred a < K) × (place a ≡ place (at pred a) + 1))
 
 -- the longest has L
 pub record Longest (K L : ℕ) (place : ℕ → ℕ) : Type 0 where
@@ -60,7 +61,8 @@ pub record FollowsLongest (K L : ℕ) (place : ℕ → ℕ) (pred : List ℕ) : 
   -- every working predecessor is then absent
   pub absent : (r : ℕ) → lg L ≤ r → (a : ℕ) → a < K → at (jumpsAfter K r pred) a ≡ ABSENT
   -- and each sum is the sum up to its object
-  pub sums : (value : List ℕ) (upTo : ℕ → ℕ) → UpTo K pred value upTo → (r : ℕ) → lg L ≤ r → (a : ℕ) → a < K → at (sumsAfter K r pred value) a ≡ upTo a
+  pub sums : (value : List ℕ) (upTo : ℕ → ℕ) → UpTo K pred value upTo → (r : ℕ) → lg L ≤ r → (a : ℕ) → a < K →
+      at (sumsAfter K r pred value) a ≡ upTo a
 
 -- ---- one list of L objects
 

@@ -1,4 +1,5 @@
--- The stage follows its longest list, and a list of L objects needs lg(L) rounds with requests: proofs, by the laws of a round in Doubling.antt.
+-- The stage follows its longest list, and a list of L objects needs lg(L) rounds with requests: proofs, by the laws of
+-- a round in Doubling.antt.
 use mathlib.Core.Path.{_≡_, refl, sym, ap, ap₂, subst, _∙_}
 use mathlib.Core.Bool.{true, false, cond}
 use mathlib.Core.Logic.{_⊎_, inl, inr, _↔_}
@@ -21,7 +22,8 @@ use Rattle.spec_rules.specs.Ranking.{sumRound, jumpRound, requestsOf, rankingEn
 use Rattle.spec_rules.specs.RankingLaws.{length-jumps, length-sums, jump-kept, jump-taken, sum-kept, sum-taken}
 use Rattle.theory_reach.specs.Doubling
 use Rattle.theory_reach.specs.Doubling.{Potential, Ranked, Reached, Ahead}
-use Rattle.theory_reach.specs.RankedLists.{jumpsAfter, sumsAfter, ranking, InLists, Longest, UpTo, FollowsLongest, before, chain, RankedList}
+use Rattle.theory_reach.specs.RankedLists.{jumpsAfter, sumsAfter, ranking, InLists, Longest, UpTo, FollowsLongest}
+use Rattle.theory_reach.specs.RankedLists.{before, chain, RankedList}
 
 length-tab : (n : ℕ) (f : ℕ → ℕ) → length (tab n f) ≡ n
 length-tab zero f = refl
@@ -42,9 +44,11 @@ module _ (K : ℕ) (place : ℕ → ℕ) (pred : List ℕ) (lists : InLists K pl
     potential = record { few = lists .few; positive = place-positive; small = summed .small }
 
     ranked : (r : ℕ) → Ranked K place upTo (jumpsAfter K r pred) (sumsAfter K r pred value) r
-    ranked zero = Doubling.start K place upTo pred value (lists .entries) (summed .values) (λ (a : ℕ) (l : a < K). go a l (lists .object a l))
+    ranked zero = Doubling.start K place upTo pred value (lists .entries) (summed .values)
+        (λ (a : ℕ) (l : a < K). go a l (lists .object a l))
       where
-        go : (a : ℕ) → a < K → ((at pred a ≡ ABSENT) × (place a ≡ 1)) ⊎ ((at pred a < K) × (place a ≡ place (at pred a) + 1))
+        go : (a : ℕ) → a < K → ((at pred a ≡ ABSENT) × (place a ≡ 1))
+            ⊎ ((at pred a < K) × (place a ≡ place (at pred a) + 1))
             → ((at pred a ≡ ABSENT) × (place a ≡ 1) × (at value a ≡ upTo a))
             ⊎ ((at pred a < K) × (place a ≡ place (at pred a) + 1) × (upTo a ≡ at value a + upTo (at pred a)))
         go a l (inl w) = inl (w .0, w .1, summed .head a l (w .0))
@@ -68,7 +72,8 @@ module _ (K : ℕ) (place : ℕ → ℕ) (pred : List ℕ) (lists : InLists K pl
   module _ (L : ℕ) (longest : Longest K L place) where
     ends : (r : ℕ) → (rankingEnds K (jumpsAfter K r pred) ≡ true) ↔ (lg L ≤ r)
     ends r =
-        Doubling.ranking-rounds (potential none (λ (a : ℕ). 0) none-summed) (ranked none (λ (a : ℕ). 0) none-summed r) L (longest .within)
+        Doubling.ranking-rounds (potential none (λ (a : ℕ). 0) none-summed) (ranked none (λ (a : ℕ). 0) none-summed r) L
+        (longest .within)
         (longest .attained .0) (longest .attained .1) (longest .attained .2)
 
     absent : (r : ℕ) → lg L ≤ r → (a : ℕ) → a < K → at (jumpsAfter K r pred) a ≡ ABSENT
@@ -80,15 +85,23 @@ module _ (K : ℕ) (place : ℕ → ℕ) (pred : List ℕ) (lists : InLists K pl
         go (inl w) = w .0
         go (inr w) =
             let power : 2 ^ lg L ≤ 2 ^ r = pow-mono h in
-            absurd (omega (arith, w .1, place-positive (at (jumpsAfter K r pred) a) (w .0), lg-reaches L, longest .within a l))
+            absurd (omega (
+              arith,
+              w .1,
+              place-positive (at (jumpsAfter K r pred) a) (w .0),
+              lg-reaches L,
+              longest .within a l,
+            ))
 
     pub follows-longest : FollowsLongest K L place pred
     follows-longest =
         record {
-          requests = λ (r : ℕ). Doubling.requests (potential none (λ (a : ℕ). 0) none-summed) (ranked none (λ (a : ℕ). 0) none-summed r);
+          requests = λ (r : ℕ). Doubling.requests (potential none (λ (a : ℕ). 0) none-summed)
+              (ranked none (λ (a : ℕ). 0) none-summed r);
           ends = ends;
           absent = absent;
-          sums = λ value upTo summed r h. Doubling.sums (potential value upTo summed) (ranked value upTo summed r) (ends r .1 h);
+          sums = λ value upTo summed r h. Doubling.sums (potential value upTo summed) (ranked value upTo summed r)
+              (ends r .1 h);
         }
 
 -- ---- one list
@@ -110,7 +123,8 @@ module _ (L : ℕ) (some : 1 ≤ L) (few : L < ABSENT) where
   chain-lists : InLists L suc (chain L)
   chain-lists = record { few = few; entries = omega (arith, length-tab L before); object = object }
     where
-      object : (a : ℕ) → a < L → ((at (chain L) a ≡ ABSENT) × (suc a ≡ 1)) ⊎ ((at (chain L) a < L) × (suc a ≡ suc (at (chain L) a) + 1))
+      object : (a : ℕ) → a < L → ((at (chain L) a ≡ ABSENT) × (suc a ≡ 1))
+          ⊎ ((at (chain L) a < L) × (suc a ≡ suc (at (chain L) a) + 1))
       object zero l = inl (chain-at zero l, refl)
       object (suc a) l = let e : at (chain L) (suc a) ≡ a = chain-at (suc a) l in inr (omega arith, omega arith)
 
@@ -125,7 +139,8 @@ module _ (L : ℕ) (some : 1 ≤ L) (few : L < ABSENT) where
   count-from x zero = omega arith
   count-from x (suc k) = go (decLt x (suc k)) (count-from x k)
     where
-      go : Dec (x < suc k) → count k (λ (a : ℕ). ltb x (suc a)) ≡ k - x → count (suc k) (λ (a : ℕ). ltb x (suc a)) ≡ suc k - x
+      go : Dec (x < suc k) → count k (λ (a : ℕ). ltb x (suc a)) ≡ k - x →
+          count (suc k) (λ (a : ℕ). ltb x (suc a)) ≡ suc k - x
       go (yes h) c = rw (lt-ltb x (suc k) h) (omega arith)
       go (no h) c = rw (le-ltb x (suc k) (omega arith)) (omega arith)
 
@@ -140,7 +155,8 @@ module _ (L : ℕ) (some : 1 ≤ L) (few : L < ABSENT) where
       go (yes k) = absurd (omega (arith, lg-least L r k))
       go (no k) = omega (arith, asked r)
 
-  chain-sums : (value : List ℕ) → L ≤ length value → total L (at value) ≤ MAX-NUMBER → UpTo L (chain L) value (λ (i : ℕ). total (suc i) (at value))
+  chain-sums : (value : List ℕ) → L ≤ length value → total L (at value) ≤ MAX-NUMBER →
+      UpTo L (chain L) value (λ (i : ℕ). total (suc i) (at value))
   chain-sums value long small =
       record {
         values = long;
@@ -153,7 +169,8 @@ module _ (L : ℕ) (some : 1 ≤ L) (few : L < ABSENT) where
       head zero l e = omega arith
       head (suc a) l e = absurd (omega (arith, chain-at (suc a) l))
 
-      later : (a : ℕ) → a < L → at (chain L) a < L → total (suc a) (at value) ≡ at value a + total (suc (at (chain L) a)) (at value)
+      later : (a : ℕ) → a < L → at (chain L) a < L →
+          total (suc a) (at value) ≡ at value a + total (suc (at (chain L) a)) (at value)
       later zero l e = absurd (omega (arith, chain-at zero l))
       later (suc a) l e =
           let q : at (chain L) (suc a) ≡ a = chain-at (suc a) l in
@@ -161,7 +178,8 @@ module _ (L : ℕ) (some : 1 ≤ L) (few : L < ABSENT) where
 
   sums : (value : List ℕ) → L ≤ length value → total L (at value) ≤ MAX-NUMBER → (i : ℕ) → i < L
       → at (sumsAfter L (lg L) (chain L) value) i ≡ total (suc i) (at value)
-  sums value long small = follows .sums value (λ (i : ℕ). total (suc i) (at value)) (chain-sums value long small) (lg L) (omega arith)
+  sums value long small = follows .sums value (λ (i : ℕ). total (suc i) (at value)) (chain-sums value long small) (lg L)
+      (omega arith)
 
   total-ones : (k : ℕ) → k ≤ L → total k (at (tab L (λ (j : ℕ). 1))) ≡ k
   total-ones zero l = refl
@@ -170,7 +188,8 @@ module _ (L : ℕ) (some : 1 ≤ L) (few : L < ABSENT) where
   ranks : L ≤ MAX-NUMBER → (i : ℕ) → i < L → at (sumsAfter L (lg L) (chain L) (tab L (λ (j : ℕ). 1))) i ≡ i + 1
   ranks small i l =
       let e : at (sumsAfter L (lg L) (chain L) (tab L (λ (j : ℕ). 1))) i ≡ total (suc i) (at (tab L (λ (j : ℕ). 1))) =
-      sums (tab L (λ (j : ℕ). 1)) (omega (arith, length-tab L (λ (j : ℕ). 1))) (omega (arith, total-ones L (omega arith))) i l in
+      sums (tab L (λ (j : ℕ). 1)) (omega (arith, length-tab L (λ (j : ℕ). 1)))
+      (omega (arith, total-ones L (omega arith))) i l in
       let f : total (suc i) (at (tab L (λ (j : ℕ). 1))) ≡ suc i = total-ones (suc i) l in
       e ∙ f ∙ omega arith
 
@@ -196,10 +215,12 @@ module _ (L : ℕ) (some : 1 ≤ L) (few : L < ABSENT) where
       go (inl w) all = inl (omega (arith, w .0), jump-kept L jump i l (omega (arith, long-jumps r)) (w .1) ∙ w .1)
       go (inr w) all =
           let x : at jump i ≡ i - 2 ^ r = w .1 in
-          let y : at (jumpRound L jump) i ≡ at jump (i - 2 ^ r) = jump-taken L jump i l (omega (arith, long-jumps r)) (omega arith) ∙ ap (at jump) x in
+          let y : at (jumpRound L jump) i ≡ at jump (i - 2 ^ r) =
+          jump-taken L jump i l (omega (arith, long-jumps r)) (omega arith) ∙ ap (at jump) x in
           on (w .0) y (all (i - 2 ^ r) (omega arith))
         where
-          on : 2 ^ r ≤ i → at (jumpRound L jump) i ≡ at jump (i - 2 ^ r) → Back r (i - 2 ^ r) (at jump (i - 2 ^ r)) → Back (suc r) i (at (jumpRound L jump) i)
+          on : 2 ^ r ≤ i → at (jumpRound L jump) i ≡ at jump (i - 2 ^ r) → Back r (i - 2 ^ r) (at jump (i - 2 ^ r)) →
+              Back (suc r) i (at (jumpRound L jump) i)
           on h y (inl v) = inl (omega (arith, v .0), y ∙ v .1)
           on h y (inr v) = inr (omega (arith, v .0), y ∙ v .1 ∙ omega (arith, v .0))
 
@@ -207,17 +228,23 @@ module _ (L : ℕ) (some : 1 ≤ L) (few : L < ABSENT) where
   unfolding Back
   back r i l = go (back-at r i l)
     where
-      go : Back r i (at (jumpsAfter L r (chain L)) i) → at (jumpsAfter L r (chain L)) i ≡ cond (ltb i (2 ^ r)) ABSENT (i - 2 ^ r)
+      go : Back r i (at (jumpsAfter L r (chain L)) i) →
+          at (jumpsAfter L r (chain L)) i ≡ cond (ltb i (2 ^ r)) ABSENT (i - 2 ^ r)
       go (inl w) = w .1 ∙ sym (cond-true (ltb i (2 ^ r)) ABSENT (i - 2 ^ r) (lt-ltb i (2 ^ r) (w .0)))
       go (inr w) = w .1 ∙ sym (cond-false (ltb i (2 ^ r)) ABSENT (i - 2 ^ r) (le-ltb i (2 ^ r) (w .0)))
 
   module _ (value : List ℕ) (long : L ≤ length value) (small : (i : ℕ) → i < L → at value i ≤ MAX-NUMBER) where
     long-sums : (r : ℕ) → L ≤ length (sumsAfter L r (chain L) value)
     long-sums zero = long
-    long-sums (suc r) = omega (arith, long-sums r, length-sums L (jumpsAfter L r (chain L)) (sumsAfter L r (chain L) value))
+    long-sums (suc r) = omega (
+      arith,
+      long-sums r,
+      length-sums L (jumpsAfter L r (chain L)) (sumsAfter L r (chain L) value),
+    )
 
     -- the sum of the last 2 ^ r values up to i
-    window : (r i : ℕ) → i < L → at (sumsAfter L r (chain L) value) i ≡ bounded (total (suc i) (at value) - total (suc i - 2 ^ r) (at value))
+    window : (r i : ℕ) → i < L → at (sumsAfter L r (chain L) value) i
+        ≡ bounded (total (suc i) (at value) - total (suc i - 2 ^ r) (at value))
     unfolding Back
     window zero i l =
         let k : suc i - 1 ≡ i = omega arith in
@@ -249,9 +276,11 @@ module _ (L : ℕ) (some : 1 ≤ L) (few : L < ABSENT) where
             let p : suc (i - 2 ^ r) ≡ suc i - 2 ^ r = omega arith in
             let q : suc i - 2 ^ r - 2 ^ r ≡ suc i - 2 ^ suc r = omega arith in
             let s : at sum (i - 2 ^ r) ≡ bounded (T (suc i - 2 ^ r) - T (suc i - 2 ^ suc r)) =
-            all (i - 2 ^ r) (omega arith) ∙ ap (λ (k : ℕ). bounded (T k - T (k - 2 ^ r))) p ∙ ap (λ (k : ℕ). bounded (T (suc i - 2 ^ r) - T k)) q in
+            all (i - 2 ^ r) (omega arith) ∙ ap (λ (k : ℕ). bounded (T k - T (k - 2 ^ r))) p
+            ∙ ap (λ (k : ℕ). bounded (T (suc i - 2 ^ r) - T k)) q in
             x
-            ∙ halves (T (suc i)) (T (suc i - 2 ^ r)) (T (suc i - 2 ^ suc r)) (at sum i) (at sum (i - 2 ^ r)) (sum-further (suc i - 2 ^ r) (suc i) (at value) (omega arith))
+            ∙ halves (T (suc i)) (T (suc i - 2 ^ r)) (T (suc i - 2 ^ suc r)) (at sum i) (at sum (i - 2 ^ r))
+            (sum-further (suc i - 2 ^ r) (suc i) (at value) (omega arith))
             (sum-further (suc i - 2 ^ suc r) (suc i - 2 ^ r) (at value) (omega arith)) (all i l) s
 
     clamped : (i : ℕ) → i < L → at (sumsAfter L (lg L) (chain L) value) i ≡ bounded (total (suc i) (at value))
@@ -264,7 +293,8 @@ module _ (L : ℕ) (some : 1 ≤ L) (few : L < ABSENT) where
 
   ranking-from : (fuel r : ℕ) → r ≤ lg L → lg L < r + fuel
       → (ranking fuel L (jumpsAfter L r (chain L)) .0 + r ≡ lg L + 1)
-      × (ranking fuel L (jumpsAfter L r (chain L)) .1 + total r (λ (i : ℕ). L - 2 ^ i) ≡ total (lg L) (λ (i : ℕ). L - 2 ^ i))
+      × (ranking fuel L (jumpsAfter L r (chain L)) .1 + total r (λ (i : ℕ). L - 2 ^ i)
+      ≡ total (lg L) (λ (i : ℕ). L - 2 ^ i))
   ranking-from zero r h k = absurd (omega arith)
   ranking-from (suc fuel) r h k = go (decLe (lg L) r) (ranking-from fuel (suc r))
     where
@@ -272,23 +302,31 @@ module _ (L : ℕ) (some : 1 ≤ L) (few : L < ABSENT) where
       From x = (x .0 + r ≡ lg L + 1) × (x .1 + total r (λ (i : ℕ). L - 2 ^ i) ≡ total (lg L) (λ (i : ℕ). L - 2 ^ i))
 
       more : ℕ × ℕ
-      more =
-          (ranking fuel L (jumpsAfter L (suc r) (chain L)) .0 + 1, ranking fuel L (jumpsAfter L (suc r) (chain L)) .1 + requestsOf L (jumpsAfter L r (chain L)))
+      more = (
+        ranking fuel L (jumpsAfter L (suc r) (chain L)) .0 + 1,
+        ranking fuel L (jumpsAfter L (suc r) (chain L)) .1 + requestsOf L (jumpsAfter L r (chain L)),
+      )
 
-      now : rankingEnds L (jumpsAfter L r (chain L)) ≡ true → From (1, 0) → From (cond (rankingEnds L (jumpsAfter L r (chain L))) (1, 0) more)
-      now e w = subst (λ (x : ℕ × ℕ). From x) (sym (cond-true (rankingEnds L (jumpsAfter L r (chain L))) (1, 0) more e)) w
+      now : rankingEnds L (jumpsAfter L r (chain L)) ≡ true → From (1, 0) →
+          From (cond (rankingEnds L (jumpsAfter L r (chain L))) (1, 0) more)
+      now e w = subst (λ (x : ℕ × ℕ). From x)
+          (sym (cond-true (rankingEnds L (jumpsAfter L r (chain L))) (1, 0) more e)) w
 
-      on : rankingEnds L (jumpsAfter L r (chain L)) ≡ false → From more → From (cond (rankingEnds L (jumpsAfter L r (chain L))) (1, 0) more)
-      on e w = subst (λ (x : ℕ × ℕ). From x) (sym (cond-false (rankingEnds L (jumpsAfter L r (chain L))) (1, 0) more e)) w
+      on : rankingEnds L (jumpsAfter L r (chain L)) ≡ false → From more →
+          From (cond (rankingEnds L (jumpsAfter L r (chain L))) (1, 0) more)
+      on e w = subst (λ (x : ℕ × ℕ). From x)
+          (sym (cond-false (rankingEnds L (jumpsAfter L r (chain L))) (1, 0) more e)) w
 
       go : Dec (lg L ≤ r)
           → (suc r ≤ lg L → lg L < suc r + fuel
           → (ranking fuel L (jumpsAfter L (suc r) (chain L)) .0 + suc r ≡ lg L + 1)
-          × (ranking fuel L (jumpsAfter L (suc r) (chain L)) .1 + total (suc r) (λ (i : ℕ). L - 2 ^ i) ≡ total (lg L) (λ (i : ℕ). L - 2 ^ i)))
+          × (ranking fuel L (jumpsAfter L (suc r) (chain L)) .1 + total (suc r) (λ (i : ℕ). L - 2 ^ i)
+          ≡ total (lg L) (λ (i : ℕ). L - 2 ^ i)))
           → From (cond (rankingEnds L (jumpsAfter L r (chain L))) (1, 0) more)
       go (yes l) later =
           let e : r ≡ lg L = omega arith in
-          let q : total r (λ (i : ℕ). L - 2 ^ i) ≡ total (lg L) (λ (i : ℕ). L - 2 ^ i) = ap (λ (k : ℕ). total k (λ (i : ℕ). L - 2 ^ i)) e in
+          let q : total r (λ (i : ℕ). L - 2 ^ i) ≡ total (lg L) (λ (i : ℕ). L - 2 ^ i) =
+          ap (λ (k : ℕ). total k (λ (i : ℕ). L - 2 ^ i)) e in
           now (follows .ends r .1 l) (omega arith, omega arith)
       go (no l) later =
           let w = later (omega arith) (omega arith) in

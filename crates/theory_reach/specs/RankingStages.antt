@@ -1,5 +1,5 @@
--- Document 01, stages 4 and 6 of every survey from a load: the stage follows its longest list, of L objects, makes lg(L) rounds with requests, and ends
--- with one round without. RankingStagesProof.antt proves it.
+-- Document 01, stages 4 and 6 of every survey from a load: the stage follows its longest list, of L objects, makes
+-- lg(L) rounds with requests, and ends with one round without. RankingStagesProof.antt proves it.
 use mathlib.Core.Path.{_≡_}
 use mathlib.Core.Logic.{_⊎_}
 use Prim.Native.Nat.{ℕ, _+_, _*_, _≤_, _<_, _^_}
@@ -35,4 +35,5 @@ pub record RankingStage (s : State) : Type 0 where
   pub silent : roundRequests (steps (lg L) s) ≡ 0
 
 abbrev pub RankingStages : Type 0
-RankingStages = (input : Input) (s₀ : State) → Started input s₀ → (k : ℕ) → AtRanking (steps k s₀) → RankingStage (steps k s₀)
+RankingStages = (input : Input) (s₀ : State) → Started input s₀ → (k : ℕ) → AtRanking (steps k s₀) →
+    RankingStage (steps k s₀)

@@ -1,4 +1,5 @@
--- Every state that a load reaches, from what it starts with, and what the finished one says: the last theorem of this crate is `survey-right`.
+-- Every state that a load reaches, from what it starts with, and what the finished one says: the last theorem of this
+-- crate is `survey-right`.
 use mathlib.Core.Path.{_≡_, refl, sym, ap, _∙_}
 use mathlib.Core.Bool.{Bool, true, false, cond}
 use mathlib.Core.Logic.{_⊎_, inl, inr, _↔_}
@@ -20,7 +21,8 @@ use Rattle.spec_machine.specs.Load.{Input, linksIn, tableOf, endsOf}
 use Rattle.spec_machine.specs.Step
 use Rattle.spec_machine.specs.StageLaws.{step-table, step-going}
 use Rattle.spec_machine.specs.Report.{unitSingle, linkLabel, linkLone}
-use Rattle.spec_machine.specs.RunLaws.{steps-suc, step-finished, Total, total, total-least, total-countdown, ended-exact, steps-wellFormed}
+use Rattle.spec_machine.specs.RunLaws.{steps-suc, step-finished, Total, total, total-least, total-countdown}
+use Rattle.spec_machine.specs.RunLaws.{ended-exact, steps-wellFormed}
 use Rattle.theory_reach.specs.Site.{Link}
 use Rattle.theory_reach.specs.Sized.{step-sized}
 use Rattle.theory_reach.specs.Invariant
@@ -70,7 +72,8 @@ module _ {input : Input} {s₀ : State} (S : Started input s₀) where
   reached-steps zero = S .reached
   reached-steps (suc k) =
       rw (steps-suc k s₀)
-      (reached-step (Step.steps k s₀) (base-steps k) (reached-steps k) (ℕ-discrete (Step.steps k s₀ .clock .stage) FINISHED))
+      (reached-step (Step.steps k s₀) (base-steps k) (reached-steps k)
+      (ℕ-discrete (Step.steps k s₀ .clock .stage) FINISHED))
 
   pub table-steps : (k : ℕ) → Step.steps k s₀ .table ≡ tableOf input
   unfolding Step.steps
@@ -104,16 +107,20 @@ module _ {input : Input} {s₀ : State} (S : Started input s₀) where
 pub record SurveyRight (input : Input) (e : State) : Type 0 where
   -- two different links have one label exactly when a ring holds both
   pub labels : (j k : ℕ) → j < linksIn input → k < linksIn input → (j ≡ k → ⊥)
-      → (linkLabel e j ≡ linkLabel e k) ↔ OnRing (Link (linksIn input) (input .words)) (endA (input .words) j) (endB (input .words) j) (endA (input .words) k) (endB (input .words) k)
+      → (linkLabel e j ≡ linkLabel e k) ↔ OnRing (Link (linksIn input) (input .words)) (endA (input .words) j)
+      (endB (input .words) j) (endA (input .words) k) (endB (input .words) k)
   -- a label is the least position that has it
   pub firsts : (j : ℕ) → j < linksIn input
       → (linkLabel e j < linksIn input) × (linkLabel e (linkLabel e j) ≡ linkLabel e j)
       × ((k : ℕ) → k < linksIn input → linkLabel e k ≡ linkLabel e j → linkLabel e j ≤ k)
   -- a link is lone exactly when no ring holds it
   pub lones : (j : ℕ) → j < linksIn input
-      → (linkLone e j ≡ true) ↔ ((r : List ℕ) → Ring (Link (linksIn input) (input .words)) r → Holds r (endA (input .words) j) (endB (input .words) j) → ⊥)
-  -- a unit is a single point exactly when two other units that are linked up with each other have no route that avoids it
-  pub singles : (u : ℕ) → u < input .units → (unitSingle e u ≡ true) ↔ Articulation (Link (linksIn input) (input .words)) u
+      → (linkLone e j ≡ true) ↔ ((r : List ℕ) → Ring (Link (linksIn input) (input .words)) r →
+      Holds r (endA (input .words) j) (endB (input .words) j) → ⊥)
+  -- a unit is a single point exactly when two other units that are linked up with each other have no route that avoids
+  -- it
+  pub singles : (u : ℕ) → u < input .units →
+      (unitSingle e u ≡ true) ↔ Articulation (Link (linksIn input) (input .words)) u
 
 module _ {input : Input} {s₀ : State} (S : Started input s₀) where
   -- over the state's own array
@@ -132,36 +139,51 @@ module _ {input : Input} {s₀ : State} (S : Started input s₀) where
   finished-right s e (in11 i) f = rw e at (i .right)
 
   -- in the words of the table
-  right-words : (s : State) → s .table ≡ tableOf input → LabelsRight.Right (input .units) (linksIn input) (endsOf (input .words)) (s .labels .label) → SurveyRight input s
+  right-words : (s : State) → s .table ≡ tableOf input →
+      LabelsRight.Right (input .units) (linksIn input) (endsOf (input .words)) (s .labels .label) → SurveyRight input s
   right-words s e r =
       record {
         labels =
             λ j k lj lk d.
             let w = r .together j k lj lk d in
-            let o = onRing-same (Link (linksIn input) (endsOf (input .words))) (Link (linksIn input) (input .words)) (same-links input (S .accepted)) (endA (input .words) j) (endB (input .words) j) (endA (input .words) k) (endB (input .words) k) in
-            let q : (at (s .labels .label) j ≡ at (s .labels .label) k) ↔ OnRing (Link (linksIn input) (endsOf (input .words))) (endA (input .words) j) (endB (input .words) j) (endA (input .words) k) (endB (input .words) k) =
-            rw (end-a input (S .accepted) j lj, end-b input (S .accepted) j lj, end-a input (S .accepted) k lk, end-b input (S .accepted) k lk) at w in
+            let o = onRing-same (Link (linksIn input) (endsOf (input .words))) (Link (linksIn input) (input .words))
+            (same-links input (S .accepted)) (endA (input .words) j) (endB (input .words) j) (endA (input .words) k)
+            (endB (input .words) k) in
+            let q : (at (s .labels .label) j ≡ at (s .labels .label) k)
+            ↔ OnRing (Link (linksIn input) (endsOf (input .words))) (endA (input .words) j) (endB (input .words) j)
+            (endA (input .words) k) (endB (input .words) k) =
+            rw (
+              end-a input (S .accepted) j lj,
+              end-b input (S .accepted) j lj,
+              end-a input (S .accepted) k lk,
+              end-b input (S .accepted) k lk,
+            ) at w in
             (λ x. o .0 (q .0 x), λ x. q .1 (o .1 x));
         firsts = r .firsts;
         lones =
             λ j l.
-            let o = no-ring-same (Link (linksIn input) (endsOf (input .words))) (Link (linksIn input) (input .words)) (same-links input (S .accepted)) (endA (input .words) j) (endB (input .words) j) in
-            let q : (lone (linksIn input) (s .labels .label) j ≡ true) ↔ ((c : List ℕ) → Ring (Link (linksIn input) (endsOf (input .words))) c → Holds c (endA (input .words) j) (endB (input .words) j) → ⊥) =
+            let o = no-ring-same (Link (linksIn input) (endsOf (input .words))) (Link (linksIn input) (input .words))
+            (same-links input (S .accepted)) (endA (input .words) j) (endB (input .words) j) in
+            let q : (lone (linksIn input) (s .labels .label) j ≡ true)
+            ↔ ((c : List ℕ) → Ring (Link (linksIn input) (endsOf (input .words))) c →
+            Holds c (endA (input .words) j) (endB (input .words) j) → ⊥) =
             rw (end-a input (S .accepted) j l, end-b input (S .accepted) j l) at (r .bridges j l) in
             rw e (λ x. o .0 (q .0 x), λ x. q .1 (o .1 x));
         singles =
             λ u l.
-            let o = articulation-same (Link (linksIn input) (endsOf (input .words))) (Link (linksIn input) (input .words)) (same-links input (S .accepted)) u in
+            let o = articulation-same (Link (linksIn input) (endsOf (input .words)))
+            (Link (linksIn input) (input .words)) (same-links input (S .accepted)) u in
             rw e (λ x. o .0 (r .cuts u l .0 x), λ x. r .cuts u l .1 (o .1 x));
       }
 
   -- whenever it is finished
   pub end-right : (k : ℕ) → Step.steps k s₀ .clock .stage ≡ FINISHED → SurveyRight input (Step.steps k s₀)
   end-right k f =
-      right-words (Step.steps k s₀) (table-steps S k) (finished-right (Step.steps k s₀) (table-steps S k) (reached-steps S k) f)
+      right-words (Step.steps k s₀) (table-steps S k)
+      (finished-right (Step.steps k s₀) (table-steps S k) (reached-steps S k) f)
 
-  -- From every start: the survey comes to the end after `total` rounds and no fewer, at most the first countdown; all rounds and requests stay
-  -- within their limits; and the finished survey is right.
+  -- From every start: the survey comes to the end after `total` rounds and no fewer, at most the first countdown; all
+  -- rounds and requests stay within their limits; and the finished survey is right.
   pub survey-right : Total s₀ (total s₀)
       × (total s₀ ≤ Step.countdown s₀)
       × (Step.countdown s₀ ≤ MAX-ROUNDS)

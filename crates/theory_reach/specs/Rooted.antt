@@ -1,5 +1,5 @@
--- The tables of colors and parents form a spanning forest rooted at the color units: all that stages 3 to 10 assume of stages 1 and 2. The depth
--- function is any; nothing here says how parents were chosen.
+-- The tables of colors and parents form a spanning forest rooted at the color units: all that stages 3 to 10 assume of
+-- stages 1 and 2. The depth function is any; nothing here says how parents were chosen.
 use mathlib.Core.Path.{_≡_}
 use mathlib.Core.Bool.{true, cond, not}
 use mathlib.Core.Logic.{_↔_}

@@ -13,7 +13,8 @@ use Rattle.base_log2.specs.Lg.{lg}
 use Rattle.table.specs.Table.{endA, endB}
 use Rattle.spec_rules.specs.Basics.{at}
 use Rattle.base_lists.specs.FoldLaws.{AtLeast, min-choice, max-choice}
-use Rattle.spec_rules.specs.Range.{localAt, localOf, globalFirst, rangeFirst, littleFirst, bigFirst, rangeLater, littleLater, bigLater, globalLater, rangeEnds}
+use Rattle.spec_rules.specs.Range.{localAt, localOf, globalFirst, rangeFirst, littleFirst, bigFirst, rangeLater}
+use Rattle.spec_rules.specs.Range.{littleLater, bigLater, globalLater, rangeEnds}
 use Rattle.spec_rules.specs.Aux.{joinsEnds, linkJoinsRound, joinsParent, parentJoinsRound}
 use Rattle.spec_machine.specs.State.{State}
 use Rattle.spec_state.specs.declared.groups.Range.{Range}
@@ -27,7 +28,8 @@ use Rattle.theory_reach.specs.Ordered.{Ordered, Ranged}
 use Rattle.theory_reach.specs.AuxEdges.{across-exact, joins-exact}
 use Rattle.theory_reach.specs.AuxColors.{Marked}
 use Rattle.theory_reach.specs.Invariant.{Base, Numbered, In7, In8, Reached, in7, in8, in9}
-use Rattle.theory_reach.specs.Ticks.{Goes, goes-over, goes-either, stage-on, made-on, stage-over, made-over, requests-next}
+use Rattle.theory_reach.specs.Ticks.{Goes, goes-over, goes-either, stage-on, made-on, stage-over, made-over}
+use Rattle.theory_reach.specs.Ticks.{requests-next}
 
 -- low and high over all descendants, from the last segments
 module _ (s : State) (b : Base s) (numbered : Numbered s) where
@@ -40,15 +42,18 @@ module _ (s : State) (b : Base s) (numbered : Numbered s) where
   -- the local values of places
   Low : List ℕ → List ℕ → List ℕ → List ℕ → ℕ → Type 0
   Low global range little big k =
-      SegmentsAt _≤_ (units s) (localAt min (units s) (links s) (s .table .ends) (s .tree .parent) (s .order .pre)) (at (s .order .pre))
+      SegmentsAt _≤_ (units s) (localAt min (units s) (links s) (s .table .ends) (s .tree .parent) (s .order .pre))
+      (at (s .order .pre))
       (lastPlace (s .order .nd) (s .order .pre)) global range little big k
 
   High : List ℕ → List ℕ → List ℕ → List ℕ → ℕ → Type 0
   High global range little big k =
-      SegmentsAt AtLeast (units s) (localAt max (units s) (links s) (s .table .ends) (s .tree .parent) (s .order .pre)) (at (s .order .pre))
+      SegmentsAt AtLeast (units s) (localAt max (units s) (links s) (s .table .ends) (s .tree .parent) (s .order .pre))
+      (at (s .order .pre))
       (lastPlace (s .order .nd) (s .order .pre)) global range little big k
 
-  ranged : (gl gh low high little big : List ℕ) → Low gl low little big (lg (units s)) → High gh high little big (lg (units s))
+  ranged : (gl gh low high little big : List ℕ) → Low gl low little big (lg (units s)) →
+      High gh high little big (lg (units s))
       → Ranged (units s) (links s) (s .table .ends) (s .tree .parent) (s .order .pre) (numbered .treed .depth) low high
   unfolding Low High
   ranged gl gh low high little big l h =
@@ -60,18 +65,24 @@ module _ (s : State) (b : Base s) (numbered : Numbered s) where
       }
     where
       lows : (v : ℕ) → v < units s
-          → ((w : ℕ) → w < units s → at (s .order .pre) v ≤ at (s .order .pre) w → at (s .order .pre) w < at (s .order .pre) v + at (s .order .nd) v
+          → ((w : ℕ) → w < units s → at (s .order .pre) v ≤ at (s .order .pre) w →
+          at (s .order .pre) w < at (s .order .pre) v + at (s .order .nd) v
           → at low v ≤ localOf min (links s) (s .table .ends) (s .tree .parent) (s .order .pre) w)
-          × ((w : ℕ) × (w < units s) × (at (s .order .pre) v ≤ at (s .order .pre) w) × (at (s .order .pre) w < at (s .order .pre) v + at (s .order .nd) v)
+          × ((w : ℕ) × (w < units s) × (at (s .order .pre) v ≤ at (s .order .pre) w)
+          × (at (s .order .pre) w < at (s .order .pre) v + at (s .order .nd) v)
           × (at low v ≡ localOf min (links s) (s .table .ends) (s .tree .parent) (s .order .pre) w))
-      lows = over-descendants (units s) (s .order .nd) (s .order .pre) few-units (o .ndSome) (o .within) min (links s) (s .table .ends) (s .tree .parent) (o .placeOnce) (o .placeTaken) l
+      lows = over-descendants (units s) (s .order .nd) (s .order .pre) few-units (o .ndSome) (o .within) min (links s)
+          (s .table .ends) (s .tree .parent) (o .placeOnce) (o .placeTaken) l
 
       highs : (v : ℕ) → v < units s
-          → ((w : ℕ) → w < units s → at (s .order .pre) v ≤ at (s .order .pre) w → at (s .order .pre) w < at (s .order .pre) v + at (s .order .nd) v
+          → ((w : ℕ) → w < units s → at (s .order .pre) v ≤ at (s .order .pre) w →
+          at (s .order .pre) w < at (s .order .pre) v + at (s .order .nd) v
           → localOf max (links s) (s .table .ends) (s .tree .parent) (s .order .pre) w ≤ at high v)
-          × ((w : ℕ) × (w < units s) × (at (s .order .pre) v ≤ at (s .order .pre) w) × (at (s .order .pre) w < at (s .order .pre) v + at (s .order .nd) v)
+          × ((w : ℕ) × (w < units s) × (at (s .order .pre) v ≤ at (s .order .pre) w)
+          × (at (s .order .pre) w < at (s .order .pre) v + at (s .order .nd) v)
           × (at high v ≡ localOf max (links s) (s .table .ends) (s .tree .parent) (s .order .pre) w))
-      highs = over-descendants (units s) (s .order .nd) (s .order .pre) few-units (o .ndSome) (o .within) max (links s) (s .table .ends) (s .tree .parent) (o .placeOnce) (o .placeTaken) h
+      highs = over-descendants (units s) (s .order .nd) (s .order .pre) few-units (o .ndSome) (o .within) max (links s)
+          (s .table .ends) (s .tree .parent) (o .placeOnce) (o .placeTaken) h
 
 -- ---- stage 7
 
@@ -81,19 +92,31 @@ module _ (s : State) (b : Base s) (i : In7 s) where
 
   same-7 : (last : Bool) → Step.nextClock last (Step.roundRequests s) (s .clock) .requests ≤ 8158
   same-7 last =
-      omega (arith, requests-next last (Step.roundRequests s) (s .clock) (omega (arith, i .few, requests-at 7 s (i .stage))), i .few, requests-at 7 s (i .stage))
+      omega (
+        arith,
+        requests-next last (Step.roundRequests s) (s .clock)
+            (omega (arith, i .few, requests-at 7 s (i .stage))),
+        i .few,
+        requests-at 7 s (i .stage),
+      )
 
   numbered-7 : (r : Range) (g : Global) → Numbered (ticked s (withRange r (withGlobal g s)))
   numbered-7 r g =
       record {
-        treed = record { depth = i .numbered .treed .depth; rooted = i .numbered .treed .rooted; colored = i .numbered .treed .colored };
+        treed = record {
+          depth = i .numbered .treed .depth;
+          rooted = i .numbered .treed .rooted;
+          colored = i .numbered .treed .colored;
+        };
         ordered = i .numbered .ordered;
       }
 
   -- segments before round k, under a clock that shows one more
   at-clock : (r : Range) (g : Global) (k made : ℕ) → made ≡ k + 1
-      → Low s b (i .numbered) (g .low) (r .low) (r .little) (r .big) k → High s b (i .numbered) (g .high) (r .high) (r .little) (r .big) k
-      → (1 ≤ made) × Low s b (i .numbered) (g .low) (r .low) (r .little) (r .big) (made - 1) × High s b (i .numbered) (g .high) (r .high) (r .little) (r .big) (made - 1)
+      → Low s b (i .numbered) (g .low) (r .low) (r .little) (r .big) k →
+      High s b (i .numbered) (g .high) (r .high) (r .little) (r .big) k
+      → (1 ≤ made) × Low s b (i .numbered) (g .low) (r .low) (r .little) (r .big) (made - 1)
+      × High s b (i .numbered) (g .high) (r .high) (r .little) (r .big) (made - 1)
   at-clock r g k made e l h = let q : made - 1 ≡ k = omega arith in (omega arith, rw q l, rw q h)
 
   on-7 : (r : Range) (g : Global) → Step.lastRound s ≡ false → s .clock .made + 1 ≤ lg (units s)
@@ -108,7 +131,8 @@ module _ (s : State) (b : Base s) (i : In7 s) where
         few = same-7 (Step.lastRound s);
         early = omega (arith, made-on (Step.lastRound s) (Step.roundRequests s) (s .clock) e);
         numbered = numbered-7 r g;
-        segments = inr (at-clock r g (s .clock .made) _ (made-on (Step.lastRound s) (Step.roundRequests s) (s .clock) e) l h);
+        segments = inr (at-clock r g (s .clock .made) _
+            (made-on (Step.lastRound s) (Step.roundRequests s) (s .clock) e) l h);
       })
 
   over-7 : (r : Range) (g : Global) → Step.lastRound s ≡ true
@@ -141,7 +165,8 @@ module _ (s : State) (b : Base s) (i : In7 s) where
       (rw (i .stage) (omega (arith, i .early, m)), λ last. on-7 r g last (omega (arith, i .early, m)) l h))
 
   spans : Spans (units s) (at (s .order .pre)) (lastPlace (s .order .nd) (s .order .pre))
-  spans = place-spans (units s) (s .order .nd) (s .order .pre) (few-units s b (i .numbered)) (i .numbered .ordered .ndSome) (i .numbered .ordered .within)
+  spans = place-spans (units s) (s .order .nd) (s .order .pre) (few-units s b (i .numbered))
+      (i .numbered .ordered .ndSome) (i .numbered .ordered .within)
 
   fits : (k : ℕ) → k ≡ 256 → units s ≤ k
   fits k e = omega (arith, b .site .fewUnits)
@@ -151,8 +176,10 @@ module _ (s : State) (b : Base s) (i : In7 s) where
   first-7 z =
       goes-by
       (record {
-        low = rangeFirst min (units s) (links s) (s .table .ends) (s .tree .parent) (s .order .nd) (s .order .pre) (s .range .low);
-        high = rangeFirst max (units s) (links s) (s .table .ends) (s .tree .parent) (s .order .nd) (s .order .pre) (s .range .high);
+        low = rangeFirst min (units s) (links s) (s .table .ends) (s .tree .parent) (s .order .nd) (s .order .pre)
+            (s .range .low);
+        high = rangeFirst max (units s) (links s) (s .table .ends) (s .tree .parent) (s .order .nd) (s .order .pre)
+            (s .range .high);
         little = littleFirst (units s) (s .order .pre) (s .range .little);
         big = bigFirst (units s) (s .order .nd) (s .order .pre) (s .range .big);
       })
@@ -160,13 +187,18 @@ module _ (s : State) (b : Base s) (i : In7 s) where
         low = globalFirst min (units s) (links s) (s .table .ends) (s .tree .parent) (s .order .pre) (s .global .low);
         high = globalFirst max (units s) (links s) (s .table .ends) (s .tree .parent) (s .order .pre) (s .global .high);
       })
-      (step-at 7 tt s (i .stage) ∙ ap (ticked s) (first-tables s (Step.rangeBegun s) (Step.rangeDoubled (s .clock .made - 1) s) z))
+      (step-at 7 tt s (i .stage) ∙ ap (ticked s)
+      (first-tables s (Step.rangeBegun s) (Step.rangeDoubled (s .clock .made - 1) s) z))
       (rw z
-      (first-round (units s) (s .order .nd) (s .order .pre) (few-units s b (i .numbered)) (i .numbered .ordered .ndSome) (i .numbered .ordered .within) min-choice (links s)
-      (s .table .ends) (s .tree .parent) (s .global .low) (s .range .low) (s .range .little) (s .range .big) (fits _ globalLow) (fits _ low) (fits _ little) (fits _ big)))
+      (first-round (units s) (s .order .nd) (s .order .pre) (few-units s b (i .numbered)) (i .numbered .ordered .ndSome)
+      (i .numbered .ordered .within) min-choice (links s)
+      (s .table .ends) (s .tree .parent) (s .global .low) (s .range .low) (s .range .little) (s .range .big)
+      (fits _ globalLow) (fits _ low) (fits _ little) (fits _ big)))
       (rw z
-      (first-round (units s) (s .order .nd) (s .order .pre) (few-units s b (i .numbered)) (i .numbered .ordered .ndSome) (i .numbered .ordered .within) max-choice (links s)
-      (s .table .ends) (s .tree .parent) (s .global .high) (s .range .high) (s .range .little) (s .range .big) (fits _ globalHigh) (fits _ high) (fits _ little) (fits _ big)))
+      (first-round (units s) (s .order .nd) (s .order .pre) (few-units s b (i .numbered)) (i .numbered .ordered .ndSome)
+      (i .numbered .ordered .within) max-choice (links s)
+      (s .table .ends) (s .tree .parent) (s .global .high) (s .range .high) (s .range .little) (s .range .big)
+      (fits _ globalHigh) (fits _ high) (fits _ little) (fits _ big)))
     where
       low : length (s .range .low) ≡ 256
       low = b .sized .byUnit .1 .1 .1 .1 .1 .0
@@ -186,14 +218,18 @@ module _ (s : State) (b : Base s) (i : In7 s) where
       globalHigh : length (s .global .high) ≡ 256
       globalHigh = b .sized .byUnit .1 .1 .1 .1 .1 .1 .1 .1 .1 .1 .0
 
-  later-7 : 1 ≤ s .clock .made → Low s b (i .numbered) (s .global .low) (s .range .low) (s .range .little) (s .range .big) (s .clock .made - 1)
-      → High s b (i .numbered) (s .global .high) (s .range .high) (s .range .little) (s .range .big) (s .clock .made - 1) → Goes s
+  later-7 : 1 ≤ s .clock .made → Low s b (i .numbered) (s .global .low) (s .range .low) (s .range .little)
+      (s .range .big) (s .clock .made - 1)
+      → High s b (i .numbered) (s .global .high) (s .range .high) (s .range .little) (s .range .big)
+      (s .clock .made - 1) → Goes s
   unfolding Step.range Step.rangeDoubled Low High
   later-7 p l h =
       goes-by
       (record {
-        low = rangeLater min (s .clock .made - 1) (units s) (s .global .low) (s .range .little) (s .range .big) (s .range .low);
-        high = rangeLater max (s .clock .made - 1) (units s) (s .global .high) (s .range .little) (s .range .big) (s .range .high);
+        low = rangeLater min (s .clock .made - 1) (units s) (s .global .low) (s .range .little) (s .range .big)
+            (s .range .low);
+        high = rangeLater max (s .clock .made - 1) (units s) (s .global .high) (s .range .little) (s .range .big)
+            (s .range .high);
         little = littleLater (s .clock .made - 1) (units s) (s .range .big) (s .range .little);
         big = bigLater (s .clock .made - 1) (units s) (s .range .little) (s .range .big);
       })
@@ -201,16 +237,19 @@ module _ (s : State) (b : Base s) (i : In7 s) where
         low = globalLater min (s .clock .made - 1) (units s) (s .global .low);
         high = globalLater max (s .clock .made - 1) (units s) (s .global .high);
       })
-      (step-at 7 tt s (i .stage) ∙ ap (ticked s) (later-tables s (Step.rangeBegun s) (Step.rangeDoubled (s .clock .made - 1) s) (omega arith)))
+      (step-at 7 tt s (i .stage) ∙ ap (ticked s)
+      (later-tables s (Step.rangeBegun s) (Step.rangeDoubled (s .clock .made - 1) s) (omega arith)))
       (counted (Segments.next min-choice spans l))
       (counted (Segments.next max-choice spans h))
     where
       back : suc (s .clock .made - 1) ≡ s .clock .made
       back = omega arith
 
-      counted : {le : ℕ → ℕ → Type 0} {local first last : ℕ → ℕ} {g r li bi : List ℕ} → SegmentsAt le (units s) local first last g r li bi (suc (s .clock .made - 1))
+      counted : {le : ℕ → ℕ → Type 0} {local first last : ℕ → ℕ} {g r li bi : List ℕ} →
+          SegmentsAt le (units s) local first last g r li bi (suc (s .clock .made - 1))
           → SegmentsAt le (units s) local first last g r li bi (s .clock .made)
-      counted {le} {local} {first} {last} {g} {r} {li} {bi} x = subst (λ (k : ℕ). SegmentsAt le (units s) local first last g r li bi k) back x
+      counted {le} {local} {first} {last} {g} {r} {li} {bi} x =
+          subst (λ (k : ℕ). SegmentsAt le (units s) local first last g r li bi k) back x
 
   pub goes-7 : Goes s
   unfolding Low High
@@ -218,8 +257,10 @@ module _ (s : State) (b : Base s) (i : In7 s) where
     where
       go : (s .clock .made ≡ 0)
           ⊎ ((1 ≤ s .clock .made)
-          × Low s b (i .numbered) (s .global .low) (s .range .low) (s .range .little) (s .range .big) (s .clock .made - 1)
-          × High s b (i .numbered) (s .global .high) (s .range .high) (s .range .little) (s .range .big) (s .clock .made - 1))
+          × Low s b (i .numbered) (s .global .low) (s .range .low) (s .range .little) (s .range .big)
+          (s .clock .made - 1)
+          × High s b (i .numbered) (s .global .high) (s .range .high) (s .range .little) (s .range .big)
+          (s .clock .made - 1))
           → Goes s
       go (inl z) = first-7 z
       go (inr (p, l, h)) = later-7 p l h
@@ -234,22 +275,30 @@ module _ (s : State) (b : Base s) (i : In8 s) where
   mark-exact true h y e = (λ n. h .0 refl, λ a. omega arith)
   mark-exact {A} false h y e = (λ n. absurd (n e), λ a. absurd (false≢true (h .1 a)))
 
-  marked-8 : Marked (units s) (links s) (s .table .ends) (s .tree .parent) (linkJoinsRound (links s) (s .table .ends) (s .tree .parent) (s .order .nd) (s .order .pre) (s .aux .links))
-      (parentJoinsRound (units s) (s .tree .parent) (s .order .nd) (s .order .pre) (s .range .low) (s .range .high) (s .aux .parents)) (i .numbered .treed .depth)
+  marked-8 : Marked (units s) (links s) (s .table .ends) (s .tree .parent)
+      (linkJoinsRound (links s) (s .table .ends) (s .tree .parent) (s .order .nd) (s .order .pre) (s .aux .links))
+      (parentJoinsRound (units s) (s .tree .parent) (s .order .nd) (s .order .pre) (s .range .low) (s .range .high)
+      (s .aux .parents)) (i .numbered .treed .depth)
   unfolding linkJoinsRound parentJoinsRound
   marked-8 =
       record {
         linkMarks =
             λ j l.
-            mark-exact (joinsEnds (s .tree .parent) (s .order .nd) (s .order .pre) (endA (s .table .ends) j) (endB (s .table .ends) j))
-            (across-exact (b .site) (i .numbered .treed .rooted) (i .numbered .ordered) (endA (s .table .ends) j) (endB (s .table .ends) j) (j, l, inl (refl, refl))) _
-            (getD-over (links s) (λ (k : ℕ). cond (joinsEnds (s .tree .parent) (s .order .nd) (s .order .pre) (endA (s .table .ends) k) (endB (s .table .ends) k)) 1 0) (s .aux .links) j 0 l
+            mark-exact (joinsEnds (s .tree .parent) (s .order .nd) (s .order .pre) (endA (s .table .ends) j)
+            (endB (s .table .ends) j))
+            (across-exact (b .site) (i .numbered .treed .rooted) (i .numbered .ordered) (endA (s .table .ends) j)
+            (endB (s .table .ends) j) (j, l, inl (refl, refl))) _
+            (getD-over (links s) (λ (k : ℕ). cond
+            (joinsEnds (s .tree .parent) (s .order .nd) (s .order .pre) (endA (s .table .ends) k)
+            (endB (s .table .ends) k)) 1 0) (s .aux .links) j 0 l
             (omega (arith, l, b .site .fewLinks, b .sized .byLink .0)));
         parentMarks =
             λ u l.
             mark-exact (joinsParent (s .tree .parent) (s .order .nd) (s .order .pre) (s .range .low) (s .range .high) u)
             (joins-exact (b .site) (i .numbered .treed .rooted) (i .numbered .ordered) (i .ranged) u l) _
-            (getD-over (units s) (λ (v : ℕ). cond (joinsParent (s .tree .parent) (s .order .nd) (s .order .pre) (s .range .low) (s .range .high) v) 1 0) (s .aux .parents) u 0 l
+            (getD-over (units s) (λ (v : ℕ). cond
+            (joinsParent (s .tree .parent) (s .order .nd) (s .order .pre) (s .range .low) (s .range .high) v) 1 0)
+            (s .aux .parents) u 0 l
             (omega (arith, l, b .site .fewUnits, b .sized .byUnit .1 .1 .1 .1 .1 .1 .1 .1 .1 .1 .1 .0)));
       }
 
@@ -259,10 +308,20 @@ module _ (s : State) (b : Base s) (i : In8 s) where
       in9
       (record {
         stage = stage-over (Step.lastRound s) (Step.roundRequests s) (s .clock) e ∙ omega (arith, i .stage);
-        few = omega (arith, requests-next (Step.lastRound s) (Step.roundRequests s) (s .clock) (omega (arith, i .few, requests-at 8 s (i .stage))), i .few, requests-at 8 s (i .stage));
+        few = omega (
+          arith,
+          requests-next (Step.lastRound s) (Step.roundRequests s) (s .clock)
+              (omega (arith, i .few, requests-at 8 s (i .stage))),
+          i .few,
+          requests-at 8 s (i .stage),
+        );
         numbered =
             record {
-              treed = record { depth = i .numbered .treed .depth; rooted = i .numbered .treed .rooted; colored = i .numbered .treed .colored };
+              treed = record {
+                depth = i .numbered .treed .depth;
+                rooted = i .numbered .treed .rooted;
+                colored = i .numbered .treed .colored;
+              };
               ordered = i .numbered .ordered;
             };
         marked = marked-8;

@@ -22,7 +22,8 @@ use Rattle.theory_reach.specs.Site.{Link}
 use Rattle.theory_reach.specs.AuxColors.{Marked, auxAfter, aux-first, aux-next, aux-bound, aux-done}
 use Rattle.theory_reach.specs.LabelsRight.{labels-right}
 use Rattle.theory_reach.specs.Invariant.{Base, Numbered, In9, In10, In11, Reached, in9, in10, in11}
-use Rattle.theory_reach.specs.Ticks.{Goes, goes-within, goes-over, goes-either, stage-on, made-on, stage-over, made-over, requests-next}
+use Rattle.theory_reach.specs.Ticks.{Goes, goes-within, goes-over, goes-either, stage-on, made-on, stage-over}
+use Rattle.theory_reach.specs.Ticks.{made-over, requests-next}
 
 -- ---- stage 9
 
@@ -31,21 +32,33 @@ module _ (s : State) (b : Base s) (i : In9 s) where
   within-9 = omega (arith, i .few, requests-at 9 s (i .stage))
 
   after : List ℕ → ℕ → List ℕ
-  after first k = auxAfter (units s) (links s) (s .table .ends) (s .tree .parent) (s .aux .links) (s .aux .parents) first k
+  after first k = auxAfter (units s) (links s) (s .table .ends) (s .tree .parent) (s .aux .links)
+      (s .aux .parents) first k
 
   same-9 : (last : Bool) → Step.nextClock last (Step.roundRequests s) (s .clock) .requests ≤ 8158
   same-9 last =
-      omega (arith, requests-next last (Step.roundRequests s) (s .clock) (omega (arith, i .few, requests-at 9 s (i .stage))), i .few, requests-at 9 s (i .stage))
+      omega (
+        arith,
+        requests-next last (Step.roundRequests s) (s .clock)
+            (omega (arith, i .few, requests-at 9 s (i .stage))),
+        i .few,
+        requests-at 9 s (i .stage),
+      )
 
   numbered-9 : Numbered (ticked s (Step.auxComponents s))
   unfolding Step.auxComponents
   numbered-9 =
       record {
-        treed = record { depth = i .numbered .treed .depth; rooted = i .numbered .treed .rooted; colored = i .numbered .treed .colored };
+        treed = record {
+          depth = i .numbered .treed .depth;
+          rooted = i .numbered .treed .rooted;
+          colored = i .numbered .treed .colored;
+        };
         ordered = i .numbered .ordered;
       }
 
-  on-9 : (first : List ℕ) → units s ≤ length first → Step.lastRound s ≡ false → Step.auxColors s ≡ after first (s .clock .made + 1)
+  on-9 : (first : List ℕ) → units s ≤ length first → Step.lastRound s ≡ false →
+      Step.auxColors s ≡ after first (s .clock .made + 1)
       → Reached (ticked s (Step.auxComponents s))
   unfolding Step.auxComponents after numbered-9
   on-9 first l e c =
@@ -61,7 +74,8 @@ module _ (s : State) (b : Base s) (i : In9 s) where
       m : Step.nextClock (Step.lastRound s) (Step.roundRequests s) (s .clock) .made ≡ s .clock .made + 1
       m = made-on (Step.lastRound s) (Step.roundRequests s) (s .clock) e
 
-  over-9 : Step.lastRound s ≡ true → Classes (Link (links s) (s .table .ends)) (at (s .tree .parent)) (i .numbered .treed .depth) (at (Step.auxColors s))
+  over-9 : Step.lastRound s ≡ true → Classes (Link (links s) (s .table .ends)) (at (s .tree .parent))
+      (i .numbered .treed .depth) (at (Step.auxColors s))
       → Reached (ticked s (Step.auxComponents s))
   unfolding Step.auxComponents numbered-9
   over-9 e c =
@@ -78,32 +92,44 @@ module _ (s : State) (b : Base s) (i : In9 s) where
   unfolding after auxEnds
   first-9 z =
       goes-within s (Step.auxComponents s) within-9 (step-at 9 tt s (i .stage)) rule (rw (i .stage) (omega arith))
-      (λ q. on-9 (s .aux .color) (omega (arith, b .site .fewUnits, b .sized .byUnit .1 .1 .1 .1 .1 .1 .1 .1 .1 .1 .1 .1 .0)) q
-      (rw z (aux-first (units s) (links s) (s .table .ends) (s .tree .parent) (s .aux .links) (s .aux .parents) (s .aux .color))))
+      (λ q. on-9 (s .aux .color) (omega (
+        arith,
+        b .site .fewUnits,
+        b .sized .byUnit .1 .1 .1 .1 .1 .1 .1 .1 .1 .1 .1 .1 .0,
+      )) q
+      (rw z (aux-first (units s) (links s) (s .table .ends) (s .tree .parent) (s .aux .links) (s .aux .parents)
+      (s .aux .color))))
     where
       rule : Step.ruleEnds s ≡ false
       rule = ends-at 9 s (i .stage) ∙ rw z refl
 
-  later-9 : (first : List ℕ) (k : ℕ) → units s ≤ length first → s .clock .made ≡ suc k → s .aux .color ≡ after first (suc k) → Goes s
+  later-9 : (first : List ℕ) (k : ℕ) → units s ≤ length first → s .clock .made ≡ suc k →
+      s .aux .color ≡ after first (suc k) → Goes s
   unfolding after
   later-9 first k l z c =
       goes-either s (Step.auxComponents s) within-9 (step-at 9 tt s (i .stage)) rule
       (λ r q. over-9 q (rw next (aux-done (b .site) (i .numbered .treed .rooted) (i .marked) first l k r)))
       (λ r.
-      let m : s .clock .made + 1 ≡ suc (suc k) = omega arith in
-      (rw (i .stage) (omega (arith, aux-bound (b .site) (i .numbered .treed .rooted) (i .marked) first l k r)), λ q. on-9 first l q (rw m next)))
+      let m : s .clock .made + 1 ≡ suc (suc k) = omega arith in (
+        rw (i .stage) (omega (arith, aux-bound (b .site) (i .numbered .treed .rooted) (i .marked) first l k r)),
+        λ q. on-9 first l q (rw m next),
+      ))
     where
       next : Step.auxColors s ≡ after first (suc (suc k))
-      next = rw (z, c) (aux-next (units s) (links s) (s .table .ends) (s .tree .parent) (s .aux .links) (s .aux .parents) first k)
+      next = rw (z, c) (aux-next (units s) (links s) (s .table .ends) (s .tree .parent) (s .aux .links)
+          (s .aux .parents) first k)
 
       rule : Step.ruleEnds s ≡ auxEnds (units s) (suc k) (after first (suc k)) (after first (suc (suc k)))
-      rule = ends-at 9 s (i .stage) ∙ ap (λ (m : ℕ). auxEnds (units s) m (s .aux .color) (Step.auxColors s)) z ∙ ap (λ (x : List ℕ). auxEnds (units s) (suc k) x (Step.auxColors s)) c ∙ ap (auxEnds (units s) (suc k) (after first (suc k))) next
+      rule = ends-at 9 s (i .stage) ∙ ap (λ (m : ℕ). auxEnds (units s) m (s .aux .color) (Step.auxColors s)) z
+          ∙ ap (λ (x : List ℕ). auxEnds (units s) (suc k) x (Step.auxColors s)) c
+          ∙ ap (auxEnds (units s) (suc k) (after first (suc k))) next
 
   pub goes-9 : Goes s
   unfolding after
   goes-9 = go (i .classes)
     where
-      go : (s .clock .made ≡ 0) ⊎ ((first : List ℕ) × (units s ≤ length first) × (1 ≤ s .clock .made) × (s .aux .color ≡ after first (s .clock .made))) → Goes s
+      go : (s .clock .made ≡ 0) ⊎ ((first : List ℕ) × (units s ≤ length first) × (1 ≤ s .clock .made)
+          × (s .aux .color ≡ after first (s .clock .made))) → Goes s
       go (inl z) = first-9 z
       go (inr (first, l, p, c)) =
           let m : s .clock .made ≡ suc (s .clock .made - 1) = omega arith in
@@ -117,13 +143,20 @@ module _ (s : State) (b : Base s) (i : In10 s) where
 
   same-10 : (last : Bool) → Step.nextClock last (Step.roundRequests s) (s .clock) .requests ≤ 8158
   same-10 last =
-      omega (arith, requests-next last (Step.roundRequests s) (s .clock) (omega (arith, i .few, requests-at 10 s (i .stage))), i .few, requests-at 10 s (i .stage))
+      omega (
+        arith,
+        requests-next last (Step.roundRequests s) (s .clock)
+            (omega (arith, i .few, requests-at 10 s (i .stage))),
+        i .few,
+        requests-at 10 s (i .stage),
+      )
 
   links-fit : (k : ℕ) → k ≡ 1024 → (j : ℕ) → j < links s → j < k
   links-fit k e j l = omega (arith, b .site .fewLinks)
 
   name : ℕ → ℕ
-  name j = at (s .aux .color) (namingUnit (s .tree .parent) (s .order .pre) (endA (s .table .ends) j) (endB (s .table .ends) j))
+  name j = at (s .aux .color) (namingUnit (s .tree .parent) (s .order .pre) (endA (s .table .ends) j)
+      (endB (s .table .ends) j))
 
   first-10 : s .clock .made ≡ 0 → Step.lastRound s ≡ false → Reached (ticked s (Step.labelClasses s))
   unfolding Step.labelClasses classRound
@@ -134,7 +167,11 @@ module _ (s : State) (b : Base s) (i : In10 s) where
         few = same-10 (Step.lastRound s);
         numbered =
             record {
-              treed = record { depth = i .numbered .treed .depth; rooted = i .numbered .treed .rooted; colored = i .numbered .treed .colored };
+              treed = record {
+                depth = i .numbered .treed .depth;
+                rooted = i .numbered .treed .rooted;
+                colored = i .numbered .treed .colored;
+              };
               ordered = i .numbered .ordered;
             };
         classes = i .classes;
@@ -142,12 +179,15 @@ module _ (s : State) (b : Base s) (i : In10 s) where
             inr (
               made-on (Step.lastRound s) (Step.roundRequests s) (s .clock) e ∙ omega arith,
               λ j l.
-                  getD-over (links s) (λ (k : ℕ). at (s .aux .color) (namingUnit (s .tree .parent) (s .order .pre) (endA (s .table .ends) k) (endB (s .table .ends) k))) (s .labels .class) j 0 l
+                  getD-over (links s) (λ (k : ℕ). at (s .aux .color)
+                  (namingUnit (s .tree .parent) (s .order .pre) (endA (s .table .ends) k)
+                  (endB (s .table .ends) k))) (s .labels .class) j 0 l
                   (links-fit (length (s .labels .class)) (b .sized .byLink .1 .0) j l),
             );
       })
 
-  second-10 : ((j : ℕ) → j < links s → at (s .labels .class) j ≡ name j) → Step.lastRound s ≡ true → Reached (ticked s (Step.labelPositions s))
+  second-10 : ((j : ℕ) → j < links s → at (s .labels .class) j ≡ name j) → Step.lastRound s ≡ true →
+      Reached (ticked s (Step.labelPositions s))
   unfolding Step.labelPositions labelRound name
   second-10 f e =
       in11
@@ -155,26 +195,38 @@ module _ (s : State) (b : Base s) (i : In10 s) where
         stage = stage-over (Step.lastRound s) (Step.roundRequests s) (s .clock) e ∙ omega (arith, i .stage);
         few = same-10 (Step.lastRound s);
         right =
-            labels-right (b .site) (i .numbered .treed .rooted) (i .numbered .ordered) (i .classes) (s .labels .class) _ f
-            (λ j l. getD-over (links s) (labelOf (links s) (s .labels .class)) (s .labels .label) j 0 l (links-fit (length (s .labels .label)) (b .sized .byLink .1 .1 .0) j l));
+            labels-right (b .site) (i .numbered .treed .rooted) (i .numbered .ordered) (i .classes)
+            (s .labels .class) _ f
+            (λ j l. getD-over (links s) (labelOf (links s) (s .labels .class)) (s .labels .label) j 0 l
+            (links-fit (length (s .labels .label)) (b .sized .byLink .1 .1 .0) j l));
         numbered =
             record {
-              treed = record { depth = i .numbered .treed .depth; rooted = i .numbered .treed .rooted; colored = i .numbered .treed .colored };
+              treed = record {
+                depth = i .numbered .treed .depth;
+                rooted = i .numbered .treed .rooted;
+                colored = i .numbered .treed .colored;
+              };
               ordered = i .numbered .ordered;
             };
         classes = i .classes;
         named = f;
-        labelled = λ j l. getD-over (links s) (labelOf (links s) (s .labels .class)) (s .labels .label) j 0 l (links-fit (length (s .labels .label)) (b .sized .byLink .1 .1 .0) j l);
+        labelled = λ j l. getD-over (links s) (labelOf (links s) (s .labels .class)) (s .labels .label) j 0 l
+            (links-fit (length (s .labels .label)) (b .sized .byLink .1 .1 .0) j l);
       })
 
   pub goes-10 : Goes s
   unfolding name Step.labels
   goes-10 = go (i .named)
     where
-      go : (s .clock .made ≡ 0) ⊎ ((s .clock .made ≡ 1) × ((j : ℕ) → j < links s → at (s .labels .class) j ≡ name j)) → Goes s
+      go : (s .clock .made ≡ 0) ⊎ ((s .clock .made ≡ 1) × ((j : ℕ) → j < links s → at (s .labels .class) j ≡ name j)) →
+          Goes s
       go (inl z) =
           let r : Step.ruleEnds s ≡ false = ends-at 10 s (i .stage) ∙ rw z refl in
-          goes-within s (Step.labelClasses s) within-10 (step-at 10 tt s (i .stage) ∙ ap (ticked s) (first-tables s (Step.labelClasses s) (Step.labelPositions s) z)) r (rw (i .stage) (omega arith)) (first-10 z)
+          goes-within s (Step.labelClasses s) within-10 (step-at 10 tt s (i .stage)
+          ∙ ap (ticked s) (first-tables s (Step.labelClasses s) (Step.labelPositions s) z)) r
+          (rw (i .stage) (omega arith)) (first-10 z)
       go (inr (z, f)) =
           let r : Step.ruleEnds s ≡ true = ends-at 10 s (i .stage) ∙ rw z refl in
-          goes-over s (Step.labelPositions s) within-10 (step-at 10 tt s (i .stage) ∙ ap (ticked s) (later-tables s (Step.labelClasses s) (Step.labelPositions s) (omega (arith, z)))) r (second-10 f)
+          goes-over s (Step.labelPositions s) within-10 (step-at 10 tt s (i .stage)
+          ∙ ap (ticked s) (later-tables s (Step.labelClasses s) (Step.labelPositions s) (omega (arith, z)))) r
+          (second-10 f)

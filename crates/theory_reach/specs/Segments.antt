@@ -1,4 +1,5 @@
--- Stage 7's segments, whose length doubles each round, once for low and high: the choice between two values is min or max, and `le` its order.
+-- Stage 7's segments, whose length doubles each round, once for low and high: the choice between two values is min or
+-- max, and `le` its order.
 use mathlib.Core.Path.{_≡_, _∙_}
 use mathlib.Core.Bool.{true, false, cond}
 use mathlib.Core.Logic.{_⊎_, inl, inr}
@@ -9,13 +10,21 @@ use native.Mathlib.Decide.{decLt}
 use native.Mathlib.Omega.{arith}
 use lib.ListN.{length}
 use Rattle.base_lists.specs.Tests.{either, cond-true, cond-false}
-use Rattle.base_lists.specs.Multiples.{Multiple, multiple-one, multiple-up, multiple-down, multiple-step, multiple-zero, multiple-half, multiple-remainder, no-remainder, odd-multiple}
+use Rattle.base_lists.specs.Multiples.{Multiple, multiple-one, multiple-up, multiple-down, multiple-step, multiple-zero}
+use Rattle.base_lists.specs.Multiples.{multiple-half, multiple-remainder, no-remainder, odd-multiple}
 use Rattle.base_log2.specs.Lg.{lg}
 use Rattle.base_log2.specs.LgLaws.{lg-reaches}
 use Rattle.spec_rules.specs.Basics.{MAX-NUMBER, at, bounded}
 use Rattle.base_lists.specs.FoldLaws.{Choice}
-use Rattle.spec_rules.specs.Range.{odd, localOf, localAt, movesLittle, movesBig, withLittle, withBig, globalFirst, rangeFirst, littleFirst, bigFirst, rangeLater, littleLater, bigLater, globalLater}
-use Rattle.spec_rules.specs.RangeEntries.{unit-at, local-at, global-first, range-first, little-first, big-first, even-multiple, odd-remainder, little-rests, big-rests, little-moves, big-moves, little-entry, big-entry, range-entry, little-takes, little-passes, big-takes, big-passes, global-doubles, global-stays, length-global-first, length-range-first, length-little-first, length-big-first, length-global-later, length-range-later, length-little-later, length-big-later}
+use Rattle.spec_rules.specs.Range.{odd, localOf, localAt, movesLittle, movesBig, withLittle, withBig, globalFirst}
+use Rattle.spec_rules.specs.Range.{rangeFirst, littleFirst, bigFirst, rangeLater, littleLater, bigLater, globalLater}
+use Rattle.spec_rules.specs.RangeEntries.{unit-at, local-at, global-first, range-first, little-first, big-first}
+use Rattle.spec_rules.specs.RangeEntries.{even-multiple, odd-remainder, little-rests, big-rests, little-moves}
+use Rattle.spec_rules.specs.RangeEntries.{big-moves, little-entry, big-entry, range-entry, little-takes, little-passes}
+use Rattle.spec_rules.specs.RangeEntries.{big-takes, big-passes, global-doubles, global-stays, length-global-first}
+use Rattle.spec_rules.specs.RangeEntries.{length-range-first, length-little-first, length-big-first}
+use Rattle.spec_rules.specs.RangeEntries.{length-global-later, length-range-later, length-little-later}
+use Rattle.spec_rules.specs.RangeEntries.{length-big-later}
 
 -- ---- the extreme of the local values over some places
 
@@ -31,15 +40,20 @@ Within n q w p = (q ≤ p) × (p < q + w) × (p < n)
 abbrev Taken : ℕ → ℕ → ℕ → ℕ → ℕ → Type 0
 Taken first little big last p = ((first ≤ p) × (p < little)) ⊎ ((big ≤ p) × (p ≤ last))
 
-extreme-over : (le : ℕ → ℕ → Type 0) (local : ℕ → ℕ) (P T : ℕ → Type 0) (x : ℕ) → ((q : ℕ) → T q → P q) → ((q : ℕ) → P q → T q)
+extreme-over : (le : ℕ → ℕ → Type 0) (local : ℕ → ℕ) (P T : ℕ → Type 0) (x : ℕ) → ((q : ℕ) → T q → P q) →
+    ((q : ℕ) → P q → T q)
     → Extreme le local P x → Extreme le local T x
-extreme-over le local P T x to from e = (λ (q : ℕ) (t : T q). e .0 q (to q t), (e .1 .0, from (e .1 .0) (e .1 .1), e .1 .2))
+extreme-over le local P T x to from e = (
+  λ (q : ℕ) (t : T q). e .0 q (to q t),
+  (e .1 .0, from (e .1 .0) (e .1 .1), e .1 .2),
+)
 
 -- the choice of two extremes is the extreme over both
 extreme-join : (op : ℕ → ℕ → ℕ) (le : ℕ → ℕ → Type 0) → Choice op le → (local : ℕ → ℕ) (P Q T : ℕ → Type 0) (x y : ℕ)
     → ((q : ℕ) → T q → P q ⊎ Q q) → ((q : ℕ) → P q → T q) → ((q : ℕ) → Q q → T q)
     → Extreme le local P x → Extreme le local Q y → Extreme le local T (op x y)
-extreme-join op le choice local P Q T x y split fromP fromQ e f = (λ (q : ℕ) (t : T q). before q (split q t), found (choice .picks x y))
+extreme-join op le choice local P Q T x y split fromP fromQ e f =
+    (λ (q : ℕ) (t : T q). before q (split q t), found (choice .picks x y))
   where
     before : (q : ℕ) → P q ⊎ Q q → le (op x y) (local q)
     before q (inl p) = choice .through (op x y) x (local q) (choice .left x y) (e .0 q p)
@@ -58,7 +72,8 @@ pub record Spans (n : ℕ) (first last : ℕ → ℕ) : Type 0 where
   pub lastBelow : (v : ℕ) → v < n → last v < n
 
 -- at the start of round i, from 0: what is left for each unit lies between little and big
-pub record SegmentsAt (le : ℕ → ℕ → Type 0) (n : ℕ) (local first last : ℕ → ℕ) (global range little big : List ℕ) (i : ℕ) : Type 0 where
+pub record SegmentsAt (le : ℕ → ℕ → Type 0) (n : ℕ) (local first last : ℕ →
+    ℕ) (global range little big : List ℕ) (i : ℕ) : Type 0 where
   pub manyGlobal : n ≤ length global
   pub manyRange : n ≤ length range
   pub manyLittle : n ≤ length little
@@ -67,12 +82,14 @@ pub record SegmentsAt (le : ℕ → ℕ → Type 0) (n : ℕ) (local first last 
   pub firstLittle : (v : ℕ) → v < n → first v ≤ at little v
   pub littleBig : (v : ℕ) → v < n → at little v ≤ at big v
   pub bigLast : (v : ℕ) → v < n → at big v ≤ last v
-  pub aligned : (v : ℕ) → v < n → (at little v ≡ at big v) ⊎ (Multiple (2 ^ i) (at little v) × Multiple (2 ^ i) (at big v))
+  pub aligned : (v : ℕ) → v < n → (at little v ≡ at big v)
+      ⊎ (Multiple (2 ^ i) (at little v) × Multiple (2 ^ i) (at big v))
   pub rangeOf : (v : ℕ) → v < n → Extreme le local (Taken (first v) (at little v) (at big v) (last v)) (at range v)
 
 -- after the first round of the stage
 start : {op : ℕ → ℕ → ℕ} {le : ℕ → ℕ → Type 0} → Choice op le → {n : ℕ} {first last : ℕ → ℕ} → Spans n first last
-    → (local : ℕ → ℕ) (global range little big : List ℕ) → n ≤ length global → n ≤ length range → n ≤ length little → n ≤ length big
+    → (local : ℕ → ℕ) (global range little big : List ℕ) → n ≤ length global → n ≤ length range → n ≤ length little →
+    n ≤ length big
     → ((q : ℕ) → q < n → at global q ≡ local q) → ((v : ℕ) → v < n → at range v ≡ local (last v))
     → ((v : ℕ) → v < n → at little v ≡ first v) → ((v : ℕ) → v < n → at big v ≡ last v)
     → SegmentsAt le n local first last global range little big 0
@@ -102,14 +119,17 @@ start {op} {le} choice {n} {first} {last} spans local global range little big a 
       where
         before : (p : ℕ) → Taken (first v) (at little v) (at big v) (last v) p → le (at range v) (local p)
         before p (inl h) = absurd (omega (arith, h .0, h .1, s v l))
-        before p (inr h) = let e : p ≡ last v = omega (arith, h .0, h .1, t v l) in rw (e, r v l) (choice .same (local (last v)))
+        before p (inr h) = let e : p ≡ last v =
+            omega (arith, h .0, h .1, t v l) in rw (e, r v l) (choice .same (local (last v)))
 
 -- ---- a round
 
-module _ {op : ℕ → ℕ → ℕ} {le : ℕ → ℕ → Type 0} (choice : Choice op le) {n : ℕ} {local first last : ℕ → ℕ} (spans : Spans n first last)
+module _ {op : ℕ → ℕ → ℕ} {le : ℕ → ℕ → Type 0} (choice : Choice op le) {n : ℕ} {local first last : ℕ →
+    ℕ} (spans : Spans n first last)
     {global range little big : List ℕ} {i : ℕ} (now : SegmentsAt le n local first last global range little big i) where
   -- two segments of 2 ^ i places make one of twice the length
-  segment-next : (q : ℕ) → q < n → Multiple (2 ^ suc i) q → Extreme le local (Within n q (2 ^ suc i)) (at (globalLater op i n global) q)
+  segment-next : (q : ℕ) → q < n → Multiple (2 ^ suc i) q →
+      Extreme le local (Within n q (2 ^ suc i)) (at (globalLater op i n global) q)
   segment-next q l w = go (decLt (q + 2 ^ i) n)
     where
       none : q % 2 ^ suc i ≡ 0
@@ -128,7 +148,8 @@ module _ {op : ℕ → ℕ → ℕ} {le : ℕ → ℕ → Type 0} (choice : Choi
       go : Dec (q + 2 ^ i < n) → Extreme le local (Within n q (2 ^ suc i)) (at (globalLater op i n global) q)
       go (yes k) =
           rw (global-doubles op i n global q l (now .manyGlobal) none k)
-          (extreme-join op le choice local (Within n q (2 ^ i)) (Within n (q + 2 ^ i) (2 ^ i)) (Within n q (2 ^ suc i)) (at global q) (at global (q + 2 ^ i))
+          (extreme-join op le choice local (Within n q (2 ^ i)) (Within n (q + 2 ^ i) (2 ^ i)) (Within n q (2 ^ suc i))
+          (at global q) (at global (q + 2 ^ i))
           split
           (λ (p : ℕ) (h : Within n q (2 ^ i) p). (h .0, omega (arith, h .1), h .2))
           (λ (p : ℕ) (h : Within n (q + 2 ^ i) (2 ^ i) p). (omega (arith, h .0), omega (arith, h .1), h .2))
@@ -147,12 +168,15 @@ module _ {op : ℕ → ℕ → ℕ} {le : ℕ → ℕ → Type 0} (choice : Choi
       Multiple (2 ^ suc i) (at (littleLater i n big little) v)
       × (at little v ≤ at (littleLater i n big little) v)
       × (at (littleLater i n big little) v ≤ at little v + 2 ^ i)
-      × Extreme le local (Taken (first v) (at (littleLater i n big little) v) (at big v) (last v)) (withLittle op i n global little big v (at range v))
+      × Extreme le local (Taken (first v) (at (littleLater i n big little) v) (at big v) (last v))
+      (withLittle op i n global little big v (at range v))
 
-  little-next : (v : ℕ) → v < n → at little v < at big v → Multiple (2 ^ i) (at little v) → Multiple (2 ^ i) (at big v) → LittleNext v
+  little-next : (v : ℕ) → v < n → at little v < at big v → Multiple (2 ^ i) (at little v) →
+      Multiple (2 ^ i) (at big v) → LittleNext v
   little-next v l apart a b = go (either (odd i (at little v)))
     where
-      entry : at (littleLater i n big little) v ≡ cond (movesLittle i little big v) (bounded (at little v + 2 ^ i)) (at little v)
+      entry : at (littleLater i n big little) v
+          ≡ cond (movesLittle i little big v) (bounded (at little v + 2 ^ i)) (at little v)
       entry = little-entry i n big little v l (now .manyLittle)
 
       room : at little v + 2 ^ i ≤ at big v
@@ -163,11 +187,13 @@ module _ {op : ℕ → ℕ → ℕ} {le : ℕ → ℕ → Type 0} (choice : Choi
       split p (inr h) = inl (inr h)
       split p (inl h) = pick (decLt p (at little v))
         where
-          pick : Dec (p < at little v) → Taken (first v) (at little v) (at big v) (last v) p ⊎ Within n (at little v) (2 ^ i) p
+          pick : Dec (p < at little v) →
+              Taken (first v) (at little v) (at big v) (last v) p ⊎ Within n (at little v) (2 ^ i) p
           pick (yes k) = inl (inl (h .0, k))
           pick (no k) = inr (omega arith, h .1, omega (arith, h .1, room, now .bigLast v l, spans .lastBelow v l))
 
-      more : (p : ℕ) → Taken (first v) (at little v) (at big v) (last v) p → Taken (first v) (at little v + 2 ^ i) (at big v) (last v) p
+      more : (p : ℕ) → Taken (first v) (at little v) (at big v) (last v) p →
+          Taken (first v) (at little v + 2 ^ i) (at big v) (last v) p
       more p (inl h) = inl (h .0, omega (arith, h .1))
       more p (inr h) = inr h
 
@@ -183,10 +209,14 @@ module _ {op : ℕ → ℕ → ℕ} {le : ℕ → ℕ → Type 0} (choice : Choi
             odd-multiple i (at little v) a (odd-remainder i (at little v) e) .1,
             omega arith,
             le-refl (at little v + 2 ^ i),
-            extreme-join op le choice local (Taken (first v) (at little v) (at big v) (last v)) (Within n (at little v) (2 ^ i))
+            extreme-join op le choice local (Taken (first v) (at little v) (at big v) (last v))
+                (Within n (at little v) (2 ^ i))
                 (Taken (first v) (at little v + 2 ^ i) (at big v) (last v)) (at range v) (at global (at little v))
                 split more
-                (λ (p : ℕ) (h : Within n (at little v) (2 ^ i) p). inl (omega (arith, h .0, now .firstLittle v l), h .1))
+                (λ (p : ℕ) (h : Within n (at little v) (2 ^ i) p). inl (
+                  omega (arith, h .0, now .firstLittle v l),
+                  h .1,
+                ))
                 (now .rangeOf v l)
                 (now .segmentOf (at little v) exists a),
           )
@@ -194,8 +224,12 @@ module _ {op : ℕ → ℕ → ℕ} {le : ℕ → ℕ → Type 0} (choice : Choi
           let stays : movesLittle i little big v ≡ false = little-moves i little big v apart ∙ e in
           let kept : at (littleLater i n big little) v ≡ at little v =
           entry ∙ cond-false (movesLittle i little big v) (bounded (at little v + 2 ^ i)) (at little v) stays in
-          rw (kept, little-passes op i n global little big v (at range v) stays)
-          (no-remainder (2 ^ suc i) (at little v) (even-multiple i (at little v) e), le-refl (at little v), omega arith, now .rangeOf v l)
+          rw (kept, little-passes op i n global little big v (at range v) stays) (
+            no-remainder (2 ^ suc i) (at little v) (even-multiple i (at little v) e),
+            le-refl (at little v),
+            omega arith,
+            now .rangeOf v l,
+          )
 
   -- big likewise, downwards, from any value that little left
   abbrev BigNext : ℕ → ℕ → ℕ → Type 0
@@ -203,7 +237,8 @@ module _ {op : ℕ → ℕ → ℕ} {le : ℕ → ℕ → Type 0} (choice : Choi
       Multiple (2 ^ suc i) (at (bigLater i n little big) v)
       × (at (bigLater i n little big) v ≤ at big v)
       × (at big v ≤ at (bigLater i n little big) v + 2 ^ i)
-      × Extreme le local (Taken (first v) end (at (bigLater i n little big) v) (last v)) (withBig op i n global little big v x)
+      × Extreme le local (Taken (first v) end (at (bigLater i n little big) v) (last v))
+      (withBig op i n global little big v x)
 
   big-next : (v : ℕ) → v < n → at little v < at big v → Multiple (2 ^ i) (at big v)
       → (end x : ℕ) → Extreme le local (Taken (first v) end (at big v) (last v)) x → BigNext v end x
@@ -237,10 +272,14 @@ module _ {op : ℕ → ℕ → ℕ} {le : ℕ → ℕ → Type 0} (choice : Choi
             w .2,
             omega arith,
             omega arith,
-            extreme-join op le choice local (Taken (first v) end (at big v) (last v)) (Within n (at big v - 2 ^ i) (2 ^ i))
+            extreme-join op le choice local (Taken (first v) end (at big v) (last v))
+                (Within n (at big v - 2 ^ i) (2 ^ i))
                 (Taken (first v) end (at big v - 2 ^ i) (last v)) x (at global (at big v - 2 ^ i))
                 (λ (p : ℕ) (h : Taken (first v) end (at big v - 2 ^ i) (last v) p). split p fits h) more
-                (λ (p : ℕ) (h : Within n (at big v - 2 ^ i) (2 ^ i) p). inr (h .0, omega (arith, h .1, now .bigLast v l)))
+                (λ (p : ℕ) (h : Within n (at big v - 2 ^ i) (2 ^ i) p). inr (
+                  h .0,
+                  omega (arith, h .1, now .bigLast v l),
+                ))
                 before
                 (now .segmentOf (at big v - 2 ^ i) exists (multiple-down (2 ^ i) (at big v) b)),
           )
@@ -258,14 +297,16 @@ module _ {op : ℕ → ℕ → ℕ} {le : ℕ → ℕ → Type 0} (choice : Choi
       × (at (littleLater i n big little) v ≤ at (bigLater i n little big) v)
       × (at (bigLater i n little big) v ≤ last v)
       × ((at (littleLater i n big little) v ≡ at (bigLater i n little big) v)
-      ⊎ (Multiple (2 ^ suc i) (at (littleLater i n big little) v) × Multiple (2 ^ suc i) (at (bigLater i n little big) v)))
+      ⊎ (Multiple (2 ^ suc i) (at (littleLater i n big little) v)
+      × Multiple (2 ^ suc i) (at (bigLater i n little big) v)))
       × Extreme le local (Taken (first v) (at (littleLater i n big little) v) (at (bigLater i n little big) v) (last v))
       (at (rangeLater op i n global little big range) v)
 
   unit-next : (v : ℕ) → v < n → UnitNext v
   unit-next v l = go (decLt (at little v) (at big v)) (now .aligned v l)
     where
-      entry : at (rangeLater op i n global little big range) v ≡ withBig op i n global little big v (withLittle op i n global little big v (at range v))
+      entry : at (rangeLater op i n global little big range) v
+          ≡ withBig op i n global little big v (withLittle op i n global little big v (at range v))
       entry = range-entry op i n global little big range v l (now .manyRange)
 
       met : at little v ≡ at big v → UnitNext v
@@ -276,21 +317,32 @@ module _ {op : ℕ → ℕ → ℕ} {le : ℕ → ℕ → Type 0} (choice : Choi
           little-entry i n big little v l (now .manyLittle)
           ∙ cond-false (movesLittle i little big v) (bounded (at little v + 2 ^ i)) (at little v) stays in
           let bigKept : at (bigLater i n little big) v ≡ at big v =
-          big-entry i n little big v l (now .manyBig) ∙ cond-false (movesBig i little big v) (at big v - 2 ^ i) (at big v) rests in
+          big-entry i n little big v l (now .manyBig)
+          ∙ cond-false (movesBig i little big v) (at big v - 2 ^ i) (at big v) rests in
           let rangeKept : at (rangeLater op i n global little big range) v ≡ at range v =
           entry
           ∙ big-passes op i n global little big v (withLittle op i n global little big v (at range v)) rests
           ∙ little-passes op i n global little big v (at range v) stays in
-          rw (littleKept, bigKept, rangeKept) (now .firstLittle v l, now .littleBig v l, now .bigLast v l, inl e, now .rangeOf v l)
+          rw (littleKept, bigKept, rangeKept) (
+            now .firstLittle v l,
+            now .littleBig v l,
+            now .bigLast v l,
+            inl e,
+            now .rangeOf v l,
+          )
 
       apart : at little v < at big v → Multiple (2 ^ i) (at little v) → Multiple (2 ^ i) (at big v) → UnitNext v
       apart h a b =
           let low : LittleNext v = little-next v l h a b in
-          let high : BigNext v (at (littleLater i n big little) v) (withLittle op i n global little big v (at range v)) =
-          big-next v l h b (at (littleLater i n big little) v) (withLittle op i n global little big v (at range v)) (low .3) in
-          let near : at (littleLater i n big little) v < at (bigLater i n little big) v + 2 ^ suc i = omega (arith, low .2, high .2) in
+          let high : BigNext v (at (littleLater i n big little) v)
+          (withLittle op i n global little big v (at range v)) =
+          big-next v l h b (at (littleLater i n big little) v) (withLittle op i n global little big v (at range v))
+          (low .3) in
+          let near : at (littleLater i n big little) v < at (bigLater i n little big) v + 2 ^ suc i =
+          omega (arith, low .2, high .2) in
           let step : at (littleLater i n big little) v + 2 ^ suc i ≤ at (bigLater i n little big) v + 2 ^ suc i =
-          multiple-step (2 ^ suc i) (at (littleLater i n big little) v) (at (bigLater i n little big) v + 2 ^ suc i) (low .0)
+          multiple-step (2 ^ suc i) (at (littleLater i n big little) v) (at (bigLater i n little big) v + 2 ^ suc i)
+          (low .0)
           (multiple-up (2 ^ suc i) (at (bigLater i n little big) v) (high .0)) near in
           rw entry (
             omega (arith, low .1, now .firstLittle v l),
@@ -300,12 +352,14 @@ module _ {op : ℕ → ℕ → ℕ} {le : ℕ → ℕ → Type 0} (choice : Choi
             high .3,
           )
 
-      go : Dec (at little v < at big v) → (at little v ≡ at big v) ⊎ (Multiple (2 ^ i) (at little v) × Multiple (2 ^ i) (at big v)) → UnitNext v
+      go : Dec (at little v < at big v) →
+          (at little v ≡ at big v) ⊎ (Multiple (2 ^ i) (at little v) × Multiple (2 ^ i) (at big v)) → UnitNext v
       go (no h) w = met (omega (arith, now .littleBig v l))
       go (yes h) (inl e) = met e
       go (yes h) (inr w) = apart h (w .0) (w .1)
 
-  pub next : SegmentsAt le n local first last (globalLater op i n global) (rangeLater op i n global little big range) (littleLater i n big little)
+  pub next : SegmentsAt le n local first last (globalLater op i n global) (rangeLater op i n global little big range)
+      (littleLater i n big little)
       (bigLater i n little big) (suc i)
   next = record {
     manyGlobal = omega (arith, now .manyGlobal, length-global-later op i n global);
@@ -327,7 +381,8 @@ met : {le : ℕ → ℕ → Type 0} {n : ℕ} {local first last : ℕ → ℕ} {
     → SegmentsAt le n local first last global range little big (lg n) → (v : ℕ) → v < n → at little v ≡ at big v
 met {n = n} {little = little} {big = big} spans now v l = go (now .aligned v l)
   where
-    go : (at little v ≡ at big v) ⊎ (Multiple (2 ^ lg n) (at little v) × Multiple (2 ^ lg n) (at big v)) → at little v ≡ at big v
+    go : (at little v ≡ at big v) ⊎ (Multiple (2 ^ lg n) (at little v) × Multiple (2 ^ lg n) (at big v)) →
+        at little v ≡ at big v
     go (inl e) = e
     go (inr w) =
         let below : at big v < 2 ^ lg n = omega (arith, now .bigLast v l, spans .lastBelow v l, lg-reaches n) in
@@ -339,7 +394,8 @@ done : {le : ℕ → ℕ → Type 0} {n : ℕ} {local first last : ℕ → ℕ} 
     → SegmentsAt le n local first last global range little big (lg n) → (v : ℕ) → v < n
     → ((q : ℕ) → first v ≤ q → q ≤ last v → le (at range v) (local q))
     × ((q : ℕ) × (first v ≤ q) × (q ≤ last v) × (at range v ≡ local q))
-done {le} {n} {local} {first} {last} {range = range} {little = little} {big = big} spans now v l = (before, found (now .rangeOf v l .1))
+done {le} {n} {local} {first} {last} {range = range} {little = little} {big = big} spans now v l =
+    (before, found (now .rangeOf v l .1))
   where
     same : at little v ≡ at big v
     same = met spans now v l
@@ -362,7 +418,8 @@ done {le} {n} {local} {first} {last} {range = range} {little = little} {big = bi
 abbrev pub lastPlace : List ℕ → List ℕ → ℕ → ℕ
 lastPlace nd pre v = at pre v + at nd v - 1
 
-module _ (n : ℕ) (nd pre : List ℕ) (few : n ≤ MAX-NUMBER) (own : (v : ℕ) → v < n → 1 ≤ at nd v) (inside : (v : ℕ) → v < n → at pre v + at nd v ≤ n) where
+module _ (n : ℕ) (nd pre : List ℕ) (few : n ≤ MAX-NUMBER) (own : (v : ℕ) → v < n → 1 ≤ at nd v) (inside : (v : ℕ) →
+    v < n → at pre v + at nd v ≤ n) where
   pub place-spans : Spans n (at pre) (lastPlace nd pre)
   place-spans = record {
     fewPlaces = few;
@@ -370,10 +427,12 @@ module _ (n : ℕ) (nd pre : List ℕ) (few : n ≤ MAX-NUMBER) (own : (v : ℕ)
     lastBelow = λ (v : ℕ) (l : v < n). omega (arith, own v l, inside v l);
   }
 
-  pub first-round : {op : ℕ → ℕ → ℕ} {le : ℕ → ℕ → Type 0} → Choice op le → (m : ℕ) (ends parent global range little big : List ℕ)
+  pub first-round : {op : ℕ → ℕ → ℕ} {le : ℕ → ℕ → Type 0} → Choice op le →
+      (m : ℕ) (ends parent global range little big : List ℕ)
       → n ≤ length global → n ≤ length range → n ≤ length little → n ≤ length big
       → SegmentsAt le n (localAt op n m ends parent pre) (at pre) (lastPlace nd pre)
-      (globalFirst op n m ends parent pre global) (rangeFirst op n m ends parent nd pre range) (littleFirst n pre little) (bigFirst n nd pre big) 0
+      (globalFirst op n m ends parent pre global) (rangeFirst op n m ends parent nd pre range)
+      (littleFirst n pre little) (bigFirst n nd pre big) 0
   first-round {op} {le} choice m ends parent global range little big a b c d =
       start choice place-spans (localAt op n m ends parent pre) (globalFirst op n m ends parent pre global)
       (rangeFirst op n m ends parent nd pre range) (littleFirst n pre little) (bigFirst n nd pre big)
@@ -386,12 +445,18 @@ module _ (n : ℕ) (nd pre : List ℕ) (few : n ≤ MAX-NUMBER) (own : (v : ℕ)
       (λ (v : ℕ) (l : v < n). little-first n pre little v l c)
       (λ (v : ℕ) (l : v < n). big-first n nd pre big v l d few (inside v l))
 
-  -- at the end, by units: the extreme of the local values of v's descendants, the units whose places lie in v's interval
-  pub over-descendants : (op : ℕ → ℕ → ℕ) {le : ℕ → ℕ → Type 0} (m : ℕ) (ends parent : List ℕ) {global range little big : List ℕ}
-      → ((u v : ℕ) → u < n → v < n → at pre u ≡ at pre v → u ≡ v) → ((q : ℕ) → q < n → (w : ℕ) × (w < n) × (at pre w ≡ q))
-      → SegmentsAt le n (localAt op n m ends parent pre) (at pre) (lastPlace nd pre) global range little big (lg n) → (v : ℕ) → v < n
-      → ((w : ℕ) → w < n → at pre v ≤ at pre w → at pre w < at pre v + at nd v → le (at range v) (localOf op m ends parent pre w))
-      × ((w : ℕ) × (w < n) × (at pre v ≤ at pre w) × (at pre w < at pre v + at nd v) × (at range v ≡ localOf op m ends parent pre w))
+  -- at the end, by units: the extreme of the local values of v's descendants, the units whose places lie in v's
+  -- interval
+  pub over-descendants : (op : ℕ → ℕ → ℕ) {le : ℕ → ℕ →
+      Type 0} (m : ℕ) (ends parent : List ℕ) {global range little big : List ℕ}
+      → ((u v : ℕ) → u < n → v < n → at pre u ≡ at pre v → u ≡ v) →
+      ((q : ℕ) → q < n → (w : ℕ) × (w < n) × (at pre w ≡ q))
+      → SegmentsAt le n (localAt op n m ends parent pre) (at pre) (lastPlace nd pre) global range little big (lg n) →
+      (v : ℕ) → v < n
+      → ((w : ℕ) → w < n → at pre v ≤ at pre w → at pre w < at pre v + at nd v →
+      le (at range v) (localOf op m ends parent pre w))
+      × ((w : ℕ) × (w < n) × (at pre v ≤ at pre w) × (at pre w < at pre v + at nd v)
+      × (at range v ≡ localOf op m ends parent pre w))
   over-descendants op {le} m ends parent {range = range} differ onto now v l = (before, found (ends-at .1))
     where
       ends-at : ((q : ℕ) → at pre v ≤ q → q ≤ lastPlace nd pre v → le (at range v) (localAt op n m ends parent pre q))
@@ -401,11 +466,13 @@ module _ (n : ℕ) (nd pre : List ℕ) (few : n ≤ MAX-NUMBER) (own : (v : ℕ)
       local : (w : ℕ) → w < n → localAt op n m ends parent pre (at pre w) ≡ localOf op m ends parent pre w
       local w k = local-at op n m ends parent pre w (omega arith) (unit-at n pre (omega arith) differ w k)
 
-      before : (w : ℕ) → w < n → at pre v ≤ at pre w → at pre w < at pre v + at nd v → le (at range v) (localOf op m ends parent pre w)
+      before : (w : ℕ) → w < n → at pre v ≤ at pre w → at pre w < at pre v + at nd v →
+          le (at range v) (localOf op m ends parent pre w)
       before w k a b = rw (local w k) at (ends-at .0 (at pre w) a (omega arith))
 
       found : (q : ℕ) × (at pre v ≤ q) × (q ≤ lastPlace nd pre v) × (at range v ≡ localAt op n m ends parent pre q)
-          → (w : ℕ) × (w < n) × (at pre v ≤ at pre w) × (at pre w < at pre v + at nd v) × (at range v ≡ localOf op m ends parent pre w)
+          → (w : ℕ) × (w < n) × (at pre v ≤ at pre w) × (at pre w < at pre v + at nd v)
+          × (at range v ≡ localOf op m ends parent pre w)
       found (q, a, b, e) =
           let w = onto q (omega (arith, own v l, inside v l)) in
           let place : at pre (w .0) ≡ q = w .2 in

@@ -14,7 +14,8 @@ pub record Site (n m : ℕ) (ends : List ℕ) : Type 0 where
   pub belowA : (j : ℕ) → j < m → endA ends j < n
   pub belowB : (j : ℕ) → j < m → endB ends j < n
   pub differ : (j : ℕ) → j < m → endA ends j ≡ endB ends j → ⊥
-  pub once : (j k : ℕ) → (j ≡ k → ⊥) → j < m → k < m → SameLink (endA ends j) (endB ends j) (endA ends k) (endB ends k) → ⊥
+  pub once : (j k : ℕ) → (j ≡ k → ⊥) → j < m → k < m →
+      SameLink (endA ends j) (endB ends j) (endA ends k) (endB ends k) → ⊥
 
 -- a link joins u and v
 abbrev pub Link : ℕ → List ℕ → ℕ → ℕ → Type 0

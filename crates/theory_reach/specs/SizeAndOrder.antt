@@ -1,5 +1,5 @@
--- Descendants and preorder numbers in any spanning forest. The children of v are taken in the cyclic order of v's tree neighbours after v's own
--- parent (a root's children: ascending): by key.
+-- Descendants and preorder numbers in any spanning forest. The children of v are taken in the cyclic order of v's tree
+-- neighbours after v's own parent (a root's children: ascending): by key.
 use mathlib.Core.Path.{_≡_, refl, sym, ap, _∙_}
 use mathlib.Core.Bool.{Bool, true, false, cond, _&&_, _||_}
 use mathlib.Core.Logic.{_↔_, _⊎_, inl, inr, _≢_}
@@ -12,11 +12,13 @@ use borrow.Author.Tests.{eqb-true, eq-eqb, ne-eqb, ltb-true, lt-ltb, le-ltb}
 use Rattle.base_lists.specs.Folds.{sum, count}
 use Rattle.base_lists.specs.Counts.{count-le}
 use Rattle.base_lists.specs.Sums.{sum-cong, sum-zero, sum-add, sum-swap, sum-le, sum-more, sum-one}
-use Rattle.base_lists.specs.Tests.{either, or-cases, or-left, or-right, and-left, and-right, and-true, cond-true, cond-false, refuted}
+use Rattle.base_lists.specs.Tests.{either, or-cases, or-left, or-right, and-left, and-right, and-true, cond-true}
+use Rattle.base_lists.specs.Tests.{cond-false, refuted}
 use Rattle.spec_rules.specs.Basics.{at}
 use Rattle.spec_rules.specs.CyclicOrder.{turned, turned-low, turned-cases, turned-below, turned-one}
 use Rattle.theory_graph.specs.Forest.{Anc, self, up}
-use Rattle.theory_graph.specs.Ancestors.{anc-trans, anc-depth, anc-level, anc-order, anc-child, anc?, anc-of, top-anc, root-up}
+use Rattle.theory_graph.specs.Ancestors.{anc-trans, anc-depth, anc-level, anc-order, anc-child, anc?, anc-of, top-anc}
+use Rattle.theory_graph.specs.Ancestors.{root-up}
 use Rattle.theory_reach.specs.Rooted.{Rooted, rootOf}
 
 -- v is w or above it, tested by climbing as far as w is deep
@@ -47,11 +49,13 @@ key n parent d v w = turned n (pivot parent d v) w
 
 -- the descendants of the children of v whose key is below k
 pub earlier : ℕ → List ℕ → (ℕ → ℕ) → ℕ → ℕ → ℕ
-earlier n parent d v k = sum n (λ (c : ℕ). cond (isChild parent d v c && ltb (key n parent d v c) k) (nd n parent d c) 0)
+earlier n parent d v k = sum n (λ (c : ℕ). cond (isChild parent d v c && ltb (key n parent d v c) k)
+    (nd n parent d c) 0)
 
 preAt : ℕ → List ℕ → (ℕ → ℕ) → ℕ → ℕ → ℕ
 preAt n parent d zero v = 0
-preAt n parent d (suc k) v = preAt n parent d k (at parent v) + 1 + earlier n parent d (at parent v) (key n parent d (at parent v) v)
+preAt n parent d (suc k) v = preAt n parent d k (at parent v) + 1
+    + earlier n parent d (at parent v) (key n parent d (at parent v) v)
 
 -- the preorder number of v in its component
 pub pre : ℕ → List ℕ → (ℕ → ℕ) → ℕ → ℕ
@@ -86,21 +90,27 @@ module _ {n m : ℕ} {ends color parent : List ℕ} {d : ℕ → ℕ} (rooted : 
       to : (k y : ℕ) → d y ≡ k → climbs parent v k y ≡ true → Anc (at parent) d v y
       to zero y e t = self (eqb-true v y t)
       to (suc k) y e t =
-          pick k y e (or-cases (eqb v y) (climbs parent v k (at parent y)) t) (to k (at parent y) (omega (arith, deeper y (omega arith))))
+          pick k y e (or-cases (eqb v y) (climbs parent v k (at parent y)) t)
+          (to k (at parent y) (omega (arith, deeper y (omega arith))))
 
       from : (k y : ℕ) → d y ≡ k → Anc (at parent) d v y → climbs parent v k y ≡ true
       from zero y e (self s) = eq-eqb v y s
       from zero y e (up h a) = absurd (omega arith)
       from (suc k) y e (self s) = or-left (eqb v y) (climbs parent v k (at parent y)) (eq-eqb v y s)
-      from (suc k) y e (up h a) = or-right (eqb v y) (climbs parent v k (at parent y)) (from k (at parent y) (omega (arith, deeper y h)) a)
+      from (suc k) y e (up h a) = or-right (eqb v y) (climbs parent v k (at parent y))
+          (from k (at parent y) (omega (arith, deeper y h)) a)
 
   child-true : (v c : ℕ) → Child parent d v c → isChild parent d v c ≡ true
   unfolding isChild
-  child-true v c h = and-true (ltb 0 (d c)) (eqb (at parent c) v) (lt-ltb 0 (d c) (h .0)) (eq-eqb (at parent c) v (h .1))
+  child-true v c h = and-true (ltb 0 (d c)) (eqb (at parent c) v) (lt-ltb 0 (d c) (h .0))
+      (eq-eqb (at parent c) v (h .1))
 
   child-of : (v c : ℕ) → isChild parent d v c ≡ true → Child parent d v c
   unfolding isChild
-  child-of v c t = (ltb-true 0 (d c) (and-left (ltb 0 (d c)) (eqb (at parent c) v) t), eqb-true (at parent c) v (and-right (ltb 0 (d c)) (eqb (at parent c) v) t))
+  child-of v c t = (
+    ltb-true 0 (d c) (and-left (ltb 0 (d c)) (eqb (at parent c) v) t),
+    eqb-true (at parent c) v (and-right (ltb 0 (d c)) (eqb (at parent c) v) t),
+  )
 
   child-deeper : (v c : ℕ) → Child parent d v c → d c ≡ suc (d v)
   child-deeper v c h = deeper c (h .0) ∙ ap (λ (x : ℕ). suc (d x)) (h .1)
@@ -116,7 +126,8 @@ module _ {n m : ℕ} {ends color parent : List ℕ} {d : ℕ → ℕ} (rooted : 
 
   -- w is v, or below one child of v, or not below v
   below-split : (v w : ℕ) → v < n
-      → _≡_ {A = ℕ} (cond (isAbove parent d v w) 1 0) (cond (eqb v w) 1 0 + sum n (λ (c : ℕ). cond (isChild parent d v c && isAbove parent d c w) 1 0))
+      → _≡_ {A = ℕ} (cond (isAbove parent d v w) 1 0)
+      (cond (eqb v w) 1 0 + sum n (λ (c : ℕ). cond (isChild parent d v c && isAbove parent d c w) 1 0))
   below-split v w l = go (ℕ-discrete v w) (anc? (rooted .forest) v w)
     where
       isThrough : ℕ → Bool
@@ -131,7 +142,8 @@ module _ {n m : ℕ} {ends color parent : List ℕ} {d : ℕ → ℕ} (rooted : 
       none : ((c : ℕ) → Child parent d v c → Anc (at parent) d c w → ⊥) → sum n (λ (c : ℕ). cond (isThrough c) 1 0) ≡ 0
       none h =
           sum-zero n (λ (c : ℕ). cond (isThrough c) 1 0)
-          (λ (c : ℕ) (k : c < n). cond-false (isThrough c) 1 0 (refuted (isThrough c) (λ (t : isThrough c ≡ true). h c (through c t .0) (through c t .1))))
+          (λ (c : ℕ) (k : c < n). cond-false (isThrough c) 1 0
+          (refuted (isThrough c) (λ (t : isThrough c ≡ true). h c (through c t .0) (through c t .1))))
 
       one : (c : ℕ) → Child parent d v c → Anc (at parent) d c w → sum n (λ (x : ℕ). cond (isThrough x) 1 0) ≡ 1
       one c h a =
@@ -139,21 +151,29 @@ module _ {n m : ℕ} {ends color parent : List ℕ} {d : ℕ → ℕ} (rooted : 
           (λ (x : ℕ) (k : x < n) (e : x ≢ c).
           cond-false (isThrough x) 1 0
           (refuted (isThrough x) (λ (t : isThrough x ≡ true). e (same x (through x t .0) (through x t .1)))))
-          ∙ cond-true (isThrough c) 1 0 (and-true (isChild parent d v c) (isAbove parent d c w) (child-true v c h) (above-exact c w .1 a))
+          ∙ cond-true (isThrough c) 1 0 (and-true (isChild parent d v c) (isAbove parent d c w) (child-true v c h)
+          (above-exact c w .1 a))
         where
           same : (x : ℕ) → Child parent d v x → Anc (at parent) d x w → x ≡ c
           same x g b =
-              anc-level (rooted .forest) (anc-order (rooted .forest) b a (omega (arith, child-deeper v x g, child-deeper v c h)))
+              anc-level (rooted .forest)
+              (anc-order (rooted .forest) b a (omega (arith, child-deeper v x g, child-deeper v c h)))
               (omega (arith, child-deeper v x g, child-deeper v c h))
 
       yes-above : Anc (at parent) d v w → _≡_ {A = ℕ} (cond (isAbove parent d v w) 1 0) 1
       yes-above a = cond-true (isAbove parent d v w) 1 0 (above-exact v w .1 a)
 
       go : Dec (v ≡ w) → Dec (Anc (at parent) d v w)
-          → _≡_ {A = ℕ} (cond (isAbove parent d v w) 1 0) (cond (eqb v w) 1 0 + sum n (λ (c : ℕ). cond (isThrough c) 1 0))
+          → _≡_ {A = ℕ} (cond (isAbove parent d v w) 1 0)
+          (cond (eqb v w) 1 0 + sum n (λ (c : ℕ). cond (isThrough c) 1 0))
       go (yes e) a =
           let s : _≡_ {A = ℕ} (cond (eqb v w) 1 0) 1 = cond-true (eqb v w) 1 0 (eq-eqb v w e) in
-          omega (arith, yes-above (self e), none (λ (c : ℕ) (h : Child parent d v c) (b : Anc (at parent) d c w). deep c h (anc-depth (rooted .forest) b)))
+          omega (
+            arith,
+            yes-above (self e),
+            none (λ (c : ℕ) (h : Child parent d v c) (b : Anc (at parent) d c w). deep c h
+                (anc-depth (rooted .forest) b)),
+          )
         where
           deep : (c : ℕ) → Child parent d v c → d c ≤ d w → ⊥
           deep c h k = let j : d v ≡ d w = ap d e in omega (arith, child-deeper v c h)
@@ -163,20 +183,28 @@ module _ {n m : ℕ} {ends color parent : List ℕ} {d : ℕ → ℕ} (rooted : 
           omega (arith, yes-above a, one c (h, g) b)
       go (no e) (no a) =
           let s : _≡_ {A = ℕ} (cond (eqb v w) 1 0) 0 = cond-false (eqb v w) 1 0 (ne-eqb v w e) in
-          let t : _≡_ {A = ℕ} (cond (isAbove parent d v w) 1 0) 0 = cond-false (isAbove parent d v w) 1 0 (refuted (isAbove parent d v w) (λ b. a (above-exact v w .0 b))) in
-          omega (arith, none (λ (c : ℕ) (h : Child parent d v c) (b : Anc (at parent) d c w). a (anc-trans (child-above v c h) b)))
+          let t : _≡_ {A = ℕ} (cond (isAbove parent d v w) 1 0) 0 =
+          cond-false (isAbove parent d v w) 1 0 (refuted (isAbove parent d v w) (λ b. a (above-exact v w .0 b))) in
+          omega (
+            arith,
+            none (λ (c : ℕ) (h : Child parent d v c) (b : Anc (at parent) d c w). a
+                (anc-trans (child-above v c h) b)),
+          )
 
   -- a unit and the descendants of its children
-  nd-children : (v : ℕ) → v < n → nd n parent d v ≡ suc (sum n (λ (c : ℕ). cond (isChild parent d v c) (nd n parent d c) 0))
+  nd-children : (v : ℕ) → v < n → nd n parent d v
+      ≡ suc (sum n (λ (c : ℕ). cond (isChild parent d v c) (nd n parent d c) 0))
   unfolding nd
   nd-children v l =
       omega (
         arith,
         sum-cong n (λ (w : ℕ). cond (isAbove parent d v w) 1 0) _ (λ (w : ℕ) (k : w < n). below-split v w l),
-        sum-add n (λ (w : ℕ). cond (eqb v w) 1 0) (λ (w : ℕ). sum n (λ (c : ℕ). cond (isChild parent d v c && isAbove parent d c w) 1 0)),
+        sum-add n (λ (w : ℕ). cond (eqb v w) 1 0)
+            (λ (w : ℕ). sum n (λ (c : ℕ). cond (isChild parent d v c && isAbove parent d c w) 1 0)),
         itself,
         sum-swap n n (λ (w c : ℕ). cond (isChild parent d v c && isAbove parent d c w) 1 0),
-        sum-cong n (λ (c : ℕ). sum n (λ (w : ℕ). cond (isChild parent d v c && isAbove parent d c w) 1 0)) (λ (c : ℕ). cond (isChild parent d v c) (nd n parent d c) 0)
+        sum-cong n (λ (c : ℕ). sum n (λ (w : ℕ). cond (isChild parent d v c && isAbove parent d c w) 1 0))
+            (λ (c : ℕ). cond (isChild parent d v c) (nd n parent d c) 0)
             (λ (c : ℕ) (k : c < n). and-sum n (isChild parent d v c) (isAbove parent d c)),
       )
     where
@@ -203,7 +231,8 @@ module _ {n m : ℕ} {ends color parent : List ℕ} {d : ℕ → ℕ} (rooted : 
   pivot-root v h = cond-false (ltb 0 (d v)) (suc (at parent v)) 0 (le-ltb 0 (d v) (omega arith))
 
   -- where no child's key is from a up to b
-  pub earlier-gap : (v a b : ℕ) → a ≤ b → ((c : ℕ) → Child parent d v c → a ≤ key n parent d v c → key n parent d v c < b → ⊥)
+  pub earlier-gap : (v a b : ℕ) → a ≤ b →
+      ((c : ℕ) → Child parent d v c → a ≤ key n parent d v c → key n parent d v c < b → ⊥)
       → earlier n parent d v a ≡ earlier n parent d v b
   unfolding earlier
   earlier-gap v a b l h = sum-cong n _ _ (λ (c : ℕ) (k : c < n). here c (either (isChild parent d v c)))
@@ -212,21 +241,28 @@ module _ {n m : ℕ} {ends color parent : List ℕ} {d : ℕ → ℕ} (rooted : 
           → ltb (key n parent d v c) a ≡ ltb (key n parent d v c) b
       same c g (yes i) j = lt-ltb (key n parent d v c) a i ∙ sym (lt-ltb (key n parent d v c) b (omega arith))
       same c g (no i) (yes j) = absurd (h c g (omega arith) j)
-      same c g (no i) (no j) = le-ltb (key n parent d v c) a (omega arith) ∙ sym (le-ltb (key n parent d v c) b (omega arith))
+      same c g (no i) (no j) = le-ltb (key n parent d v c) a (omega arith)
+          ∙ sym (le-ltb (key n parent d v c) b (omega arith))
 
       here : (c : ℕ) → (isChild parent d v c ≡ true) ⊎ (isChild parent d v c ≡ false)
-          → cond (isChild parent d v c && ltb (key n parent d v c) a) (nd n parent d c) 0 ≡ cond (isChild parent d v c && ltb (key n parent d v c) b) (nd n parent d c) 0
+          → cond (isChild parent d v c && ltb (key n parent d v c) a) (nd n parent d c) 0
+          ≡ cond (isChild parent d v c && ltb (key n parent d v c) b) (nd n parent d c) 0
       here c (inl t) = rw (same c (child-of v c t) (decLt (key n parent d v c) a) (decLt (key n parent d v c) b)) refl
       here c (inr f) = rw f refl
 
   earlier-mono : (v a b : ℕ) → a ≤ b → earlier n parent d v a ≤ earlier n parent d v b
   unfolding earlier
-  earlier-mono v a b l = sum-le n _ _ (λ (c : ℕ) (k : c < n). here c (isChild parent d v c) (decLt (key n parent d v c) a))
+  earlier-mono v a b l = sum-le n _ _ (λ (c : ℕ) (k : c < n). here c (isChild parent d v c)
+      (decLt (key n parent d v c) a))
     where
       here : (c : ℕ) (t : Bool) → Dec (key n parent d v c < a)
-          → cond (t && ltb (key n parent d v c) a) (nd n parent d c) 0 ≤ cond (t && ltb (key n parent d v c) b) (nd n parent d c) 0
+          → cond (t && ltb (key n parent d v c) a) (nd n parent d c) 0
+          ≤ cond (t && ltb (key n parent d v c) b) (nd n parent d c) 0
       here c false i = omega arith
-      here c true (yes i) = rw (lt-ltb (key n parent d v c) a i, lt-ltb (key n parent d v c) b (omega arith)) (omega arith)
+      here c true (yes i) = rw (
+        lt-ltb (key n parent d v c) a i,
+        lt-ltb (key n parent d v c) b (omega arith),
+      ) (omega arith)
       here c true (no i) = rw (le-ltb (key n parent d v c) a (omega arith)) (omega arith)
 
   pub earlier-none : (v : ℕ) → earlier n parent d v 0 ≡ 0
@@ -244,9 +280,14 @@ module _ {n m : ℕ} {ends color parent : List ℕ} {d : ℕ → ℕ} (rooted : 
   earlier-child v c h = sum-more n _ _ c (nd n parent d c) (inside c (h .0)) itself other
     where
       itself : cond (isChild parent d v c && ltb (key n parent d v c) (suc (key n parent d v c))) (nd n parent d c) 0
-          ≡ cond (isChild parent d v c && ltb (key n parent d v c) (key n parent d v c)) (nd n parent d c) 0 + nd n parent d c
+          ≡ cond (isChild parent d v c && ltb (key n parent d v c) (key n parent d v c)) (nd n parent d c) 0
+          + nd n parent d c
       itself =
-          rw (child-true v c h, lt-ltb (key n parent d v c) (suc (key n parent d v c)) (omega arith), le-ltb (key n parent d v c) (key n parent d v c) (omega arith))
+          rw (
+            child-true v c h,
+            lt-ltb (key n parent d v c) (suc (key n parent d v c)) (omega arith),
+            le-ltb (key n parent d v c) (key n parent d v c) (omega arith),
+          )
           (omega arith)
 
       less : (x y : ℕ) → x ≢ y → Dec (x < y) → ltb x (suc y) ≡ ltb x y
@@ -257,15 +298,21 @@ module _ {n m : ℕ} {ends color parent : List ℕ} {d : ℕ → ℕ} (rooted : 
           → cond (isChild parent d v x && ltb (key n parent d v x) (suc (key n parent d v c))) (nd n parent d x) 0
           ≡ cond (isChild parent d v x && ltb (key n parent d v x) (key n parent d v c)) (nd n parent d x) 0
       other x l e =
-          rw (less (key n parent d v x) (key n parent d v c) (λ s. e (turned-one n (pivot parent d v) x c l (inside c (h .0)) s))
+          rw (less (key n parent d v x) (key n parent d v c)
+          (λ s. e (turned-one n (pivot parent d v) x c l (inside c (h .0)) s))
           (decLt (key n parent d v x) (key n parent d v c))) refl
 
   -- all of them
   earlier-all : (v k : ℕ) → v < n → n + n ≤ k → suc (earlier n parent d v k) ≡ nd n parent d v
   unfolding earlier
-  earlier-all v k l b = omega (arith, nd-children v l, sum-cong n _ _ (λ (c : ℕ) (i : c < n). here c i (isChild parent d v c)))
+  earlier-all v k l b = omega (
+    arith,
+    nd-children v l,
+    sum-cong n _ _ (λ (c : ℕ) (i : c < n). here c i (isChild parent d v c)),
+  )
     where
-      here : (c : ℕ) → c < n → (t : Bool) → cond (t && ltb (key n parent d v c) k) (nd n parent d c) 0 ≡ cond t (nd n parent d c) 0
+      here : (c : ℕ) → c < n → (t : Bool) →
+          cond (t && ltb (key n parent d v c) k) (nd n parent d c) 0 ≡ cond t (nd n parent d c) 0
       here c i false = refl
       here c i true = rw (lt-ltb (key n parent d v c) k (omega (arith, turned-below n (pivot parent d v) c i))) refl
 
@@ -280,9 +327,11 @@ module _ {n m : ℕ} {ends color parent : List ℕ} {d : ℕ → ℕ} (rooted : 
       other : (c : ℕ) → Child parent d v c → c ≢ at parent v
       other c g e = let j : d c ≡ d (at parent v) = ap d e in omega (arith, child-deeper v c g, deeper v h)
 
-      last : (c : ℕ) → Child parent d v c → key n parent d v (at parent v) ≤ key n parent d v c → key n parent d v c < n + n → ⊥
+      last : (c : ℕ) → Child parent d v c → key n parent d v (at parent v) ≤ key n parent d v c →
+          key n parent d v c < n + n → ⊥
       last c g a b =
-          let j : turned n (suc (at parent v)) (at parent v) ≤ turned n (suc (at parent v)) c = rw (pivot-parent v h) at a in
+          let j : turned n (suc (at parent v)) (at parent v) ≤ turned n (suc (at parent v)) c =
+          rw (pivot-parent v h) at a in
           let k = turned-low n (suc (at parent v)) (at parent v) (omega arith) in
           turned-cases n (suc (at parent v)) c (λ i e. other c g (omega arith)) (λ i e. omega (arith, inside c (g .0)))
 
@@ -292,7 +341,8 @@ module _ {n m : ℕ} {ends color parent : List ℕ} {d : ℕ → ℕ} (rooted : 
   unfolding pre preAt
   pre-root v h = rw h refl
 
-  pub pre-child : (v c : ℕ) → Child parent d v c → pre n parent d c ≡ pre n parent d v + 1 + earlier n parent d v (key n parent d v c)
+  pub pre-child : (v c : ℕ) → Child parent d v c →
+      pre n parent d c ≡ pre n parent d v + 1 + earlier n parent d v (key n parent d v c)
   unfolding pre preAt
   pre-child v c h = rw (deeper c (h .0), h .1) refl
 
@@ -308,9 +358,11 @@ module _ {n m : ℕ} {ends color parent : List ℕ} {d : ℕ → ℕ} (rooted : 
 
   -- a child's interval lies within its parent's, past its start
   child-within : (v c : ℕ) → Child parent d v c
-      → (pre n parent d v < pre n parent d c) × (pre n parent d c + nd n parent d c ≤ pre n parent d v + nd n parent d v)
+      → (pre n parent d v < pre n parent d c)
+      × (pre n parent d c + nd n parent d c ≤ pre n parent d v + nd n parent d v)
   child-within v c h =
-      let a = earlier-mono v (suc (key n parent d v c)) (n + n) (turned-below n (pivot parent d v) c (inside c (h .0))) in
+      let a = earlier-mono v (suc (key n parent d v c)) (n + n)
+      (turned-below n (pivot parent d v) c (inside c (h .0))) in
       let b = earlier-all v (n + n) (parent-unit v c h) (omega arith) in
       let e = pre-child v c h in
       let f = earlier-child v c h in
@@ -320,10 +372,17 @@ module _ {n m : ℕ} {ends color parent : List ℕ} {d : ℕ → ℕ} (rooted : 
   child-apart : (v c x : ℕ) → Child parent d v c → Child parent d v x → key n parent d v c < key n parent d v x
       → pre n parent d c + nd n parent d c ≤ pre n parent d x
   child-apart v c x h g l =
-      omega (arith, earlier-mono v (suc (key n parent d v c)) (key n parent d v x) l, earlier-child v c h, pre-child v c h, pre-child v x g)
+      omega (
+        arith,
+        earlier-mono v (suc (key n parent d v c)) (key n parent d v x) l,
+        earlier-child v c h,
+        pre-child v c h,
+        pre-child v x g,
+      )
 
   pub anc-within : {v w : ℕ} → Anc (at parent) d v w
-      → (pre n parent d v ≤ pre n parent d w) × (pre n parent d w + nd n parent d w ≤ pre n parent d v + nd n parent d v)
+      → (pre n parent d v ≤ pre n parent d w)
+      × (pre n parent d w + nd n parent d w ≤ pre n parent d v + nd n parent d v)
   anc-within (self e) = rw e (omega arith)
   anc-within {v} {w} (up h a) =
       let r = anc-within a in
@@ -347,20 +406,24 @@ module _ {n m : ℕ} {ends color parent : List ℕ} {d : ℕ → ℕ} (rooted : 
           let z = nd-positive w (inside w (omega arith)) in
           inl (omega arith)
       sibling y c h g a e (no i) =
-          let j : key n parent d (at parent y) y < key n parent d (at parent y) c = past (ℕ-discrete (key n parent d (at parent y) c) (key n parent d (at parent y) y)) in
+          let j : key n parent d (at parent y) y < key n parent d (at parent y) c =
+          past (ℕ-discrete (key n parent d (at parent y) c) (key n parent d (at parent y) y)) in
           let s = child-apart (at parent y) y c (h, refl) g j in
           let t = anc-within a in
           inr (omega arith)
         where
-          past : Dec (key n parent d (at parent y) c ≡ key n parent d (at parent y) y) → key n parent d (at parent y) y < key n parent d (at parent y) c
+          past : Dec (key n parent d (at parent y) c ≡ key n parent d (at parent y) y) →
+              key n parent d (at parent y) y < key n parent d (at parent y) c
           past (yes q) = absurd (e (turned-one n (pivot parent d (at parent y)) c y (inside c (g .0)) (inside y h) q))
           past (no q) = omega arith
 
-      below : (y : ℕ) → 0 < d y → (Anc (at parent) d y w → ⊥) → Anc (at parent) d (at parent y) w → Dec (at parent y ≡ w) → Outside y
+      below : (y : ℕ) → 0 < d y → (Anc (at parent) d y w → ⊥) → Anc (at parent) d (at parent y) w →
+          Dec (at parent y ≡ w) → Outside y
       below y h not a (yes e) = let s = child-within (at parent y) y (h, refl) in inl (rw (← e) (s .0))
       below y h not a (no e) =
           let (c, g, q, b) = anc-child (rooted .forest) a e in
-          sibling y c h (g, q) b (λ (z : c ≡ y). not (anc-of z b)) (decLt (key n parent d (at parent y) c) (key n parent d (at parent y) y))
+          sibling y c h (g, q) b (λ (z : c ≡ y). not (anc-of z b))
+          (decLt (key n parent d (at parent y) c) (key n parent d (at parent y) y))
 
       wider : (y : ℕ) → 0 < d y → Outside (at parent y) → Outside y
       wider y h (inl k) = let s = child-within (at parent y) y (h, refl) in inl (omega arith)

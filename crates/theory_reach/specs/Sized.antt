@@ -12,7 +12,8 @@ use Rattle.spec_rules.specs.Planned.{plannedParents, plannedDists}
 use Rattle.spec_rules.specs.Tour.{nextRound, predRound, firstSums, firstJumps}
 use Rattle.spec_rules.specs.Ranking.{sumRound, jumpRound}
 use Rattle.spec_rules.specs.Order.{forwardRound, ndRound, secondSums, secondJumps, preRound}
-use Rattle.spec_rules.specs.Range.{globalFirst, rangeFirst, littleFirst, bigFirst, rangeLater, littleLater, bigLater, globalLater}
+use Rattle.spec_rules.specs.Range.{globalFirst, rangeFirst, littleFirst, bigFirst, rangeLater, littleLater, bigLater}
+use Rattle.spec_rules.specs.Range.{globalLater}
 use Rattle.spec_rules.specs.Aux.{linkJoinsRound, parentJoinsRound, auxRound}
 use Rattle.spec_rules.specs.Labels.{classRound, labelRound}
 use Rattle.spec_machine.specs.State.{State}
@@ -66,7 +67,37 @@ pub loaded-sized : (input : Input) → Sized (loaded input)
 unfolding loaded begun
 loaded-sized input =
     record {
-      byUnit = (absents-long 256, (absents-long 256, (absents-long 256, (zeros-long 256, (zeros-long 256, (zeros-long 256, (zeros-long 256, (zeros-long 256, (zeros-long 256, (zeros-long 256, (zeros-long 256, (zeros-long 256, (absents-long 256, (absents-long 256, tt))))))))))))));
+      byUnit = (
+        absents-long 256,
+        (
+          absents-long 256,
+          (
+            absents-long 256,
+            (
+              zeros-long 256,
+              (
+                zeros-long 256,
+                (
+                  zeros-long 256,
+                  (
+                    zeros-long 256,
+                    (
+                      zeros-long 256,
+                      (
+                        zeros-long 256,
+                        (
+                          zeros-long 256,
+                          (zeros-long 256, (zeros-long 256, (absents-long 256, (absents-long 256, tt)))),
+                        ),
+                      ),
+                    ),
+                  ),
+                ),
+              ),
+            ),
+          ),
+        ),
+      );
       byArc = (absents-long 512, (absents-long 512, (absents-long 512, (zeros-long 512, (zeros-long 512, tt)))));
       byLink = (zeros-long 1024, (absents-long 1024, (absents-long 1024, tt)));
     }
@@ -76,13 +107,44 @@ pub planned-sized : (input : Input) (ps : List ℕ) → length ps ≤ 256 → Si
 unfolding plannedLoaded loaded begun
 planned-sized input ps few =
     record {
-      byUnit = (absents-long 256, (absents-long 256, (absents-long 256, (zeros-long 256, (zeros-long 256, (zeros-long 256, (zeros-long 256, (zeros-long 256, (zeros-long 256, (zeros-long 256, (zeros-long 256, (zeros-long 256, (absents-long 256, (plan-long, tt))))))))))))));
+      byUnit = (
+        absents-long 256,
+        (
+          absents-long 256,
+          (
+            absents-long 256,
+            (
+              zeros-long 256,
+              (
+                zeros-long 256,
+                (
+                  zeros-long 256,
+                  (
+                    zeros-long 256,
+                    (
+                      zeros-long 256,
+                      (
+                        zeros-long 256,
+                        (
+                          zeros-long 256,
+                          (zeros-long 256, (zeros-long 256, (absents-long 256, (plan-long, tt)))),
+                        ),
+                      ),
+                    ),
+                  ),
+                ),
+              ),
+            ),
+          ),
+        ),
+      );
       byArc = loaded-sized input .byArc;
       byLink = loaded-sized input .byLink;
     }
   where
     plan-long : length (parentsOf ps) ≡ 256
-    plan-long = length-append ps (drop (length ps) (absents 256)) ∙ omega (arith, length-drop (length ps) (absents 256), absents-long 256, few)
+    plan-long = length-append ps (drop (length ps) (absents 256))
+        ∙ omega (arith, length-drop (length ps) (absents 256), absents-long 256, few)
 
 module _ (s : State) (z : Sized s) where
   components-sized : Sized (Step.components s)
@@ -98,7 +160,13 @@ module _ (s : State) (z : Sized s) where
   unfolding Step.treeSearched parentRound distRound
   treeSearched-sized =
       record {
-        byUnit = (z .byUnit .0, (rw length-over (z .byUnit .1 .0), (rw length-over (z .byUnit .1 .1 .0), z .byUnit .1 .1 .1)));
+        byUnit = (
+          z .byUnit .0,
+          (
+            rw length-over (z .byUnit .1 .0),
+            (rw length-over (z .byUnit .1 .1 .0), z .byUnit .1 .1 .1),
+          ),
+        );
         byArc = z .byArc;
         byLink = z .byLink;
       }
@@ -107,7 +175,13 @@ module _ (s : State) (z : Sized s) where
   unfolding Step.treePlanned plannedParents plannedDists
   treePlanned-sized =
       record {
-        byUnit = (z .byUnit .0, (rw length-over (z .byUnit .1 .0), (rw length-over (z .byUnit .1 .1 .0), z .byUnit .1 .1 .1)));
+        byUnit = (
+          z .byUnit .0,
+          (
+            rw length-over (z .byUnit .1 .0),
+            (rw length-over (z .byUnit .1 .1 .0), z .byUnit .1 .1 .1),
+          ),
+        );
         byArc = z .byArc;
         byLink = z .byLink;
       }
@@ -126,7 +200,13 @@ module _ (s : State) (z : Sized s) where
   tourPred-sized =
       record {
         byUnit = z .byUnit;
-        byArc = (z .byArc .0, (rw length-over (z .byArc .1 .0), (rw length-over (z .byArc .1 .1 .0), (rw length-over (z .byArc .1 .1 .1 .0), z .byArc .1 .1 .1 .1))));
+        byArc = (
+          z .byArc .0,
+          (
+            rw length-over (z .byArc .1 .0),
+            (rw length-over (z .byArc .1 .1 .0), (rw length-over (z .byArc .1 .1 .1 .0), z .byArc .1 .1 .1 .1)),
+          ),
+        );
         byLink = z .byLink;
       }
 
@@ -135,7 +215,13 @@ module _ (s : State) (z : Sized s) where
   ranking-sized =
       record {
         byUnit = z .byUnit;
-        byArc = (z .byArc .0, (z .byArc .1 .0, (rw length-over (z .byArc .1 .1 .0), (rw length-over (z .byArc .1 .1 .1 .0), z .byArc .1 .1 .1 .1))));
+        byArc = (
+          z .byArc .0,
+          (
+            z .byArc .1 .0,
+            (rw length-over (z .byArc .1 .1 .0), (rw length-over (z .byArc .1 .1 .1 .0), z .byArc .1 .1 .1 .1)),
+          ),
+        );
         byLink = z .byLink;
       }
 
@@ -144,7 +230,19 @@ module _ (s : State) (z : Sized s) where
   marksForward-sized =
       record {
         byUnit = z .byUnit;
-        byArc = (z .byArc .0, (z .byArc .1 .0, (z .byArc .1 .1 .0, (z .byArc .1 .1 .1 .0, (rw length-over (z .byArc .1 .1 .1 .1 .0), z .byArc .1 .1 .1 .1 .1)))));
+        byArc = (
+          z .byArc .0,
+          (
+            z .byArc .1 .0,
+            (
+              z .byArc .1 .1 .0,
+              (
+                z .byArc .1 .1 .1 .0,
+                (rw length-over (z .byArc .1 .1 .1 .1 .0), z .byArc .1 .1 .1 .1 .1),
+              ),
+            ),
+          ),
+        );
         byLink = z .byLink;
       }
 
@@ -152,8 +250,20 @@ module _ (s : State) (z : Sized s) where
   unfolding Step.marksDescendants ndRound secondJumps secondSums
   marksDescendants-sized =
       record {
-        byUnit = (z .byUnit .0, (z .byUnit .1 .0, (z .byUnit .1 .1 .0, (rw length-over (z .byUnit .1 .1 .1 .0), z .byUnit .1 .1 .1 .1))));
-        byArc = (z .byArc .0, (z .byArc .1 .0, (rw length-over (z .byArc .1 .1 .0), (rw length-over (z .byArc .1 .1 .1 .0), z .byArc .1 .1 .1 .1))));
+        byUnit = (
+          z .byUnit .0,
+          (
+            z .byUnit .1 .0,
+            (z .byUnit .1 .1 .0, (rw length-over (z .byUnit .1 .1 .1 .0), z .byUnit .1 .1 .1 .1)),
+          ),
+        );
+        byArc = (
+          z .byArc .0,
+          (
+            z .byArc .1 .0,
+            (rw length-over (z .byArc .1 .1 .0), (rw length-over (z .byArc .1 .1 .1 .0), z .byArc .1 .1 .1 .1)),
+          ),
+        );
         byLink = z .byLink;
       }
 
@@ -161,8 +271,26 @@ module _ (s : State) (z : Sized s) where
   unfolding Step.places Step.ranking preRound jumpRound sumRound
   places-sized =
       record {
-        byUnit = (z .byUnit .0, (z .byUnit .1 .0, (z .byUnit .1 .1 .0, (z .byUnit .1 .1 .1 .0, (rw length-over (z .byUnit .1 .1 .1 .1 .0), z .byUnit .1 .1 .1 .1 .1)))));
-        byArc = (z .byArc .0, (z .byArc .1 .0, (rw length-over (z .byArc .1 .1 .0), (rw length-over (z .byArc .1 .1 .1 .0), z .byArc .1 .1 .1 .1))));
+        byUnit = (
+          z .byUnit .0,
+          (
+            z .byUnit .1 .0,
+            (
+              z .byUnit .1 .1 .0,
+              (
+                z .byUnit .1 .1 .1 .0,
+                (rw length-over (z .byUnit .1 .1 .1 .1 .0), z .byUnit .1 .1 .1 .1 .1),
+              ),
+            ),
+          ),
+        );
+        byArc = (
+          z .byArc .0,
+          (
+            z .byArc .1 .0,
+            (rw length-over (z .byArc .1 .1 .0), (rw length-over (z .byArc .1 .1 .1 .0), z .byArc .1 .1 .1 .1)),
+          ),
+        );
         byLink = z .byLink;
       }
 
@@ -170,7 +298,40 @@ module _ (s : State) (z : Sized s) where
   unfolding Step.rangeBegun rangeFirst littleFirst bigFirst globalFirst
   rangeBegun-sized =
       record {
-        byUnit = (z .byUnit .0, (z .byUnit .1 .0, (z .byUnit .1 .1 .0, (z .byUnit .1 .1 .1 .0, (z .byUnit .1 .1 .1 .1 .0, (rw length-over (z .byUnit .1 .1 .1 .1 .1 .0), (rw length-over (z .byUnit .1 .1 .1 .1 .1 .1 .0), (rw length-over (z .byUnit .1 .1 .1 .1 .1 .1 .1 .0), (rw length-over (z .byUnit .1 .1 .1 .1 .1 .1 .1 .1 .0), (rw length-over (z .byUnit .1 .1 .1 .1 .1 .1 .1 .1 .1 .0), (rw length-over (z .byUnit .1 .1 .1 .1 .1 .1 .1 .1 .1 .1 .0), z .byUnit .1 .1 .1 .1 .1 .1 .1 .1 .1 .1 .1)))))))))));
+        byUnit = (
+          z .byUnit .0,
+          (
+            z .byUnit .1 .0,
+            (
+              z .byUnit .1 .1 .0,
+              (
+                z .byUnit .1 .1 .1 .0,
+                (
+                  z .byUnit .1 .1 .1 .1 .0,
+                  (
+                    rw length-over (z .byUnit .1 .1 .1 .1 .1 .0),
+                    (
+                      rw length-over (z .byUnit .1 .1 .1 .1 .1 .1 .0),
+                      (
+                        rw length-over (z .byUnit .1 .1 .1 .1 .1 .1 .1 .0),
+                        (
+                          rw length-over (z .byUnit .1 .1 .1 .1 .1 .1 .1 .1 .0),
+                          (
+                            rw length-over (z .byUnit .1 .1 .1 .1 .1 .1 .1 .1 .1 .0),
+                            (
+                              rw length-over (z .byUnit .1 .1 .1 .1 .1 .1 .1 .1 .1 .1 .0),
+                              z .byUnit .1 .1 .1 .1 .1 .1 .1 .1 .1 .1 .1,
+                            ),
+                          ),
+                        ),
+                      ),
+                    ),
+                  ),
+                ),
+              ),
+            ),
+          ),
+        );
         byArc = z .byArc;
         byLink = z .byLink;
       }
@@ -179,7 +340,40 @@ module _ (s : State) (z : Sized s) where
   unfolding Step.rangeDoubled rangeLater littleLater bigLater globalLater
   rangeDoubled-sized i =
       record {
-        byUnit = (z .byUnit .0, (z .byUnit .1 .0, (z .byUnit .1 .1 .0, (z .byUnit .1 .1 .1 .0, (z .byUnit .1 .1 .1 .1 .0, (rw length-over (z .byUnit .1 .1 .1 .1 .1 .0), (rw length-over (z .byUnit .1 .1 .1 .1 .1 .1 .0), (rw length-over (z .byUnit .1 .1 .1 .1 .1 .1 .1 .0), (rw length-over (z .byUnit .1 .1 .1 .1 .1 .1 .1 .1 .0), (rw length-over (z .byUnit .1 .1 .1 .1 .1 .1 .1 .1 .1 .0), (rw length-over (z .byUnit .1 .1 .1 .1 .1 .1 .1 .1 .1 .1 .0), z .byUnit .1 .1 .1 .1 .1 .1 .1 .1 .1 .1 .1)))))))))));
+        byUnit = (
+          z .byUnit .0,
+          (
+            z .byUnit .1 .0,
+            (
+              z .byUnit .1 .1 .0,
+              (
+                z .byUnit .1 .1 .1 .0,
+                (
+                  z .byUnit .1 .1 .1 .1 .0,
+                  (
+                    rw length-over (z .byUnit .1 .1 .1 .1 .1 .0),
+                    (
+                      rw length-over (z .byUnit .1 .1 .1 .1 .1 .1 .0),
+                      (
+                        rw length-over (z .byUnit .1 .1 .1 .1 .1 .1 .1 .0),
+                        (
+                          rw length-over (z .byUnit .1 .1 .1 .1 .1 .1 .1 .1 .0),
+                          (
+                            rw length-over (z .byUnit .1 .1 .1 .1 .1 .1 .1 .1 .1 .0),
+                            (
+                              rw length-over (z .byUnit .1 .1 .1 .1 .1 .1 .1 .1 .1 .1 .0),
+                              z .byUnit .1 .1 .1 .1 .1 .1 .1 .1 .1 .1 .1,
+                            ),
+                          ),
+                        ),
+                      ),
+                    ),
+                  ),
+                ),
+              ),
+            ),
+          ),
+        );
         byArc = z .byArc;
         byLink = z .byLink;
       }
@@ -188,7 +382,43 @@ module _ (s : State) (z : Sized s) where
   unfolding Step.auxEdges parentJoinsRound linkJoinsRound
   auxEdges-sized =
       record {
-        byUnit = (z .byUnit .0, (z .byUnit .1 .0, (z .byUnit .1 .1 .0, (z .byUnit .1 .1 .1 .0, (z .byUnit .1 .1 .1 .1 .0, (z .byUnit .1 .1 .1 .1 .1 .0, (z .byUnit .1 .1 .1 .1 .1 .1 .0, (z .byUnit .1 .1 .1 .1 .1 .1 .1 .0, (z .byUnit .1 .1 .1 .1 .1 .1 .1 .1 .0, (z .byUnit .1 .1 .1 .1 .1 .1 .1 .1 .1 .0, (z .byUnit .1 .1 .1 .1 .1 .1 .1 .1 .1 .1 .0, (rw length-over (z .byUnit .1 .1 .1 .1 .1 .1 .1 .1 .1 .1 .1 .0), z .byUnit .1 .1 .1 .1 .1 .1 .1 .1 .1 .1 .1 .1))))))))))));
+        byUnit = (
+          z .byUnit .0,
+          (
+            z .byUnit .1 .0,
+            (
+              z .byUnit .1 .1 .0,
+              (
+                z .byUnit .1 .1 .1 .0,
+                (
+                  z .byUnit .1 .1 .1 .1 .0,
+                  (
+                    z .byUnit .1 .1 .1 .1 .1 .0,
+                    (
+                      z .byUnit .1 .1 .1 .1 .1 .1 .0,
+                      (
+                        z .byUnit .1 .1 .1 .1 .1 .1 .1 .0,
+                        (
+                          z .byUnit .1 .1 .1 .1 .1 .1 .1 .1 .0,
+                          (
+                            z .byUnit .1 .1 .1 .1 .1 .1 .1 .1 .1 .0,
+                            (
+                              z .byUnit .1 .1 .1 .1 .1 .1 .1 .1 .1 .1 .0,
+                              (
+                                rw length-over (z .byUnit .1 .1 .1 .1 .1 .1 .1 .1 .1 .1 .1 .0),
+                                z .byUnit .1 .1 .1 .1 .1 .1 .1 .1 .1 .1 .1 .1,
+                              ),
+                            ),
+                          ),
+                        ),
+                      ),
+                    ),
+                  ),
+                ),
+              ),
+            ),
+          ),
+        );
         byArc = z .byArc;
         byLink = (rw length-over (z .byLink .0), z .byLink .1);
       }
@@ -197,7 +427,46 @@ module _ (s : State) (z : Sized s) where
   unfolding Step.auxComponents auxRound
   auxComponents-sized =
       record {
-        byUnit = (z .byUnit .0, (z .byUnit .1 .0, (z .byUnit .1 .1 .0, (z .byUnit .1 .1 .1 .0, (z .byUnit .1 .1 .1 .1 .0, (z .byUnit .1 .1 .1 .1 .1 .0, (z .byUnit .1 .1 .1 .1 .1 .1 .0, (z .byUnit .1 .1 .1 .1 .1 .1 .1 .0, (z .byUnit .1 .1 .1 .1 .1 .1 .1 .1 .0, (z .byUnit .1 .1 .1 .1 .1 .1 .1 .1 .1 .0, (z .byUnit .1 .1 .1 .1 .1 .1 .1 .1 .1 .1 .0, (z .byUnit .1 .1 .1 .1 .1 .1 .1 .1 .1 .1 .1 .0, (rw length-over (z .byUnit .1 .1 .1 .1 .1 .1 .1 .1 .1 .1 .1 .1 .0), z .byUnit .1 .1 .1 .1 .1 .1 .1 .1 .1 .1 .1 .1 .1)))))))))))));
+        byUnit = (
+          z .byUnit .0,
+          (
+            z .byUnit .1 .0,
+            (
+              z .byUnit .1 .1 .0,
+              (
+                z .byUnit .1 .1 .1 .0,
+                (
+                  z .byUnit .1 .1 .1 .1 .0,
+                  (
+                    z .byUnit .1 .1 .1 .1 .1 .0,
+                    (
+                      z .byUnit .1 .1 .1 .1 .1 .1 .0,
+                      (
+                        z .byUnit .1 .1 .1 .1 .1 .1 .1 .0,
+                        (
+                          z .byUnit .1 .1 .1 .1 .1 .1 .1 .1 .0,
+                          (
+                            z .byUnit .1 .1 .1 .1 .1 .1 .1 .1 .1 .0,
+                            (
+                              z .byUnit .1 .1 .1 .1 .1 .1 .1 .1 .1 .1 .0,
+                              (
+                                z .byUnit .1 .1 .1 .1 .1 .1 .1 .1 .1 .1 .1 .0,
+                                (
+                                  rw length-over (z .byUnit .1 .1 .1 .1 .1 .1 .1 .1 .1 .1 .1 .1 .0),
+                                  z .byUnit .1 .1 .1 .1 .1 .1 .1 .1 .1 .1 .1 .1 .1,
+                                ),
+                              ),
+                            ),
+                          ),
+                        ),
+                      ),
+                    ),
+                  ),
+                ),
+              ),
+            ),
+          ),
+        );
         byArc = z .byArc;
         byLink = z .byLink;
       }
@@ -244,4 +513,5 @@ module _ (s : State) (z : Sized s) where
   pub step-sized : Sized (Step.step s)
   unfolding Step.step
   step-sized =
-      cond-keeps Sized (finished s) s _ z (record { byUnit = tables-sized .byUnit; byArc = tables-sized .byArc; byLink = tables-sized .byLink })
+      cond-keeps Sized (finished s) s _ z
+      (record { byUnit = tables-sized .byUnit; byArc = tables-sized .byArc; byLink = tables-sized .byLink })

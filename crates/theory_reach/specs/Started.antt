@@ -1,5 +1,5 @@
--- The start of a survey: all that is used of a load, as one record. What follows from it holds after every load that builds it. Both do (document 02, T-10): a
--- fresh table that passes passes as a stored one.
+-- The start of a survey: all that is used of a load, as one record. What follows from it holds after every load that
+-- builds it. Both do (document 02, T-10): a fresh table that passes passes as a stored one.
 use mathlib.Core.Path.{_≡_, refl}
 use mathlib.Core.Bool.{true}
 use Prim.Native.Nat.{ℕ, _≤_}

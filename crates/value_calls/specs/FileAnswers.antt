@@ -33,10 +33,12 @@ readingAnswer s r = record { state = s; reply = readingReply r }
 abbrev pub writingAnswer : State → Writing → Answer
 writingAnswer s r = record { state = s; reply = writingReply r }
 
-pub reading-told : (s : State) (r : Reading) {reply : Reply} → reply ≡ readingReply r → record { state = s; reply = reply } ≡ readingAnswer s r
+pub reading-told : (s : State) (r : Reading) {reply : Reply} → reply ≡ readingReply r →
+    record { state = s; reply = reply } ≡ readingAnswer s r
 reading-told s r e = ap (λ (x : Reply). record { state = s; reply = x }) e
 
-pub writing-told : (s : State) (r : Writing) {reply : Reply} → reply ≡ writingReply r → record { state = s; reply = reply } ≡ writingAnswer s r
+pub writing-told : (s : State) (r : Writing) {reply : Reply} → reply ≡ writingReply r →
+    record { state = s; reply = reply } ≡ writingAnswer s r
 writing-told s r e = ap (λ (x : Reply). record { state = s; reply = x }) e
 
 pub read-answer : (input : List ℕ) (places spaces : ℕ) (s : State)
@@ -44,7 +46,8 @@ pub read-answer : (input : List ℕ) (places spaces : ℕ) (s : State)
 unfolding readAnswer readReply
 read-answer input places spaces s = go (either (eqb (readRefusal (linesOf input) places spaces) 0))
   where
-    go : (eqb (readRefusal (linesOf input) places spaces) 0 ≡ true) ⊎ (eqb (readRefusal (linesOf input) places spaces) 0 ≡ false)
+    go : (eqb (readRefusal (linesOf input) places spaces) 0 ≡ true)
+        ⊎ (eqb (readRefusal (linesOf input) places spaces) 0 ≡ false)
         → readingAnswer s (readReply input places spaces) ≡ readAnswer input places spaces s
     go (inl e) = rw e refl
     go (inr e) = rw e refl

@@ -1,5 +1,5 @@
-// The calls that ask: questions to a finished survey, its report, and files read and written. Each hands the state back beside its answer; a
-// refusal gives only the number, and nothing is written.
+// The calls that ask: questions to a finished survey, its report, and files read and written. Each hands the state back
+// beside its answer; a refusal gives only the number, and nothing is written.
 ghost use mathlib.Core.Path.{_≡_};
 ghost use lib.ListN.{length};
 ghost use Rattle.file_spec.specs.File.{readWords, readLevels, writtenFile};
@@ -73,9 +73,12 @@ fn write_reply(done: Writing) -> Reply
 
 // A file's ends into words and its levels beside them: 1, 2, 3, 6, 16, 14. What stands past the last link stays.
 pub fn read(survey: Survey, file: &[u8], words: &mut [u16], levels: &mut [i16]) -> Answer
-    ensures reply { λ r. ⌜ answerOf r ≡ readAnswer (now (file .entry)) (length (now (words .entry))) (length (now (levels .entry))) (of survey) ⌝ }
-    ensures lent { λ _. ⌜ now (words .exit) ≡ readWords (now (file .entry)) (now (words .entry)) (length (now (levels .entry))) ⌝ }
-    ensures levels { λ _. ⌜ now (levels .exit) ≡ readLevels (now (file .entry)) (length (now (words .entry))) (now (levels .entry)) ⌝ }
+    ensures reply { λ r. ⌜ answerOf r ≡ readAnswer (now (file .entry)) (length (now (words .entry)))
+        (length (now (levels .entry))) (of survey) ⌝ }
+    ensures lent { λ _. ⌜ now (words .exit)
+        ≡ readWords (now (file .entry)) (now (words .entry)) (length (now (levels .entry))) ⌝ }
+    ensures levels { λ _. ⌜ now (levels .exit)
+        ≡ readLevels (now (file .entry)) (length (now (words .entry))) (now (levels .entry)) ⌝ }
 {
     let found = file_read::read(file, words, levels);
     let reply = read_reply(found);
@@ -84,8 +87,11 @@ pub fn read(survey: Survey, file: &[u8], words: &mut [u16], levels: &mut [i16]) 
 
 // The file of a unit count, a table and its levels: 4 to 6, 15, 16, 7 to 9, 14. Bytes past it stay.
 pub fn write(survey: Survey, units: u16, words: &[u16], levels: &[i16], out: &mut [u8]) -> Answer
-    ensures reply { λ r. ⌜ answerOf r ≡ writeAnswer (record { units = units; words = now (words .entry); levels = now (levels .entry) }) (length (now (out .entry))) (of survey) ⌝ }
-    ensures lent { λ _. ⌜ now (out .exit) ≡ writtenFile units (now (words .entry)) (now (levels .entry)) (now (out .entry)) ⌝ }
+    ensures reply { λ r. ⌜ answerOf r ≡ writeAnswer
+        (record { units = units; words = now (words .entry); levels = now (levels .entry) }) (length (now (out .entry)))
+        (of survey) ⌝ }
+    ensures lent { λ _. ⌜ now (out .exit)
+        ≡ writtenFile units (now (words .entry)) (now (levels .entry)) (now (out .entry)) ⌝ }
 {
     let done = file_write::write(units, words, levels, out);
     let reply = write_reply(done);

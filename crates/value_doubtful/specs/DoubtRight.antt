@@ -1,5 +1,6 @@
--- What T-08 asks of the call about doubtful links, for any state, positions i and j and marks: each number exactly for its cause; else "always" exactly
--- where a ring holds both in each setting, "never" exactly where in none, and "perhaps" exactly where in some but not each.
+-- What T-08 asks of the call about doubtful links, for any state, positions i and j and marks: each number exactly for
+-- its cause; else "always" exactly where a ring holds both in each setting, "never" exactly where in none, and
+-- "perhaps" exactly where in some but not each.
 use mathlib.Core.Path.{_≡_}
 use mathlib.Core.Logic.{_↔_}
 use mathlib.Core.List.{List}

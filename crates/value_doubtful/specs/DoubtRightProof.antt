@@ -79,10 +79,12 @@ module _ (m : ℕ) (ends marks : List ℕ) (i j : ℕ) where
 module _ (n m : ℕ) (ends : List ℕ) (i j : ℕ) where
   -- whether a ring of the links that count holds both
   abbrev pub RingedTold : (ℕ → Bool) → Bool → Type 0
-  RingedTold ok told = Site n m ends → i < m → j < m → (told ≡ true → Ringed ok m ends i j) × (told ≡ false → Ringed ok m ends i j → ⊥)
+  RingedTold ok told = Site n m ends → i < m → j < m →
+      (told ≡ true → Ringed ok m ends i j) × (told ≡ false → Ringed ok m ends i j → ⊥)
 
   -- by the number of its units
-  pub ringed-told : (ok : ℕ → Bool) (ring₀ ring : List ℕ) (r : ℕ) → length ring₀ ≡ 256 → RingTold ok n m ends i j ring₀ ring r → RingedTold ok (not (eqb r 0))
+  pub ringed-told : (ok : ℕ → Bool) (ring₀ ring : List ℕ) (r : ℕ) → length ring₀ ≡ 256 →
+      RingTold ok n m ends i j ring₀ ring r → RingedTold ok (not (eqb r 0))
   ringed-told ok ring₀ ring r long T site hi hj = go (T site hi hj long)
     where
       go : ((r ≡ 0) × (Ringed ok m ends i j → ⊥)) ⊎ (Shows ok m ends i j (take r ring) × (r ≡ length (take r ring)))
@@ -97,15 +99,18 @@ module _ (n m : ℕ) (ends : List ℕ) (i j : ℕ) where
     pub told-always : x ≡ true → VerdictTold n m ends marks i j Always
     told-always h site hi hj = says-always m ends marks i j (each m ends marks i j .1 (A site hi hj .0 h))
 
-    module _ (z : x ≡ false) (all : List ℕ) (y : Bool) (counts : (k : ℕ) → getD all k 0 ≡ 0) (B : RingedTold (sure all) y) where
+    module _ (z : x ≡ false) (all : List ℕ) (y : Bool) (counts : (k : ℕ) →
+        getD all k 0 ≡ 0) (B : RingedTold (sure all) y) where
       none-each : Site n m ends → i < m → j < m → InEach m ends marks i j → ⊥
       none-each site hi hj h = A site hi hj .1 z (each m ends marks i j .0 h)
 
       pub told-perhaps : y ≡ true → VerdictTold n m ends marks i j Perhaps
-      told-perhaps h site hi hj = says-perhaps m ends marks i j (some m ends marks i j all counts .1 (B site hi hj .0 h)) (none-each site hi hj)
+      told-perhaps h site hi hj = says-perhaps m ends marks i j
+          (some m ends marks i j all counts .1 (B site hi hj .0 h)) (none-each site hi hj)
 
       pub told-never : y ≡ false → VerdictTold n m ends marks i j Never
-      told-never q site hi hj = says-never m ends marks i j (λ h. B site hi hj .1 q (some m ends marks i j all counts .0 h))
+      told-never q site hi hj = says-never m ends marks i j
+          (λ h. B site hi hj .1 q (some m ends marks i j all counts .0 h))
 
 -- ---- the call
 
@@ -124,12 +129,15 @@ module _ (i j : ℕ) (marks : List ℕ) (s : State) where
         told = λ z. told (sym e ∙ z);
       }
 
-  pub doubt-refused : (r : ℕ) → r ≡ refusal → (r ≡ 0 → ⊥) → DoubtRight i j marks s (record { state = s; reply = Refused r })
+  pub doubt-refused : (r : ℕ) → r ≡ refusal → (r ≡ 0 → ⊥) →
+      DoubtRight i j marks s (record { state = s; reply = Refused r })
   doubt-refused r e h = right (Refused r) e (λ z. absurd (h (e ∙ z)))
 
   pub doubt-told : (reply : Verdict) → refusal ≡ 0 → length (s .table .ends) ≡ 2048 → numberOf reply ≡ 0
-      → VerdictTold (units s) (links s) (s .table .ends) marks i j reply → DoubtRight i j marks s (record { state = s; reply = reply })
+      → VerdictTold (units s) (links s) (s .table .ends) marks i j reply →
+      DoubtRight i j marks s (record { state = s; reply = reply })
   unfolding doubtRefusal
   doubt-told reply e full z T =
-      let p = two-passed (wellFormed s) (finished s) (links s) i j 15 (not (eqb (length marks) (links s))) (omega arith) e in
+      let p = two-passed (wellFormed s) (finished s) (links s) i j 15 (not (eqb (length marks) (links s)))
+      (omega arith) e in
       right reply (z ∙ sym e) (λ q. T (kept-site s full (kept-exact s .0 (p .0))) (p .1) (p .2))

@@ -1,4 +1,5 @@
--- The call about doubtful links (T-08), on a state, two positions and marks: its reply, and why it is refused. It reads the links, never the labels.
+-- The call about doubtful links (T-08), on a state, two positions and marks: its reply, and why it is refused. It reads
+-- the links, never the labels.
 use mathlib.Core.Path.{_≡_}
 use mathlib.Core.Bool.{not}
 use mathlib.Core.List.{List, [], _∷_}
@@ -50,8 +51,14 @@ doubtRefusal i j marks s =
 
 -- 15: the marks differ in number from the links
 abbrev pub marksDiffer : ℕ → ℕ → Reason
-marksDiffer marks m = record { number = 15; test = not (eqb marks m); cause = marks ≡ m → ⊥; exact = not-exact (eqb marks m) (eq-exact marks m) }
+marksDiffer marks m = record {
+  number = 15;
+  test = not (eqb marks m);
+  cause = marks ≡ m → ⊥;
+  exact = not-exact (eqb marks m) (eq-exact marks m);
+}
 
 -- the causes, in the same order
 abbrev pub doubtReasons : ℕ → ℕ → ℕ → State → List Reason
-doubtReasons i j marks s = notKept s ∷ beforeEnd s ∷ missing i (links s) ∷ missing j (links s) ∷ marksDiffer marks (links s) ∷ []
+doubtReasons i j marks s = notKept s ∷ beforeEnd s ∷ missing i (links s) ∷ missing j (links s)
+    ∷ marksDiffer marks (links s) ∷ []

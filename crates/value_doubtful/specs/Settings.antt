@@ -1,4 +1,5 @@
--- Settings of a site (T-08): each link is sure or doubtful, any set of the doubtful ones may be absent. Marks are a byte a link, 0 for sure.
+-- Settings of a site (T-08): each link is sure or doubtful, any set of the doubtful ones may be absent. Marks are a
+-- byte a link, 0 for sure.
 use mathlib.Core.Path.{_≡_}
 use mathlib.Core.Bool.{Bool, true}
 use mathlib.Core.List.{List}

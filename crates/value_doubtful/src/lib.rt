@@ -51,8 +51,8 @@ fn ringed<'a>(
     ring_search::ring(marks, units, links, ends, first, second, &mut found) != 0
 }
 
-// A byte a link in `marks`, 0 for a sure one and any other for a doubtful one. Two questions are enough: whether the sure links of a site have a ring that
-// holds both, and whether all links have one.
+// A byte a link in `marks`, 0 for a sure one and any other for a doubtful one. Two questions are enough: whether the
+// sure links of a site have a ring that holds both, and whether all links have one.
 pub fn judged<'a>(
     marks: &'a [u8],
     units: u16,

@@ -1,10 +1,12 @@
-// The foreman's line and the service line of a survey (T-06), by value. Each call hands the state back beside its reply, at every stage.
+// The foreman's line and the service line of a survey (T-06), by value. Each call hands the state back beside its
+// reply, at every stage.
 ghost use mathlib.Core.Path.{_≡_};
 ghost use mathlib.Core.Bool.{true};
 ghost use lib.ListN.{length};
 ghost use Rattle.spec_machine.specs.WellFormed.{wellFormed};
 ghost use Rattle.survey.specs.View.{of, answerOf};
-ghost use Rattle.handset_lines.specs.Lines.{statusOf, lineNeeded, lineIn, lineAnswer, lineShown, foremanAnswer, foremanShown, serviceAnswer, serviceShown};
+ghost use Rattle.handset_lines.specs.Lines.{statusOf, lineNeeded, lineIn, lineAnswer, lineShown, foremanAnswer};
+ghost use Rattle.handset_lines.specs.Lines.{foremanShown, serviceAnswer, serviceShown};
 use handset_lines::Status;
 use survey::Answer;
 use survey::Reply;
@@ -27,7 +29,8 @@ fn status_of(s: Survey) -> Status
 // Either line at the front of `out`: 10, 14. Bytes past it stay.
 fn shown(service: bool, survey: Survey, out: &mut [u8]) -> Answer
     ensures reply { λ r. ⌜ answerOf r ≡ lineAnswer (lineNeeded service) (length (now (out .entry))) (of survey) ⌝ }
-    ensures lent { λ _. ⌜ now (out .exit) ≡ lineShown (lineNeeded service) (lineIn service (of survey)) (of survey) (now (out .entry)) ⌝ }
+    ensures lent { λ _. ⌜ now (out .exit)
+        ≡ lineShown (lineNeeded service) (lineIn service (of survey)) (of survey) (now (out .entry)) ⌝ }
 {
     if !survey.well_formed() {
         return Answer {

@@ -41,7 +41,30 @@ pub fn kept<'a>(
     plan: &'a [u16; 256],
 ) -> bool
     ensures { λ r. ⌜ r
-        ≡ wellFormed (record { table = record { units = units; links = links; ends = now (ends .entry); levels = now (levels .entry) }; clock = clock; components = record { color = now (color .entry) }; plan = record { given = given; parent = now (plan .entry) }; tree = record { parent = now (parent .entry); dist = now (dist .entry) }; tour = record { next = now (next .entry); pred = now (pred .entry) }; ranking = record { jump = now (jump .entry); sum = now (sum .entry) }; order = record { forward = now (forward .entry); nd = now (nd .entry); pre = now (pre .entry) }; range = record { low = now (low .entry); high = now (high .entry); little = now (little .entry); big = now (big .entry) }; global = record { low = now (least .entry); high = now (greatest .entry) }; aux = record { parents = now (parents .entry); links = now (linked .entry); color = now (classes .entry) }; labels = record { class = now (class .entry); label = now (label .entry) } }) ⌝ }
+        ≡ wellFormed (record {
+          table = record {
+            units = units;
+            links = links;
+            ends = now (ends .entry);
+            levels = now (levels .entry);
+          };
+          clock = clock;
+          components = record { color = now (color .entry) };
+          plan = record { given = given; parent = now (plan .entry) };
+          tree = record { parent = now (parent .entry); dist = now (dist .entry) };
+          tour = record { next = now (next .entry); pred = now (pred .entry) };
+          ranking = record { jump = now (jump .entry); sum = now (sum .entry) };
+          order = record { forward = now (forward .entry); nd = now (nd .entry); pre = now (pre .entry) };
+          range = record {
+            low = now (low .entry);
+            high = now (high .entry);
+            little = now (little .entry);
+            big = now (big .entry);
+          };
+          global = record { low = now (least .entry); high = now (greatest .entry) };
+          aux = record { parents = now (parents .entry); links = now (linked .entry); color = now (classes .entry) };
+          labels = record { class = now (class .entry); label = now (label .entry) };
+        }) ⌝ }
 {
     if !stage_clock::front_ok(units, links, ends, clock) {
         return false;
@@ -72,7 +95,8 @@ pub fn kept<'a>(
 
 // Every entry of three tables passes.
 fn three_ok<'a>(limit: Limit, a: &'a [u16], b: &'a [u16], c: &'a [u16]) -> bool
-    ensures { λ r. ⌜ ((p : ℕ → Bool) → Tells (limit .more) (limit .most) p → r ≡ every (every p) (now (a .entry) ∷ now (b .entry) ∷ now (c .entry) ∷ [])) ⌝ }
+    ensures { λ r. ⌜ ((p : ℕ → Bool) → Tells (limit .more) (limit .most) p →
+        r ≡ every (every p) (now (a .entry) ∷ now (b .entry) ∷ now (c .entry) ∷ [])) ⌝ }
 {
     table_values::both(
         bounds::within(limit, a),

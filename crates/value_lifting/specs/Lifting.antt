@@ -1,4 +1,5 @@
--- The lifting call (T-07) on a state, with the crew's pairs and a lent slice: its reply, and what the slice holds afterwards. It reads the links, never the labels.
+-- The lifting call (T-07) on a state, with the crew's pairs and a lent slice: its reply, and what the slice holds
+-- afterwards. It reads the links, never the labels.
 use mathlib.Core.Bool.{cond, not}
 use mathlib.Core.List.{List, [], _∷_}
 use Prim.Native.Nat.{ℕ}
@@ -47,7 +48,11 @@ liftingRefusal p places s =
 
 unfoldable pub liftingAnswer : List ℕ → ℕ → State → Answer
 liftingAnswer p places s =
-    record { state = s; reply = cond (eqb (liftingRefusal p places s) 0) (Lifted (units s)) (Refused (liftingRefusal p places s)) }
+    record {
+      state = s;
+      reply = cond (eqb (liftingRefusal p places s) 0) (Lifted (units s))
+          (Refused (liftingRefusal p places s));
+    }
 
 -- the slice afterwards: the order at its front, or all as it was
 unfoldable pub lifted : List ℕ → State → List ℕ → List ℕ

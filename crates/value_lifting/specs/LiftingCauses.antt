@@ -25,11 +25,15 @@ use Rattle.value_lifting.specs.Lifting.{liftingRefusal}
 
 -- more than 256 pairs, an odd number of words, or a pair that names a missing unit
 abbrev pub BadPairs : ℕ → List ℕ → Type 0
-BadPairs n p = (256 < linkCount p) ⊎ (((k : ℕ) × (length p ≡ 2 * k + 1)) ⊎ ((i : ℕ) × (i < length p) × (n ≤ getD p i 0)))
+BadPairs n p = (256 < linkCount p) ⊎ (((k : ℕ) × (length p ≡ 2 * k + 1))
+    ⊎ ((i : ℕ) × (i < length p) × (n ≤ getD p i 0)))
 
 pub bad-exact : (n : ℕ) (p : List ℕ) → (badPairs n p ≡ true) ↔ BadPairs n p
 bad-exact n p =
-    or-exact (ltb 256 (linkCount p)) (oddWords p || endMissing n p) (ltb-true 256 (linkCount p), lt-ltb 256 (linkCount p))
+    or-exact (ltb 256 (linkCount p)) (oddWords p || endMissing n p) (
+      ltb-true 256 (linkCount p),
+      lt-ltb 256 (linkCount p),
+    )
     (or-exact (oddWords p) (endMissing n p) (oddWords-exact p) (endMissing-exact n p))
 
 -- of a kept state and pairs that name its units, no lifting order exists
@@ -41,7 +45,8 @@ module _ (s : State) (p : List ℕ) where
   pub order-right : Kept s → badPairs (units s) p ≡ false → OrderRight (units s) (words s) p
   order-right k b =
       lifting-order (units s) (words s) p (passes (units s) (words s) (k .passes) .someUnit)
-      (or-false-right (oddWords p) (endMissing (units s) p) (or-false-right (ltb 256 (linkCount p)) (oddWords p || endMissing (units s) p) b))
+      (or-false-right (oddWords p) (endMissing (units s) p)
+      (or-false-right (ltb 256 (linkCount p)) (oddWords p || endMissing (units s) p) b))
 
   abbrev pub none : Bool
   none = wellFormed s && (not (badPairs (units s) p) && noOrder (units s) (words s) p)
@@ -56,14 +61,16 @@ module _ (s : State) (p : List ℕ) where
           let g = and-left (not (badPairs (units s) p)) (noOrder (units s) (words s) p) r in (
             k,
             not-exact (badPairs (units s) p) (bad-exact (units s) p) .0 g,
-            order-right k (not-true (badPairs (units s) p) g) .refused .0 (and-right (not (badPairs (units s) p)) (noOrder (units s) (words s) p) r),
+            order-right k (not-true (badPairs (units s) p) g) .refused .0
+                (and-right (not (badPairs (units s) p)) (noOrder (units s) (words s) p) r),
           )
 
       from : NoOrder s p → none ≡ true
       from (k, b, o) =
           let f : badPairs (units s) p ≡ false = refuted (badPairs (units s) p) (λ e. b (bad-exact (units s) p .0 e)) in
           and-true (wellFormed s) _ (kept-exact s .1 k)
-          (and-true (not (badPairs (units s) p)) (noOrder (units s) (words s) p) (rw f refl) (order-right k f .refused .1 o))
+          (and-true (not (badPairs (units s) p)) (noOrder (units s) (words s) p) (rw f refl)
+          (order-right k f .refused .1 o))
 
 -- 10, 12, 14, 19, 20
 abbrev pub liftingReasons : List ℕ → ℕ → State → List Reason
@@ -75,11 +82,14 @@ liftingReasons p places s =
     ∷ record { number = 20; test = none s p; cause = NoOrder s p; exact = none-exact s p }
     ∷ []
 
-pub lifting-tests : (p : List ℕ) (places : ℕ) (s : State) → liftingRefusal p places s ≡ firstOf (tests (liftingReasons p places s))
+pub lifting-tests : (p : List ℕ) (places : ℕ) (s : State) →
+    liftingRefusal p places s ≡ firstOf (tests (liftingReasons p places s))
 unfolding liftingRefusal
-lifting-tests p places s = go (wellFormed s) (not (finished s)) (ltb places (units s)) (badPairs (units s) p) (noOrder (units s) (words s) p)
+lifting-tests p places s = go (wellFormed s) (not (finished s)) (ltb places (units s)) (badPairs (units s) p)
+    (noOrder (units s) (words s) p)
   where
-    go : (a b c d e : Bool) → _≡_ {A = ℕ} (cond (not a) 10 (cond b 12 (cond c 14 (cond d 19 (cond e 20 0))))) (cond (not a) 10 (cond b 12 (cond c 14 (cond d 19 (cond (a && (not d && e)) 20 0)))))
+    go : (a b c d e : Bool) → _≡_ {A = ℕ} (cond (not a) 10 (cond b 12 (cond c 14 (cond d 19 (cond e 20 0)))))
+        (cond (not a) 10 (cond b 12 (cond c 14 (cond d 19 (cond (a && (not d && e)) 20 0)))))
     go false b c d e = refl
     go true b c true e = refl
     go true b c false e = refl

@@ -35,12 +35,14 @@ module _ (s : State) where
   early-none w e = rw (w, eq-eqb (s .clock .stage) FINISHED e) refl
 
   -- a kept state is a site
-  kept-site : wellFormed s ≡ true → length (s .table .ends) ≡ 2048 → siteFits (units s) (links s) (s .table .ends) ≡ true
+  kept-site : wellFormed s ≡ true → length (s .table .ends) ≡ 2048 →
+      siteFits (units s) (links s) (s .table .ends) ≡ true
   unfolding siteFits
   kept-site w l =
       let k : Kept s = kept-exact s .0 w in
       and-true (leb (units s) 256) _ (le-leb (units s) 256 (passes (units s) (words s) (k .passes) .fewUnits))
-      (and-true (leb (2 * links s) (length (s .table .ends))) _ (le-leb (2 * links s) (length (s .table .ends)) (omega (arith, k .few))) (links-fit s w))
+      (and-true (leb (2 * links s) (length (s .table .ends))) _
+      (le-leb (2 * links s) (length (s .table .ends)) (omega (arith, k .few))) (links-fit s w))
 
   module _ (p out : List ℕ) where
     abbrev Told : Answer → List ℕ → Type 0
@@ -52,7 +54,8 @@ module _ (s : State) where
     told-early r e h =
         let q : liftingRefusal p (length out) s ≡ r =
         first-some ((10, not (wellFormed s)) ∷ (12, not (finished s)) ∷ [])
-        ((14, ltb (length out) (units s)) ∷ (19, badPairs (units s) p) ∷ (20, noOrder (units s) (words s) p) ∷ []) (λ z. h (e ∙ z))
+        ((14, ltb (length out) (units s)) ∷ (19, badPairs (units s) p) ∷ (20, noOrder (units s) (words s) p) ∷ [])
+        (λ z. h (e ∙ z))
         ∙ sym e in
         (rw (q, ne-eqb r 0 h) refl, rw (q, ne-eqb r 0 h) refl)
 
@@ -61,13 +64,16 @@ module _ (s : State) where
         → liftingRefusal p (length out) s ≡ orderRefusal (units s) (links s) (s .table .ends) p (length out)
     unfolding earlyRefusal liftingRefusal orderRefusal
     same-refusal e l =
-        let w : wellFormed s ≡ true = not-false (wellFormed s) (passed-test (not (wellFormed s)) 10 _ (omega arith) e .0) in
+        let w : wellFormed s ≡ true = not-false (wellFormed s)
+        (passed-test (not (wellFormed s)) 10 _ (omega arith) e .0) in
         first-none ((10, not (wellFormed s)) ∷ (12, not (finished s)) ∷ [])
-        ((14, ltb (length out) (units s)) ∷ (19, badPairs (units s) p) ∷ (20, noOrder (units s) (words s) p) ∷ []) (omega arith) e
+        ((14, ltb (length out) (units s)) ∷ (19, badPairs (units s) p) ∷ (20, noOrder (units s) (words s) p) ∷ [])
+        (omega arith) e
         ∙ rw (kept-site w l) refl
 
     module _ (r : ℕ) (new : List ℕ) (early : earlyRefusal s ≡ 0) (long : length (s .table .ends) ≡ 2048)
-        (number : r ≡ orderRefusal (units s) (links s) (s .table .ends) p (length out)) (slice : new ≡ orderWritten (units s) (links s) (s .table .ends) p out) where
+        (number : r ≡ orderRefusal (units s) (links s) (s .table .ends) p (length out))
+        (slice : new ≡ orderWritten (units s) (links s) (s .table .ends) p out) where
       pub told-refused : (r ≡ 0 → ⊥) → Told (record { state = s; reply = Refused r }) new
       unfolding liftingAnswer lifted orderWritten
       told-refused h =

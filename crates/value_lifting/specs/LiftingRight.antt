@@ -1,5 +1,6 @@
--- What T-07 asks of the lifting call, for any state, pairs p and slice `out`: each number exactly for its cause; a refusal hands back the state and writes
--- nothing; else an order stands at the front of the slice, which lifts all units, and read from unit 0 on it is the least of all that do.
+-- What T-07 asks of the lifting call, for any state, pairs p and slice `out`: each number exactly for its cause; a
+-- refusal hands back the state and writes nothing; else an order stands at the front of the slice, which lifts all
+-- units, and read from unit 0 on it is the least of all that do.
 use mathlib.Core.Path.{_≡_}
 use mathlib.Core.Logic.{_↔_}
 use mathlib.Core.List.{List, [], _∷_, _++_}

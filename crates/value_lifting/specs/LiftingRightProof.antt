@@ -40,7 +40,8 @@ module _ (p out : List ℕ) (s : State) where
       let d = passed-test (badPairs (units s) p) 19 _ (omega arith) (c .1) in
       let f = passed-test (noOrder (units s) (words s) p) 20 _ (omega arith) (d .1) in
       let r = order-right s p (kept-exact s .0 (not-false (wellFormed s) (a .0))) (d .0) in
-      let long : length (orderOf (units s) (words s) p) ≡ units s = eqb-true (length (orderOf (units s) (words s) p)) (units s) (not-false _ (f .0)) in
+      let long : length (orderOf (units s) (words s) p) ≡ units s =
+      eqb-true (length (orderOf (units s) (words s) p)) (units s) (not-false _ (f .0)) in
       record {
         order = orderOf (units s) (words s) p;
         lifts = r .lifts (f .0);
@@ -53,8 +54,14 @@ pub lifting-call : LiftingCall
 unfolding liftingAnswer lifted
 lifting-call p out s =
     record {
-      cause = λ k h. rw (same-number p out s, lifting-tests p (length out) s) (first-cause (liftingReasons p (length out) s) k h);
-      refused = rw (same-number p out s, lifting-tests p (length out) s) (some-cause (liftingReasons p (length out) s) (omega arith));
+      cause = λ k h. rw (
+        same-number p out s,
+        lifting-tests p (length out) s,
+      ) (first-cause (liftingReasons p (length out) s) k h);
+      refused = rw (
+        same-number p out s,
+        lifting-tests p (length out) s,
+      ) (some-cause (liftingReasons p (length out) s) (omega arith));
       state = refl;
       unwritten = λ h. rw (ne-eqb (refusal p out s) 0 (λ e. h (same-number p out s ∙ e))) refl;
       values = λ e. rw (eq-eqb (refusal p out s) 0 (sym (same-number p out s) ∙ e)) refl;

@@ -44,8 +44,8 @@ fn early_refusal(s: Survey) -> u8
     0
 }
 
-// The order at the front of `out`, the unit to be lifted first in front: 10, 12, 14, 19, 20. Words past it stay. `pairs` has two units a pair, "this
-// before that".
+// The order at the front of `out`, the unit to be lifted first in front: 10, 12, 14, 19, 20. Words past it stay.
+// `pairs` has two units a pair, "this before that".
 pub fn lift<'a>(survey: Survey, pairs: &'a [u16], out: &mut [u16]) -> Answer
     ensures reply { λ r. ⌜ answerOf r ≡ liftingAnswer (now (pairs .entry)) (length (now (out .entry))) (of survey) ⌝ }
     ensures lent { λ _. ⌜ now (out .exit) ≡ lifted (now (pairs .entry)) (of survey) (now (out .entry)) ⌝ }

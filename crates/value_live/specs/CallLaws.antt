@@ -12,15 +12,18 @@ use Rattle.table_levels.specs.Level.{inRange}
 use Rattle.table.specs.Refusals.{firstOf}
 use Rattle.table.specs.RefusalLaws.{first-some, first-none, passed-test}
 use Rattle.live_table.specs.Live.{Live, held, placeOf}
-use Rattle.live_table.specs.LiveCalls.{Answer, answered, givenTests, linkTests, pairTests, givenRefusal, addRefusal, withdrawRefusal}
+use Rattle.live_table.specs.LiveCalls.{Answer, answered, givenTests, linkTests, pairTests, givenRefusal, addRefusal}
+use Rattle.live_table.specs.LiveCalls.{withdrawRefusal}
 use Rattle.live_table.specs.GivenLaws.{held-links, given-links}
 use Rattle.live_table.specs.PlaceLaws.{place-found}
 
 -- r is the number that came up
-pub answer-refused : (k r : ℕ) (given after : Live) → r ≡ k → (r ≡ 0 → ⊥) → _≡_ {A = Answer} (record { live = given; number = r }) (answered k given after)
+pub answer-refused : (k r : ℕ) (given after : Live) → r ≡ k → (r ≡ 0 → ⊥) →
+    _≡_ {A = Answer} (record { live = given; number = r }) (answered k given after)
 answer-refused k r given after e h = rw (sym e, ne-eqb r 0 h) refl
 
-pub answer-made : (k r : ℕ) (given after : Live) → r ≡ k → r ≡ 0 → _≡_ {A = Answer} (record { live = after; number = r }) (answered k given after)
+pub answer-made : (k r : ℕ) (given after : Live) → r ≡ k → r ≡ 0 →
+    _≡_ {A = Answer} (record { live = after; number = r }) (answered k given after)
 answer-made k r given after e z = rw (sym e, eq-eqb r 0 z) refl
 
 module _ (l : Live) where
@@ -34,10 +37,12 @@ module _ (l : Live) where
   withdraw-early a b k e h = e ∙ sym (first-some (givenTests l) (pairTests a b (held l)) (λ z. h (e ∙ z)))
 
   -- it passes, and its arrays are full
-  module _ (full : length (l .ends) ≡ 2048) (heard : length (l .levels) ≡ 1024) (passed : givenRefusal l ≡ 0) (a b j : ℕ) (place : j ≡ placeOf a b (held l .words)) where
+  module _ (full : length (l .ends) ≡ 2048) (heard : length (l .levels) ≡ 1024) (passed : givenRefusal l ≡ 0)
+      (a b j : ℕ) (place : j ≡ placeOf a b (held l .words)) where
     -- of the link
     pub add-late : (level : ℤ) (k : ℕ)
-        → k ≡ firstOf ((6, leb 1024 (l .links)) ∷ (16, not (inRange level)) ∷ (7, leb (l .units) a || leb (l .units) b) ∷ (8, eqb a b) ∷ (9, ltb j (l .links)) ∷ [])
+        → k ≡ firstOf ((6, leb 1024 (l .links)) ∷ (16, not (inRange level)) ∷ (7, leb (l .units) a || leb (l .units) b)
+        ∷ (8, eqb a b) ∷ (9, ltb j (l .links)) ∷ [])
         → k ≡ addRefusal a b level l
     unfolding givenRefusal addRefusal
     add-late level k e =
@@ -45,14 +50,17 @@ module _ (l : Live) where
         ∙ rw (place-found a b (held l .words), held-links l full heard (given-links l passed), place) refl)
 
     -- of the two units
-    pub withdraw-late : (k : ℕ) → k ≡ firstOf ((7, leb (l .units) a || leb (l .units) b) ∷ (8, eqb a b) ∷ (21, not (ltb j (l .links))) ∷ []) → k ≡ withdrawRefusal a b l
+    pub withdraw-late : (k : ℕ) → k ≡ firstOf
+        ((7, leb (l .units) a || leb (l .units) b) ∷ (8, eqb a b) ∷ (21, not (ltb j (l .links))) ∷ []) →
+        k ≡ withdrawRefusal a b l
     unfolding givenRefusal withdrawRefusal
     withdraw-late k e =
         e ∙ sym (first-none (givenTests l) (pairTests a b (held l)) (omega arith) passed
         ∙ rw (place-found a b (held l .words), held-links l full heard (given-links l passed), place) refl)
 
 -- a link that passes has its place
-pub link-few : (m k : ℕ) (b c d e : Bool) → k ≡ firstOf ((6, leb 1024 m) ∷ (16, b) ∷ (7, c) ∷ (8, d) ∷ (9, e) ∷ []) → k ≡ 0 → m < 1024
+pub link-few : (m k : ℕ) (b c d e : Bool) → k ≡ firstOf ((6, leb 1024 m) ∷ (16, b) ∷ (7, c) ∷ (8, d) ∷ (9, e) ∷ []) →
+    k ≡ 0 → m < 1024
 link-few m k b c d e is z = leb-false 1024 m (passed-test (leb 1024 m) 6 _ (omega arith) (sym is ∙ z) .0)
 
 -- two units that pass have their link

@@ -17,10 +17,12 @@ use Rattle.live_table.specs.WithoutLaws.{length-without, without-before, withou
 
 -- ---- one more
 
-pub more-levels : {A : Type 0} (l : List A) (m : ℕ) (x : A) → m < length l → take (m + 1) (set l m x) ≡ take m l ++ x ∷ []
+pub more-levels : {A : Type 0} (l : List A) (m : ℕ) (x : A) → m < length l →
+    take (m + 1) (set l m x) ≡ take m l ++ x ∷ []
 more-levels l m x h = rw (add-one m) (take-suc-set l m x h)
 
-pub more-words : (l : List ℕ) (m a b : ℕ) → m + 1 < length l → take (m + 2) (set (set l m a) (m + 1) b) ≡ take m l ++ a ∷ b ∷ []
+pub more-words : (l : List ℕ) (m a b : ℕ) → m + 1 < length l →
+    take (m + 2) (set (set l m a) (m + 1) b) ≡ take m l ++ a ∷ b ∷ []
 more-words l m a b h =
     let e : m + 2 ≡ m + 1 + 1 = omega arith in
     rw e
@@ -32,7 +34,8 @@ more-words l m a b h =
 
 module _ {A : Type 0} (at k : ℕ) (l : List A) where
   pub close-start : at ≤ length l → l ≡ take at (without at k l) ++ drop at l
-  close-start h = sym (ap (λ (x : List A). x ++ drop at l) (take-at (take at l) (drop (at + k) l) at (length-take-le at l h)) ∙ take-append-drop at l)
+  close-start h = sym (ap (λ (x : List A). x ++ drop at l)
+      (take-at (take at l) (drop (at + k) l) at (length-take-le at l h)) ∙ take-append-drop at l)
 
   pub close-next : (i : ℕ) (d : A) → at ≤ i → i + k < length l
       → set (take i (without at k l) ++ drop i l) i (getD l (i + k) d) ≡ take (i + 1) (without at k l) ++ drop (i + 1) l
@@ -41,10 +44,12 @@ module _ {A : Type 0} (at k : ℕ) (l : List A) where
       ap (λ (x : A). set (take i (without at k l) ++ drop i l) i x) (sym (without-after at k l (omega arith) i d b))
       ∙ copy-one (without at k l) l i d (omega (arith, long)) (omega (arith, long))
 
-  front : (count : ℕ) → A → at + k ≤ count → count ≤ length l → take (count - k) (without at k l) ≡ without at k (take count l)
+  front : (count : ℕ) → A → at + k ≤ count → count ≤ length l →
+      take (count - k) (without at k l) ≡ without at k (take count l)
   front count d b h =
       ext-getD d (take (count - k) (without at k l)) (without at k (take count l)) (few ∙ sym fewer)
-      (λ (i : ℕ) (c : i < length (take (count - k) (without at k l))). let f : i < count - k = omega (arith, few) in getD-take (count - k) (without at k l) i d f ∙ same i f (decLt i at))
+      (λ (i : ℕ) (c : i < length (take (count - k) (without at k l))). let f : i
+      < count - k = omega (arith, few) in getD-take (count - k) (without at k l) i d f ∙ same i f (decLt i at))
     where
       part : length (take count l) ≡ count
       part = length-take-le count l h
@@ -61,14 +66,16 @@ module _ {A : Type 0} (at k : ℕ) (l : List A) where
           ∙ sym (without-before at k (take count l) (omega (arith, part)) i d c ∙ getD-take count l i d (omega arith))
       same i f (no c) =
           without-after at k l (omega arith) i d (omega arith)
-          ∙ sym (without-after at k (take count l) (omega (arith, part)) i d (omega arith) ∙ getD-take count l (i + k) d (omega arith))
+          ∙ sym (without-after at k (take count l) (omega (arith, part)) i d (omega arith)
+          ∙ getD-take count l (i + k) d (omega arith))
 
   pub close-end : (i count : ℕ) → A → i + k ≡ count → at + k ≤ count → count ≤ length l
       → take (count - k) (take i (without at k l) ++ drop i l) ≡ without at k (take count l)
   close-end i count d e b h =
       let long = length-without at k l (omega arith) in
       let same : i ≡ count - k = omega arith in
-      take-at (take i (without at k l)) (drop i l) (count - k) (length-take-le i (without at k l) (omega (arith, long)) ∙ same)
+      take-at (take i (without at k l)) (drop i l) (count - k) (length-take-le i (without at k l) (omega (arith, long))
+      ∙ same)
       ∙ ap (λ (x : ℕ). take x (without at k l)) same
       ∙ front count d b h
 
@@ -76,8 +83,15 @@ module _ {A : Type 0} (at k : ℕ) (l : List A) where
 
 -- a table as a load lays it down, and its counts
 pub made-of : (n : ℕ) (t : List ℕ) (ls : List ℤ) (table : Table) (counts : List ℕ) → length t ≤ 2048 → length ls ≤ 1024
-    → table ≡ tableOf (record { units = n; words = take 2048 t; levels = take 1024 ls }) → counts ≡ countsTo (table .links) t
-    → _≡_ {A = Live} (record { units = table .units; links = table .links; ends = table .ends; levels = table .levels; counts = counts }) (liveOf (record { units = n; words = t; levels = ls }))
+    → table ≡ tableOf (record { units = n; words = take 2048 t; levels = take 1024 ls }) →
+    counts ≡ countsTo (table .links) t
+    → _≡_ {A = Live} (record {
+      units = table .units;
+      links = table .links;
+      ends = table .ends;
+      levels = table .levels;
+      counts = counts;
+    }) (liveOf (record { units = n; words = t; levels = ls }))
 unfolding liveOf
 made-of n t ls table counts a b e f = rw (f, e, take-all 2048 t a, take-all 1024 ls b) refl
 

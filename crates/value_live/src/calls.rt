@@ -10,7 +10,8 @@ ghost use Rattle.value_live.specs.View.{of, answerOf};
 impl Live {
     // From load's tables: 4, 5, 6, 15, 16, 7, 8, 9. On a refusal the table has no unit.
     pub fn opened(units: u16, words: &[u16], levels: &[i16]) -> Answer
-        ensures { λ r. ⌜ answerOf r ≡ openAnswer (record { units = units; words = now (words .entry); levels = now (levels .entry) }) ⌝ }
+        ensures { λ r. ⌜ answerOf r ≡ openAnswer
+            (record { units = units; words = now (words .entry); levels = now (levels .entry) }) ⌝ }
     {
         let number = table::refusal(false, units, words, levels);
         if number != 0 {

@@ -12,7 +12,11 @@ ghost use Rattle.value_live.specs.View.{of};
 // Ends past the links absent, levels past them 0, each number the count.
 pub(crate) fn made(count: u16, words: &[u16], heard: &[i16]) -> Live
     requires { ⌜ (length (now words) ≤ 2048) × (length (now heard) ≤ 1024) ⌝ }
-    ensures { λ r. ⌜ of r ≡ liveOf (record { units = count; words = now (words .entry); levels = now (heard .entry) }) ⌝ }
+    ensures { λ r. ⌜ of r ≡ liveOf (record {
+      units = count;
+      words = now (words .entry);
+      levels = now (heard .entry);
+    }) ⌝ }
 {
     let Table {
         units,

@@ -20,7 +20,13 @@ pub(crate) fn refusal<'a>(
     counts: &'a [u16],
 ) -> u8
     requires { ⌜ (length (now ends) ≡ 2048) × (length (now levels) ≡ 1024) ⌝ }
-    ensures { λ r. ⌜ r ≡ givenRefusal (record { units = units; links = links; ends = now (ends .entry); levels = now (levels .entry); counts = now (counts .entry) }) ⌝ }
+    ensures { λ r. ⌜ r ≡ givenRefusal (record {
+      units = units;
+      links = links;
+      ends = now (ends .entry);
+      levels = now (levels .entry);
+      counts = now (counts .entry);
+    }) ⌝ }
 {
     if units == 0 {
         return 4;
@@ -66,7 +72,8 @@ pub(crate) fn place_in(links: u16, ends: &[u16], a: u16, b: u16) -> usize
 
 // Of a link to be added, by whether one joins its units already: 6, 16, 7, 8, 9.
 pub(crate) fn link_refusal(units: u16, links: u16, a: u16, b: u16, level: i16, joined: bool) -> u8
-    ensures { λ r. ⌜ r ≡ firstOf ((6, leb 1024 links) ∷ (16, not (inRange level)) ∷ (7, leb units a || leb units b) ∷ (8, eqb a b) ∷ (9, joined) ∷ []) ⌝ }
+    ensures { λ r. ⌜ r ≡ firstOf ((6, leb 1024 links) ∷ (16, not (inRange level)) ∷ (7, leb units a || leb units b)
+        ∷ (8, eqb a b) ∷ (9, joined) ∷ []) ⌝ }
 {
     if 1024 <= links {
         return 6;

@@ -7,7 +7,8 @@ use native.Mathlib.Omega.{arith}
 use lib.ListN.{length, getD, set, drop, drop-of-length-le}
 use lib.Seq.{sets}
 
-stored-next : (l ws : List ℕ) (i k : ℕ) → k < length ws → sets l i (drop k ws) ≡ sets (set l i (getD ws k 0)) (suc i) (drop (suc k) ws)
+stored-next : (l ws : List ℕ) (i k : ℕ) → k < length ws →
+    sets l i (drop k ws) ≡ sets (set l i (getD ws k 0)) (suc i) (drop (suc k) ws)
 stored-next l [] i k h = absurd (not-suc-le-zero h)
 stored-next l (w ∷ ws) i zero h = refl
 stored-next l (w ∷ ws) i (suc k) h = stored-next l ws i k (omega arith)

@@ -14,7 +14,8 @@ use Rattle.value_player.specs.Words.{callOf, outAfter, encoded, PlayedWo
 -- the answer to the call whose words are k, a and b, and all that is left after it
 abbrev pub afterCall : List ℕ → ℕ → ℕ → ℕ → ℕ → State → List ℕ → List ℕ → PlayedWords
 afterCall ws i k a b s replies out =
-    playWords ws (i + 1) (answerTo (callOf k a b out) s .state) (sets replies (8 * i) (encoded (answerTo (callOf k a b out) s .reply))) (outAfter k a b out s)
+    playWords ws (i + 1) (answerTo (callOf k a b out) s .state)
+    (sets replies (8 * i) (encoded (answerTo (callOf k a b out) s .reply))) (outAfter k a b out s)
 
 first-call : (ws : List ℕ) (i : ℕ) (s : State) (replies out : List ℕ) → 3 ≤ length ws
     → playWords ws i s replies out ≡ afterCall (drop 3 ws) i (getD ws 0 0) (getD ws 1 0) (getD ws 2 0) s replies out
@@ -27,16 +28,26 @@ first-call (k ∷ a ∷ b ∷ ws) i s replies out l = refl
 -- call number i
 pub next-call : (ws : List ℕ) (i : ℕ) (s : State) (replies out : List ℕ) → 3 * i + 3 ≤ length ws
     → playWords (drop (3 * i) ws) i s replies out
-    ≡ afterCall (drop (3 * (i + 1)) ws) i (getD ws (3 * i) 0) (getD ws (3 * i + 1) 0) (getD ws (3 * i + 2) 0) s replies out
+    ≡ afterCall (drop (3 * (i + 1)) ws) i (getD ws (3 * i) 0) (getD ws (3 * i + 1) 0)
+    (getD ws (3 * i + 2) 0) s replies out
 next-call ws i s replies out l =
     let here : 3 ≤ length (drop (3 * i) ws) = omega (arith, length-drop (3 * i) ws) in
     let sum : 3 * i + 3 ≡ 3 * (i + 1) = omega arith in
-    let rest : drop 3 (drop (3 * i) ws) ≡ drop (3 * (i + 1)) ws = rw (drop-drop 3 (3 * i) ws) (ap (λ (k : ℕ). drop k ws) sum) in
-    let kind : getD (drop (3 * i) ws) 0 0 ≡ getD ws (3 * i) 0 = rw (getD-drop (3 * i) ws 0 0) (ap (λ (k : ℕ). getD ws k 0) (add-zero (3 * i))) in
-    rw (first-call (drop (3 * i) ws) i s replies out here, rest, kind, getD-drop (3 * i) ws 1 0, getD-drop (3 * i) ws 2 0) refl
+    let rest : drop 3 (drop (3 * i) ws) ≡ drop (3 * (i + 1)) ws =
+    rw (drop-drop 3 (3 * i) ws) (ap (λ (k : ℕ). drop k ws) sum) in
+    let kind : getD (drop (3 * i) ws) 0 0 ≡ getD ws (3 * i) 0 =
+    rw (getD-drop (3 * i) ws 0 0) (ap (λ (k : ℕ). getD ws k 0) (add-zero (3 * i))) in
+    rw (
+      first-call (drop (3 * i) ws) i s replies out here,
+      rest,
+      kind,
+      getD-drop (3 * i) ws 1 0,
+      getD-drop (3 * i) ws 2 0,
+    ) refl
 
 -- the words read, the answer to their call, the reply stored and the slice written are what is left after the call
-pub call-made : (ws : List ℕ) (i k a b : ℕ) (s : State) (replies out : List ℕ) (k′ a′ b′ : ℕ) (answer : Answer) (replies′ out′ : List ℕ)
+pub call-made : (ws : List ℕ) (i k a b : ℕ) (s : State) (replies out : List ℕ) (k′ a′ b′ : ℕ) (answer : Answer)
+    (replies′ out′ : List ℕ)
     → k′ ≡ k
     → a′ ≡ a
     → b′ ≡ b

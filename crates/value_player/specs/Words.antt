@@ -1,5 +1,5 @@
--- A list of calls given as words, three a call: its kind and two numbers. The replies go to a lent table, eight words a reply, and the reports to
--- parts of one lent slice of bytes.
+-- A list of calls given as words, three a call: its kind and two numbers. The replies go to a lent table, eight words a
+-- reply, and the reports to parts of one lent slice of bytes.
 use mathlib.Core.Bool.{Bool, cond}
 use mathlib.Core.List.{List, [], _∷_, _++_}
 use Prim.Native.Nat.{ℕ, _+_, _*_, _-_, _/_, _%_, min}
@@ -29,7 +29,8 @@ part start places out = take (partTo start places out - partFrom start out) (dro
 abbrev pub callOf : ℕ → ℕ → ℕ → List ℕ → Call
 callOf kind a b out =
     cond (eqb kind 1) round
-    (cond (eqb kind 2) (run a) (cond (eqb kind 4) (unit a) (cond (eqb kind 5) (link a) (cond (eqb kind 6) (report (part a b out)) status))))
+    (cond (eqb kind 2) (run a) (cond (eqb kind 4) (unit a)
+    (cond (eqb kind 5) (link a) (cond (eqb kind 6) (report (part a b out)) status))))
 
 -- the slice after the call: a report's part replaced, else as it was
 abbrev pub outAfter : ℕ → ℕ → ℕ → List ℕ → State → List ℕ
@@ -63,11 +64,13 @@ playWords [] i s replies out = record { last = s; replies = replies; out = out }
 playWords (k ∷ []) i s replies out = record { last = s; replies = replies; out = out }
 playWords (k ∷ a ∷ []) i s replies out = record { last = s; replies = replies; out = out }
 playWords (k ∷ a ∷ b ∷ ws) i s replies out =
-    playWords ws (i + 1) (answerTo (callOf k a b out) s .state) (sets replies (8 * i) (encoded (answerTo (callOf k a b out) s .reply))) (outAfter k a b out s)
+    playWords ws (i + 1) (answerTo (callOf k a b out) s .state)
+    (sets replies (8 * i) (encoded (answerTo (callOf k a b out) s .reply))) (outAfter k a b out s)
 
 -- the calls that the words make
 unfoldable pub callsIn : List ℕ → State → List ℕ → List Call
 callsIn [] s out = []
 callsIn (k ∷ []) s out = []
 callsIn (k ∷ a ∷ []) s out = []
-callsIn (k ∷ a ∷ b ∷ ws) s out = callOf k a b out ∷ callsIn ws (answerTo (callOf k a b out) s .state) (outAfter k a b out s)
+callsIn (k ∷ a ∷ b ∷ ws) s out = callOf k a b out
+    ∷ callsIn ws (answerTo (callOf k a b out) s .state) (outAfter k a b out s)

@@ -28,7 +28,10 @@ pub(crate) fn call(s: Survey, kind: u16, a: u16, b: u16, out: &mut [u8]) -> Answ
 // A report into so many places from a start on, as far as there are any.
 fn report_into(s: Survey, start: u16, places: u16, out: &mut [u8]) -> Answer
     ensures answer { λ r. ⌜ answerOf r ≡ reportAnswer (length (part start places (now (out .entry)))) (of s) ⌝ }
-    ensures bytes { λ _. ⌜ now (out .exit) ≡ take (partFrom start (now (out .entry))) (now (out .entry)) ++ (reported (of s) (part start places (now (out .entry))) ++ drop (partTo start places (now (out .entry))) (now (out .entry))) ⌝ }
+    ensures bytes { λ _. ⌜ now (out .exit)
+        ≡ take (partFrom start (now (out .entry))) (now (out .entry))
+        ++ (reported (of s) (part start places (now (out .entry)))
+        ++ drop (partTo start places (now (out .entry))) (now (out .entry))) ⌝ }
 {
     let from = least(start as usize, out.len());
     let to = least(from + (places as usize), out.len());

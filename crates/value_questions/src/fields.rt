@@ -7,7 +7,8 @@ use survey::Survey;
 
 // The fields of unit `v`'s line.
 pub(crate) fn unit_reply(s: Survey, v: u16) -> Reply
-    ensures { λ r. ⌜ r ≡ Reply.Unit v (unitColor (of s) v) (unitParent (of s) v) (unitPlace (of s) v) (unitSingle (of s) v) ⌝ }
+    ensures { λ r. ⌜ r ≡ Reply.Unit v (unitColor (of s) v) (unitParent (of s) v) (unitPlace (of s) v)
+        (unitSingle (of s) v) ⌝ }
 {
     let i = v as usize;
     Reply::Unit {

@@ -1,4 +1,5 @@
-// From the bytes of a survey file to the bytes of its report, by the calls by value: all that the program does between reading and printing.
+// From the bytes of a survey file to the bytes of its report, by the calls by value: all that the program does between
+// reading and printing.
 use survey::Reply;
 use survey::Survey;
 ghost use mathlib.Core.Path.{_≡_};
@@ -7,7 +8,8 @@ ghost use lib.ListN.{length};
 ghost use Rattle.spec_machine.specs.Calls.{numberOf};
 ghost use Rattle.report_program.specs.Printed.{countOf, printedRead, printed, laidOver, laidCount};
 
-// Prints over the front of `out` and gives the number of bytes: the report, or only a refusal's line; where `out` is too short, nothing and 0.
+// Prints over the front of `out` and gives the number of bytes: the report, or only a refusal's line; where `out` is
+// too short, nothing and 0.
 pub fn report(input: &[u8], out: &mut [u8]) -> u32
     ensures count { λ r. ⌜ r ≡ laidCount (printed (now (input .entry))) (length (now (out .entry))) ⌝ }
     ensures bytes { λ _. ⌜ now (out .exit) ≡ laidOver (printed (now (input .entry))) (now (out .entry)) ⌝ }
@@ -29,8 +31,15 @@ pub fn report(input: &[u8], out: &mut [u8]) -> u32
 
 // A table loaded as a stored one, surveyed to the end and reported, unless reading was refused.
 fn surveyed(unread: u8, units: u16, table: &[u16], levels: &[i16], out: &mut [u8]) -> u32
-    ensures count { λ r. ⌜ r ≡ laidCount (printedRead unread (record { units = units; words = now (table .entry); levels = now (levels .entry) })) (length (now (out .entry))) ⌝ }
-    ensures bytes { λ _. ⌜ now (out .exit) ≡ laidOver (printedRead unread (record { units = units; words = now (table .entry); levels = now (levels .entry) })) (now (out .entry)) ⌝ }
+    ensures count { λ r. ⌜ r ≡ laidCount
+        (printedRead unread (record { units = units; words = now (table .entry); levels = now (levels .entry) }))
+        (length (now (out .entry))) ⌝ }
+    ensures bytes { λ _. ⌜ now (out .exit)
+        ≡ laidOver (printedRead unread (record {
+          units = units;
+          words = now (table .entry);
+          levels = now (levels .entry);
+        })) (now (out .entry)) ⌝ }
 {
     if unread != 0 {
         return report_program::refusal(unread, out);

@@ -1,4 +1,5 @@
--- The call that shows a ring (T-04), on a state, two positions and a lent slice: its reply, and why it is refused. It reads the links, never the labels.
+-- The call that shows a ring (T-04), on a state, two positions and a lent slice: its reply, and why it is refused. It
+-- reads the links, never the labels.
 use mathlib.Core.Bool.{not}
 use mathlib.Core.List.{List, [], _∷_}
 use Prim.Native.Nat.{ℕ}
@@ -45,4 +46,5 @@ shownRefusal i j places s =
 
 -- the causes, in the same order
 abbrev pub shownReasons : ℕ → ℕ → ℕ → State → List Reason
-shownReasons i j places s = notKept s ∷ beforeEnd s ∷ missing i (links s) ∷ missing j (links s) ∷ tooShort places (units s) ∷ []
+shownReasons i j places s = notKept s ∷ beforeEnd s ∷ missing i (links s) ∷ missing j (links s)
+    ∷ tooShort places (units s) ∷ []

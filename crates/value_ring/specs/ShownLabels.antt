@@ -1,5 +1,5 @@
--- T-04 and demand 3 agree: after a load and enough rounds, however they were asked for, "no ring" is the reply exactly where the labels of the two links
--- differ, or, for one position twice, where the link is lone.
+-- T-04 and demand 3 agree: after a load and enough rounds, however they were asked for, "no ring" is the reply exactly
+-- where the labels of the two links differ, or, for one position twice, where the link is lone.
 use mathlib.Core.Path.{_≡_}
 use mathlib.Core.Bool.{true}
 use mathlib.Core.Logic.{_↔_}
@@ -23,5 +23,6 @@ pub record Agrees (e : State) (i j : ℕ) (reply : Shown) : Type 0 where
 abbrev pub ShownAfterLoad : Type 0
 ShownAfterLoad =
     (input : Input) (s : State) → Loaded input s → (calls : List Call) → countdown s ≤ asked calls
-    → (i j : ℕ) (out : List ℕ) (answer : Answer) (new : List ℕ) → ShownRight i j (play calls s .last) out answer new → numberOf (answer .reply) ≡ 0
+    → (i j : ℕ) (out : List ℕ) (answer : Answer) (new : List ℕ) → ShownRight i j (play calls s .last) out answer new →
+    numberOf (answer .reply) ≡ 0
     → Agrees (play calls s .last) i j (answer .reply)

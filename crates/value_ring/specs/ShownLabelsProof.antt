@@ -32,14 +32,18 @@ code NoRing = 1
 code (Refused k) = 2
 
 -- "no ring" exactly where no ring holds both
-exact : (n m : ℕ) (ends : List ℕ) (i j : ℕ) (out : List ℕ) (reply : Shown) (new : List ℕ) → Told n m ends i j out reply new
+exact : (n m : ℕ) (ends : List ℕ) (i j : ℕ) (out : List ℕ) (reply : Shown) (new : List ℕ) →
+    Told n m ends i j out reply new
     → (reply ≡ NoRing) ↔ (OnRing (Link m ends) (endA ends i) (endB ends i) (endA ends j) (endB ends j) → ⊥)
 unfolding code
 exact n m ends i j out reply new (inl (e, none, w)) = (λ q. none, λ h. e)
-exact n m ends i j out reply new (inr (r, e, R, w)) =
-    (λ q. absurd (let x : 0 ≡ 1 = ap code (sym e ∙ q) in omega arith), λ h. absurd (h (r, R .ring, R .first, R .second)))
+exact n m ends i j out reply new (inr (r, e, R, w)) = (
+  λ q. absurd (let x : 0 ≡ 1 = ap code (sym e ∙ q) in omega arith),
+  λ h. absurd (h (r, R .ring, R .first, R .second)),
+)
 
-module _ (input : Input) (accepted : storedLoadRefusal input ≡ 0) (e : State) (same : e .table ≡ tableOf input) (S : SurveyRight input e) (i j : ℕ)
+module _ (input : Input) (accepted : storedLoadRefusal input ≡ 0) (e : State) (same : e .table ≡ tableOf input)
+    (S : SurveyRight input e) (i j : ℕ)
     (out : List ℕ) (reply : Shown) (new : List ℕ) (li : i < linksIn input) (lj : j < linksIn input)
     (told : Told (units e) (links e) (e .table .ends) i j out reply new) where
   abbrev m : ℕ
@@ -49,19 +53,34 @@ module _ (input : Input) (accepted : storedLoadRefusal input ≡ 0) (e : State) 
   words = input .words
 
   -- on the state's own table, in the words of the table that was loaded
-  exact-words : (reply ≡ NoRing) ↔ (OnRing (Link m words) (endA words i) (endB words i) (endA words j) (endB words j) → ⊥)
+  exact-words : (reply ≡ NoRing) ↔ (OnRing (Link m words) (endA words i) (endB words i) (endA words j) (endB words j) →
+      ⊥)
   exact-words =
       let x = exact (units e) (links e) (e .table .ends) i j out reply new told in
-      let y : (reply ≡ NoRing) ↔ (OnRing (Link m (endsOf words)) (endA words i) (endB words i) (endA words j) (endB words j) → ⊥) =
-      rw (same, end-a input accepted i li, end-b input accepted i li, end-a input accepted j lj, end-b input accepted j lj) at x in
-      let o = onRing-same (Link m (endsOf words)) (Link m words) (same-links input accepted) (endA words i) (endB words i) (endA words j) (endB words j) in
+      let y : (reply ≡ NoRing) ↔ (OnRing (Link m (endsOf words)) (endA words i) (endB words i) (endA words j)
+      (endB words j) → ⊥) =
+      rw (
+        same,
+        end-a input accepted i li,
+        end-b input accepted i li,
+        end-a input accepted j lj,
+        end-b input accepted j lj,
+      ) at x in
+      let o = onRing-same (Link m (endsOf words)) (Link m words) (same-links input accepted) (endA words i)
+      (endB words i) (endA words j) (endB words j) in
       (λ q h. y .0 q (o .1 h), λ h. y .1 (λ r. h (o .0 r)))
 
   agrees : Agrees e i j reply
   agrees =
       record {
-        two = λ d. let l = S .labels i j li lj d in (λ q h. exact-words .0 q (l .0 h), λ h. exact-words .1 (λ r. h (l .1 r)));
-        one = λ d. let l = S .lones i li in (λ q. l .1 (alone d (exact-words .0 q)), λ h. exact-words .1 (λ r. l .0 h (r .0) (r .1) (r .2)));
+        two = λ d. let l = S .labels i j li lj d in (
+          λ q h. exact-words .0 q (l .0 h),
+          λ h. exact-words .1 (λ r. h (l .1 r)),
+        );
+        one = λ d. let l = S .lones i li in (
+          λ q. l .1 (alone d (exact-words .0 q)),
+          λ h. exact-words .1 (λ r. l .0 h (r .0) (r .1) (r .2)),
+        );
       }
     where
       alone : i ≡ j → (OnRing (Link m words) (endA words i) (endB words i) (endA words j) (endB words j) → ⊥)

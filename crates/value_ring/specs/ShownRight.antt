@@ -1,6 +1,7 @@
--- What T-04 asks of the call that shows a ring, for any state, positions i and j and slice `out`: each number exactly for its cause; a refusal writes
--- nothing; "no ring" exactly where no ring of the site's links holds both, and it writes nothing; else a ring stands at the front of the slice, which holds
--- both links and starts with the two ends of the first. Which ring is the program's choice; this is what every choice has in common.
+-- What T-04 asks of the call that shows a ring, for any state, positions i and j and slice `out`: each number exactly
+-- for its cause; a refusal writes nothing; "no ring" exactly where no ring of the site's links holds both, and it
+-- writes nothing; else a ring stands at the front of the slice, which holds both links and starts with the two ends of
+-- the first. Which ring is the program's choice; this is what every choice has in common.
 use mathlib.Core.Path.{_≡_}
 use mathlib.Core.Logic.{_⊎_, _↔_}
 use mathlib.Core.List.{List, _∷_, _++_}
@@ -38,7 +39,8 @@ RingLaid n m ends i j out new r = Site n m ends → i < m → j < m → n ≤ le
 -- no ring exists, or one is written
 abbrev pub Told : ℕ → ℕ → List ℕ → ℕ → ℕ → List ℕ → Shown → List ℕ → Type 0
 Told n m ends i j out reply new =
-    ((reply ≡ NoRing) × (OnRing (Link m ends) (endA ends i) (endB ends i) (endA ends j) (endB ends j) → ⊥) × (new ≡ out))
+    ((reply ≡ NoRing) × (OnRing (Link m ends) (endA ends i) (endB ends i) (endA ends j) (endB ends j) → ⊥)
+    × (new ≡ out))
     ⊎ ((r : List ℕ) × (reply ≡ Replies.Ring (length r)) × RingThrough n m ends i j r × (new ≡ r ++ drop (length r) out))
 
 pub record ShownRight (i j : ℕ) (s : State) (out : List ℕ) (answer : Answer) (new : List ℕ) : Type 0 where

@@ -31,10 +31,12 @@ use Rattle.value_ring.specs.ShownRight.{RingThrough, Laid, RingLaid, Tol
 -- ---- rings of the links that count, where all do
 
 ring-map : (E F : ℕ → ℕ → Type 0) → ((u v : ℕ) → E u v → F u v) → (r : List ℕ) → Ring E r → Ring F r
-ring-map E F f r R = closed-ring r (R .three) (R .different) (walk-map E F (lastOf r) r (λ u v q e. f u v e) (ring-closed R))
+ring-map E F f r R = closed-ring r (R .three) (R .different)
+    (walk-map E F (lastOf r) r (λ u v q e. f u v e) (ring-closed R))
 
 -- the front of a table over a slice
-front-over : (r : ℕ) (t out : List ℕ) → r ≤ length t → r ≤ length out → over r (λ (i : ℕ). getD t i 0) out ≡ take r t ++ drop r out
+front-over : (r : ℕ) (t out : List ℕ) → r ≤ length t → r ≤ length out →
+    over r (λ (i : ℕ). getD t i 0) out ≡ take r t ++ drop r out
 front-over zero t out h g = refl
 front-over (suc r) [] out h g = absurd (omega arith)
 front-over (suc r) (x ∷ t) [] h g = absurd (omega arith)
@@ -51,7 +53,8 @@ over-past r ring out new e = ap (λ (l : List ℕ). drop r l) e ∙ go r (λ (k 
     go (suc r) f [] = refl
     go (suc r) f (x ∷ out) = go r (λ (k : ℕ). f (suc k)) out
 
-module _ (n m : ℕ) (ends : List ℕ) (i j : ℕ) (out marks ring₀ ring : List ℕ) (r : ℕ) (all : (k : ℕ) → getD marks k 0 ≡ 0) (long : length ring₀ ≡ 256)
+module _ (n m : ℕ) (ends : List ℕ) (i j : ℕ) (out marks ring₀ ring : List ℕ) (r : ℕ) (all : (k : ℕ) →
+    getD marks k 0 ≡ 0) (long : length ring₀ ≡ 256)
     (T : RingTold (sure marks) n m ends i j ring₀ ring r) where
   link : (u v : ℕ) → Present (sure marks) m ends u v → Link m ends u v
   link u v (k, l, o, q) = (k, l, q)
@@ -62,17 +65,30 @@ module _ (n m : ℕ) (ends : List ℕ) (i j : ℕ) (out marks ring₀ ring : Lis
   pub ring-laid : (new : List ℕ) → new ≡ over r (λ (k : ℕ). getD ring k 0) out → RingLaid n m ends i j out new r
   ring-laid new w site hi hj room = go (T site hi hj long)
     where
-      go : ((r ≡ 0) × (Ringed (sure marks) m ends i j → ⊥)) ⊎ (Shows (sure marks) m ends i j (take r ring) × (r ≡ length (take r ring)))
+      go : ((r ≡ 0) × (Ringed (sure marks) m ends i j → ⊥))
+          ⊎ (Shows (sure marks) m ends i j (take r ring) × (r ≡ length (take r ring)))
           → Laid n m ends i j out new r
-      go (inl (z, h)) = inl
-          (z, λ o. h (onRing-more (Link m ends) (Present (sure marks) m ends) present (endA ends i) (endB ends i) (endA ends j) (endB ends j) o), w ∙ ap (λ (k : ℕ). over k (λ (v : ℕ). getD ring v 0) out) z)
+      go (inl (z, h)) = inl (
+        z,
+        λ o. h (onRing-more (Link m ends) (Present (sure marks) m ends) present (endA ends i) (endB ends i)
+            (endA ends j) (endB ends j) o),
+        w ∙ ap (λ (k : ℕ). over k (λ (v : ℕ). getD ring v 0) out) z,
+      )
       go (inr (S, q)) =
           let short : length (take r ring) ≤ n = shows-short site S in
           inr (
             take r ring,
             q,
-            record { ring = ring-map (Present (sure marks) m ends) (Link m ends) link (take r ring) (S .ring); rest = S .rest; starts = S .starts; first = S .first; second = S .second; few = short },
-            w ∙ front-over r ring out (omega (arith, q, length-take r ring)) (omega (arith, q, short, room)) ∙ ap (λ (k : ℕ). take r ring ++ drop k out) q,
+            record {
+              ring = ring-map (Present (sure marks) m ends) (Link m ends) link (take r ring) (S .ring);
+              rest = S .rest;
+              starts = S .starts;
+              first = S .first;
+              second = S .second;
+              few = short;
+            },
+            w ∙ front-over r ring out (omega (arith, q, length-take r ring)) (omega (arith, q, short, room))
+                ∙ ap (λ (k : ℕ). take r ring ++ drop k out) q,
           )
 
 -- ---- the call
@@ -81,8 +97,10 @@ module _ (i j : ℕ) (s : State) (out : List ℕ) where
   abbrev refusal : ℕ
   refusal = shownRefusal i j (length out) s
 
-  right : (answer : Answer) (new : List ℕ) → numberOf (answer .reply) ≡ refusal → answer .state ≡ s → ((refusal ≡ 0 → ⊥) → new ≡ out)
-      → (refusal ≡ 0 → Told (units s) (links s) (s .table .ends) i j out (answer .reply) new) → ShownRight i j s out answer new
+  right : (answer : Answer) (new : List ℕ) → numberOf (answer .reply) ≡ refusal → answer .state ≡ s →
+      ((refusal ≡ 0 → ⊥) → new ≡ out)
+      → (refusal ≡ 0 → Told (units s) (links s) (s .table .ends) i j out (answer .reply) new) →
+      ShownRight i j s out answer new
   unfolding shownRefusal
   right answer new e same unwritten told =
       record {
@@ -93,7 +111,8 @@ module _ (i j : ℕ) (s : State) (out : List ℕ) where
         told = λ z. told (sym e ∙ z);
       }
 
-  pub shown-refused : (r : ℕ) → r ≡ refusal → (r ≡ 0 → ⊥) → ShownRight i j s out (record { state = s; reply = Refused r }) out
+  pub shown-refused : (r : ℕ) → r ≡ refusal → (r ≡ 0 → ⊥) →
+      ShownRight i j s out (record { state = s; reply = Refused r }) out
   shown-refused r e h = right (record { state = s; reply = Refused r }) out e refl (λ z. refl) (λ z. absurd (h (e ∙ z)))
 
   passed : refusal ≡ 0 → (wellFormed s ≡ true) × (i < links s) × (j < links s) × (units s ≤ length out)
@@ -102,7 +121,8 @@ module _ (i j : ℕ) (s : State) (out : List ℕ) where
       let p = two-passed (wellFormed s) (finished s) (links s) i j 14 (ltb (length out) (units s)) (omega arith) e in
       (p .0, p .1, p .2, ltb-false (length out) (units s) (p .3))
 
-  module _ (new : List ℕ) (r : ℕ) (e : refusal ≡ 0) (full : length (s .table .ends) ≡ 2048) (L : RingLaid (units s) (links s) (s .table .ends) i j out new r) where
+  module _ (new : List ℕ) (r : ℕ) (e : refusal ≡ 0) (full : length (s .table .ends) ≡ 2048)
+      (L : RingLaid (units s) (links s) (s .table .ends) i j out new r) where
     abbrev m : ℕ
     m = links s
 
@@ -113,17 +133,21 @@ module _ (i j : ℕ) (s : State) (out : List ℕ) where
     given = let P = passed e in L (kept-site s full (kept-exact s .0 (P .0))) (P .1) (P .2) (P .3)
 
     pub shown-none : r ≡ 0 → ShownRight i j s out (record { state = s; reply = NoRing }) new
-    shown-none z = right (record { state = s; reply = NoRing }) new (sym e) refl (λ h. absurd (h e)) (λ h. inl (none given))
+    shown-none z = right (record { state = s; reply = NoRing }) new (sym e) refl (λ h. absurd (h e))
+        (λ h. inl (none given))
       where
         none : Laid (units s) m ends i j out new r
-            → (NoRing ≡ NoRing) × (OnRing (Link m ends) (endA ends i) (endB ends i) (endA ends j) (endB ends j) → ⊥) × (new ≡ out)
+            → (NoRing ≡ NoRing) × (OnRing (Link m ends) (endA ends i) (endB ends i) (endA ends j) (endB ends j) → ⊥)
+            × (new ≡ out)
         none (inl (q, h, w)) = (refl, h, w)
         none (inr (l, q, R, w)) = absurd (omega (arith, R .ring .three))
 
     pub shown-ring : (r ≡ 0 → ⊥) → ShownRight i j s out (record { state = s; reply = Replies.Ring r }) new
-    shown-ring h = right (record { state = s; reply = Replies.Ring r }) new (sym e) refl (λ q. absurd (q e)) (λ q. inr (one given))
+    shown-ring h = right (record { state = s; reply = Replies.Ring r }) new (sym e) refl (λ q. absurd (q e))
+        (λ q. inr (one given))
       where
         one : Laid (units s) m ends i j out new r
-            → (l : List ℕ) × (Replies.Ring r ≡ Replies.Ring (length l)) × RingThrough (units s) m ends i j l × (new ≡ l ++ drop (length l) out)
+            → (l : List ℕ) × (Replies.Ring r ≡ Replies.Ring (length l)) × RingThrough (units s) m ends i j l
+            × (new ≡ l ++ drop (length l) out)
         one (inl (z, q, w)) = absurd (h z)
         one (inr (l, q, R, w)) = (l, ap Replies.Ring q, R, w)

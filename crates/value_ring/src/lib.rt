@@ -6,7 +6,8 @@ ghost use Rattle.value_ring.specs.Shown.{answerOf, numberOf};
 ghost use Rattle.value_ring.specs.ShownRight.{RingLaid, ShownRight};
 use survey::Survey;
 
-// What the call replies: the number of units of the ring that was written, that there is none, or the number of a refusal.
+// What the call replies: the number of units of the ring that was written, that there is none, or the number of a
+// refusal.
 pub enum Shown {
     Ring(u16),
     NoRing,
@@ -33,8 +34,8 @@ impl Answer {
     }
 }
 
-// The units of a ring of a site that holds both links at the front of `out`, the two ends of the first link before the others, and how many they are;
-// 0 where there is none. Words past so many stay, whatever the table is.
+// The units of a ring of a site that holds both links at the front of `out`, the two ends of the first link before the
+// others, and how many they are; 0 where there is none. Words past so many stay, whatever the table is.
 pub fn lay_ring<'a>(
     units: u16,
     links: u16,
@@ -43,7 +44,8 @@ pub fn lay_ring<'a>(
     second: u16,
     out: &mut [u16],
 ) -> u16
-    ensures laid { λ r. ⌜ RingLaid units links (now (ends .entry)) first second (now (out .entry)) (now (out .exit)) r ⌝ }
+    ensures laid { λ r. ⌜ RingLaid units links (now (ends .entry)) first second (now (out .entry))
+        (now (out .exit)) r ⌝ }
     ensures past { λ r. ⌜ drop r (now (out .exit)) ≡ drop r (now (out .entry)) ⌝ }
 {
     let marks = ring_tables::unmarked();

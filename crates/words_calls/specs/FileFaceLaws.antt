@@ -34,19 +34,23 @@ module _ (file : List ℕ) (places spaces : ℕ) where
   refusal = readRefusal (linesOf file) places spaces
 
   -- whichever of the two is asked for
-  said-by : (told : Reading → ℕ) (value old : ℕ) → told (Read (unitsIn (linesOf file)) (linkFrames (linesOf file))) ≡ value → told (Reading.Refused refusal) ≡ old
+  said-by : (told : Reading → ℕ) (value old : ℕ) →
+      told (Read (unitsIn (linesOf file)) (linkFrames (linesOf file))) ≡ value → told (Reading.Refused refusal) ≡ old
       → told (readReply file places spaces) ≡ wordSaid refusal value old
   unfolding readReply
   said-by told value old yes-is no-is = go (either (eqb refusal 0))
     where
-      go : (eqb refusal 0 ≡ true) ⊎ (eqb refusal 0 ≡ false) → told (readReply file places spaces) ≡ wordSaid refusal value old
+      go : (eqb refusal 0 ≡ true) ⊎ (eqb refusal 0 ≡ false) →
+          told (readReply file places spaces) ≡ wordSaid refusal value old
       go (inl e) = rw e yes-is
       go (inr e) = rw e no-is
 
-  pub units-said : (old : ℕ) → unitsSaid (readReply file places spaces) old ≡ wordSaid refusal (unitsIn (linesOf file)) old
+  pub units-said : (old : ℕ) → unitsSaid (readReply file places spaces) old
+      ≡ wordSaid refusal (unitsIn (linesOf file)) old
   units-said old = said-by (λ (r : Reading). unitsSaid r old) _ _ refl refl
 
-  pub links-said : (old : ℕ) → linksSaid (readReply file places spaces) old ≡ wordSaid refusal (linkFrames (linesOf file)) old
+  pub links-said : (old : ℕ) → linksSaid (readReply file places spaces) old
+      ≡ wordSaid refusal (linkFrames (linesOf file)) old
   links-said old = said-by (λ (r : Reading). linksSaid r old) _ _ refl refl
 
   -- ---- reading is every state's answer

@@ -1,12 +1,13 @@
-// The calls on a state in words that the caller lends (words_layout/specs/Layout.antt). A number that comes back is document 01's number of the refusal, 0 where
-// the call was not refused; on a refusal nothing lent is altered.
+// The calls on a state in words that the caller lends (words_layout/specs/Layout.antt). A number that comes back is
+// document 01's number of the refusal, 0 where the call was not refused; on a refusal nothing lent is altered.
 mod file_calls;
 mod questions;
 
 use words_layout::STATE_WORDS;
 ghost use mathlib.Core.Path.{_≡_};
 ghost use lib.ListN.{length};
-ghost use Rattle.spec_machine.specs.Calls.{numberOf, loadAnswer, storedLoadAnswer, plannedLoadAnswer, statusAnswer, unitAnswer, linkAnswer, reportAnswer, reported};
+ghost use Rattle.spec_machine.specs.Calls.{numberOf, loadAnswer, storedLoadAnswer, plannedLoadAnswer, statusAnswer};
+ghost use Rattle.spec_machine.specs.Calls.{unitAnswer, linkAnswer, reportAnswer, reported};
 ghost use Rattle.words_layout.specs.Layout.{stateOf};
 ghost use Rattle.words_calls.specs.Face.{said};
 pub use file_calls::read;
@@ -17,16 +18,24 @@ pub use words_run::run;
 
 // Load, of a fresh table: 4 to 6, 15, 16, 7 to 9, 22.
 pub fn load(state: &mut [u16; STATE_WORDS], units: u16, table: &[u16], levels: &[i16]) -> u32
-    ensures number { λ r. ⌜ r ≡ numberOf (loadAnswer (record { units = units; words = now (table .entry); levels = now (levels .entry) }) (stateOf (now (state .entry))) .reply) ⌝ }
-    ensures words { λ _. ⌜ stateOf (now (state .exit)) ≡ loadAnswer (record { units = units; words = now (table .entry); levels = now (levels .entry) }) (stateOf (now (state .entry))) .state ⌝ }
+    ensures number { λ r. ⌜ r ≡ numberOf
+        (loadAnswer (record { units = units; words = now (table .entry); levels = now (levels .entry) })
+        (stateOf (now (state .entry))) .reply) ⌝ }
+    ensures words { λ _. ⌜ stateOf (now (state .exit))
+        ≡ loadAnswer (record { units = units; words = now (table .entry); levels = now (levels .entry) })
+        (stateOf (now (state .entry))) .state ⌝ }
 {
     words_load::load(units, table, levels, state) as u32
 }
 
 // Load of a stored table: 4 to 6, 15, 16, 7 to 9.
 pub fn load_stored(state: &mut [u16; STATE_WORDS], units: u16, table: &[u16], levels: &[i16]) -> u32
-    ensures number { λ r. ⌜ r ≡ numberOf (storedLoadAnswer (record { units = units; words = now (table .entry); levels = now (levels .entry) }) (stateOf (now (state .entry))) .reply) ⌝ }
-    ensures words { λ _. ⌜ stateOf (now (state .exit)) ≡ storedLoadAnswer (record { units = units; words = now (table .entry); levels = now (levels .entry) }) (stateOf (now (state .entry))) .state ⌝ }
+    ensures number { λ r. ⌜ r ≡ numberOf
+        (storedLoadAnswer (record { units = units; words = now (table .entry); levels = now (levels .entry) })
+        (stateOf (now (state .entry))) .reply) ⌝ }
+    ensures words { λ _. ⌜ stateOf (now (state .exit))
+        ≡ storedLoadAnswer (record { units = units; words = now (table .entry); levels = now (levels .entry) })
+        (stateOf (now (state .entry))) .state ⌝ }
 {
     words_load::load_stored(units, table, levels, state) as u32
 }
@@ -39,8 +48,12 @@ pub fn load_planned(
     levels: &[i16],
     parents: &[u16],
 ) -> u32
-    ensures number { λ r. ⌜ r ≡ numberOf (plannedLoadAnswer (record { units = units; words = now (table .entry); levels = now (levels .entry) }) (now (parents .entry)) (stateOf (now (state .entry))) .reply) ⌝ }
-    ensures words { λ _. ⌜ stateOf (now (state .exit)) ≡ plannedLoadAnswer (record { units = units; words = now (table .entry); levels = now (levels .entry) }) (now (parents .entry)) (stateOf (now (state .entry))) .state ⌝ }
+    ensures number { λ r. ⌜ r ≡ numberOf
+        (plannedLoadAnswer (record { units = units; words = now (table .entry); levels = now (levels .entry) })
+        (now (parents .entry)) (stateOf (now (state .entry))) .reply) ⌝ }
+    ensures words { λ _. ⌜ stateOf (now (state .exit))
+        ≡ plannedLoadAnswer (record { units = units; words = now (table .entry); levels = now (levels .entry) })
+        (now (parents .entry)) (stateOf (now (state .entry))) .state ⌝ }
 {
     words_load::load_planned(units, table, levels, parents, state) as u32
 }
@@ -48,7 +61,8 @@ pub fn load_planned(
 // Status: 10. The reply is stage, countdown, all rounds, requests.
 pub fn status(state: &[u16; STATE_WORDS], reply: &mut [u16; 4]) -> u32
     ensures number { λ r. ⌜ r ≡ numberOf (statusAnswer (stateOf (now (state .entry))) .reply) ⌝ }
-    ensures said { λ _. ⌜ now (reply .exit) ≡ said (statusAnswer (stateOf (now (state .entry))) .reply) (now (reply .entry)) ⌝ }
+    ensures said { λ _. ⌜ now (reply .exit)
+        ≡ said (statusAnswer (stateOf (now (state .entry))) .reply) (now (reply .entry)) ⌝ }
 {
     if !words_layout::kept(state) {
         return 10;
@@ -60,7 +74,8 @@ pub fn status(state: &[u16; STATE_WORDS], reply: &mut [u16; 4]) -> u32
 // A unit: 10, 12, 13. The reply is unit, colour, parent, place, single.
 pub fn unit(state: &[u16; STATE_WORDS], unit: u16, reply: &mut [u16; 5]) -> u32
     ensures number { λ r. ⌜ r ≡ numberOf (unitAnswer unit (stateOf (now (state .entry))) .reply) ⌝ }
-    ensures said { λ _. ⌜ now (reply .exit) ≡ said (unitAnswer unit (stateOf (now (state .entry))) .reply) (now (reply .entry)) ⌝ }
+    ensures said { λ _. ⌜ now (reply .exit)
+        ≡ said (unitAnswer unit (stateOf (now (state .entry))) .reply) (now (reply .entry)) ⌝ }
 {
     let table = words_layout::table_at(state);
     let refused = questions::refusal(state, unit < table.units);
@@ -74,7 +89,8 @@ pub fn unit(state: &[u16; STATE_WORDS], unit: u16, reply: &mut [u16; 5]) -> u32
 // A link: 10, 12, 13. The reply is position, label, lone.
 pub fn link(state: &[u16; STATE_WORDS], position: u16, reply: &mut [u16; 3]) -> u32
     ensures number { λ r. ⌜ r ≡ numberOf (linkAnswer position (stateOf (now (state .entry))) .reply) ⌝ }
-    ensures said { λ _. ⌜ now (reply .exit) ≡ said (linkAnswer position (stateOf (now (state .entry))) .reply) (now (reply .entry)) ⌝ }
+    ensures said { λ _. ⌜ now (reply .exit)
+        ≡ said (linkAnswer position (stateOf (now (state .entry))) .reply) (now (reply .entry)) ⌝ }
 {
     let table = words_layout::table_at(state);
     let refused = questions::refusal(state, position < table.links);
@@ -87,7 +103,8 @@ pub fn link(state: &[u16; STATE_WORDS], position: u16, reply: &mut [u16; 3]) -> 
 
 // The report of a finished survey at the front of `out`: 10, 12, 14.
 pub fn report(state: &[u16; STATE_WORDS], out: &mut [u8]) -> u32
-    ensures number { λ r. ⌜ r ≡ numberOf (reportAnswer (length (now (out .entry))) (stateOf (now (state .entry))) .reply) ⌝ }
+    ensures number { λ r. ⌜ r ≡ numberOf
+        (reportAnswer (length (now (out .entry))) (stateOf (now (state .entry))) .reply) ⌝ }
     ensures bytes { λ _. ⌜ now (out .exit) ≡ reported (stateOf (now (state .entry))) (now (out .entry)) ⌝ }
 {
     let table = words_layout::table_at(state);

@@ -26,7 +26,8 @@ pub fn refusal(state: &[u16; STATE_WORDS], exists: bool) -> u32
 // Stage, countdown, all rounds, requests.
 pub(crate) fn status_values(state: &[u16; STATE_WORDS]) -> [u16; 4]
     requires { ⌜ wellFormed (stateOf (now state)) ≡ true ⌝ }
-    ensures { λ r. ⌜ r ≡ stateOf (now (state .entry)) .clock .stage ∷ countdown (stateOf (now (state .entry))) ∷ stateOf (now (state .entry)) .clock .rounds ∷ stateOf (now (state .entry)) .clock .requests ∷ [] ⌝ }
+    ensures { λ r. ⌜ r ≡ stateOf (now (state .entry)) .clock .stage ∷ countdown (stateOf (now (state .entry)))
+        ∷ stateOf (now (state .entry)) .clock .rounds ∷ stateOf (now (state .entry)) .clock .requests ∷ [] ⌝ }
 {
     let table = words_layout::table_at(state);
     let c = words_layout::clock_at(state);
@@ -36,7 +37,8 @@ pub(crate) fn status_values(state: &[u16; STATE_WORDS]) -> [u16; 4]
 
 // Unit, colour, parent, place, single.
 pub(crate) fn unit_values(state: &[u16; STATE_WORDS], v: u16) -> [u16; 5]
-    ensures { λ r. ⌜ r ≡ v ∷ unitColor (stateOf (now (state .entry))) v ∷ unitParent (stateOf (now (state .entry))) v ∷ unitPlace (stateOf (now (state .entry))) v ∷ flag (unitSingle (stateOf (now (state .entry))) v) ∷ [] ⌝ }
+    ensures { λ r. ⌜ r ≡ v ∷ unitColor (stateOf (now (state .entry))) v ∷ unitParent (stateOf (now (state .entry))) v
+        ∷ unitPlace (stateOf (now (state .entry))) v ∷ flag (unitSingle (stateOf (now (state .entry))) v) ∷ [] ⌝ }
 {
     let i = v as usize;
     let components = words_layout::components_at(state);
@@ -58,7 +60,8 @@ fn single(state: &[u16; STATE_WORDS], v: u16) -> u16
 
 // Position, label, lone.
 pub(crate) fn link_values(state: &[u16; STATE_WORDS], j: u16) -> [u16; 3]
-    ensures { λ r. ⌜ r ≡ j ∷ linkLabel (stateOf (now (state .entry))) j ∷ flag (linkLone (stateOf (now (state .entry))) j) ∷ [] ⌝ }
+    ensures { λ r. ⌜ r ≡ j ∷ linkLabel (stateOf (now (state .entry))) j
+        ∷ flag (linkLone (stateOf (now (state .entry))) j) ∷ [] ⌝ }
 {
     let table = words_layout::table_at(state);
     let labels = words_layout::labels_at(state);

@@ -1,4 +1,5 @@
--- Calls on words as C makes them: what each gives back and leaves, in the words of the contracts of `survey_c`, and a list of them.
+-- Calls on words as C makes them: what each gives back and leaves, in the words of the contracts of `survey_c`, and a
+-- list of them.
 use mathlib.Core.Path.{_≡_}
 use mathlib.Core.Bool.{cond}
 use mathlib.Core.List.{List, [], _∷_}
@@ -22,7 +23,8 @@ numberTo c words = numberOf (answerTo c (stateOf words) .reply)
 abbrev pub stateAfter : Call → List ℕ → State
 stateAfter c words = answerTo c (stateOf words) .state
 
--- what the lent memory holds after it: a reply's values, the rounds made as one word, a report's bytes; as it was, where the call was refused
+-- what the lent memory holds after it: a reply's values, the rounds made as one word, a report's bytes; as it was,
+-- where the call was refused
 abbrev pub lentAfter : Call → List ℕ → List ℕ → List ℕ
 lentAfter round words given = given
 lentAfter (run budget) words given = said (answerTo (run budget) (stateOf words) .reply) given
@@ -35,7 +37,8 @@ lentAfter (report out) words given = sliceAfter (report out) (stateOf words)
 abbrev pub madeAfter : ℕ → List ℕ → ℕ → ℕ
 madeAfter budget words given = cond (eqb (roundRefusal (stateOf words)) 0) (ran budget 0 (stateOf words) .1) given
 
--- a call and all that C has of it: the lent memory as it was given (a report's stands in its call), the number that came back, and the lent memory afterwards
+-- a call and all that C has of it: the lent memory as it was given (a report's stands in its call), the number that
+-- came back, and the lent memory afterwards
 pub record Exchange : Type 0 where
   pub call : Call
   pub given : List ℕ
@@ -59,7 +62,8 @@ abbrev pub callsOf : List Exchange → List Call
 callsOf [] = []
 callsOf (x ∷ xs) = x .call ∷ callsOf xs
 
--- the rounds used, from what C gets back alone: one for a round with number 0, the word of the rounds made for a run with number 0
+-- the rounds used, from what C gets back alone: one for a round with number 0, the word of the rounds made for a run
+-- with number 0
 abbrev pub usedIn : Call → ℕ → List ℕ → ℕ
 usedIn round number lent = cond (eqb number 0) 1 0
 usedIn (run budget) number lent = cond (eqb number 0) (getD lent 0 0) 0

@@ -1,5 +1,5 @@
--- The contracts of `survey_c` are the relation `CallMade`: from the equations that each function ensures. A call that only reads the words leaves them as
--- they are.
+-- The contracts of `survey_c` are the relation `CallMade`: from the equations that each function ensures. A call that
+-- only reads the words leaves them as they are.
 use mathlib.Core.Path.{_≡_, refl, sym, ap, _∙_}
 use mathlib.Core.Bool.{true, false, cond}
 use mathlib.Core.Logic.{_⊎_, inl, inr}
@@ -10,7 +10,8 @@ use lib.ListN.{length}
 use Rattle.base_lists.specs.Tests.{either}
 use Rattle.spec_machine.specs.State.{State}
 use Rattle.spec_machine.specs.Run.{ran}
-use Rattle.spec_machine.specs.Calls.{roundRefusal, runAnswer, statusRefusal, statusAnswer, unitRefusal, unitAnswer, linkRefusal, linkAnswer, reportRefusal, reportAnswer}
+use Rattle.spec_machine.specs.Calls.{roundRefusal, runAnswer, statusRefusal, statusAnswer, unitRefusal, unitAnswer}
+use Rattle.spec_machine.specs.Calls.{linkRefusal, linkAnswer, reportRefusal, reportAnswer}
 use Rattle.words_layout.specs.Layout.{stateOf}
 use Rattle.words_calls.specs.Face.{said}
 use Rattle.spec_claim.specs.Play.{round, run, status, unit, link, report}
@@ -49,22 +50,38 @@ module _ (words given : List ℕ) (r : ℕ) (lent : List ℕ) where
   pub status-made : r ≡ numberTo status words → lent ≡ lentAfter status words given
       → CallMade (record { call = status; given = given; number = r; lent = lent }) words words
   unfolding statusAnswer
-  status-made n l = record { number = n; words = sym (unmoved (statusRefusal (stateOf words)) (stateOf words) _); lent = l }
+  status-made n l = record {
+    number = n;
+    words = sym (unmoved (statusRefusal (stateOf words)) (stateOf words) _);
+    lent = l;
+  }
 
   -- link_survey_unit
   pub unit-made : (v : ℕ) → r ≡ numberTo (unit v) words → lent ≡ lentAfter (unit v) words given
       → CallMade (record { call = unit v; given = given; number = r; lent = lent }) words words
   unfolding unitAnswer
-  unit-made v n l = record { number = n; words = sym (unmoved (unitRefusal v (stateOf words)) (stateOf words) _); lent = l }
+  unit-made v n l = record {
+    number = n;
+    words = sym (unmoved (unitRefusal v (stateOf words)) (stateOf words) _);
+    lent = l;
+  }
 
   -- link_survey_link
   pub link-made : (j : ℕ) → r ≡ numberTo (link j) words → lent ≡ lentAfter (link j) words given
       → CallMade (record { call = link j; given = given; number = r; lent = lent }) words words
   unfolding linkAnswer
-  link-made j n l = record { number = n; words = sym (unmoved (linkRefusal j (stateOf words)) (stateOf words) _); lent = l }
+  link-made j n l = record {
+    number = n;
+    words = sym (unmoved (linkRefusal j (stateOf words)) (stateOf words) _);
+    lent = l;
+  }
 
   -- link_survey_state_report, into the slice that was given
   pub report-made : r ≡ numberTo (report given) words → lent ≡ lentAfter (report given) words given
       → CallMade (record { call = report given; given = given; number = r; lent = lent }) words words
   unfolding reportAnswer
-  report-made n l = record { number = n; words = sym (unmoved (reportRefusal (stateOf words) (length given)) (stateOf words) _); lent = l }
+  report-made n l = record {
+    number = n;
+    words = sym (unmoved (reportRefusal (stateOf words) (length given)) (stateOf words) _);
+    lent = l;
+  }

@@ -17,7 +17,12 @@ use Rattle.handset_lines.specs.declared.Status.{Status}
 use Rattle.handset_lines.specs.Lines.{statusOf, lineRefusal, roomRefusal, lineAnswer, lineShown}
 
 abbrev pub recordOf : List ℕ → Status
-recordOf told = record { stage = getD told 0 0; countdown = getD told 1 0; rounds = getD told 2 0; requests = getD told 3 0 }
+recordOf told = record {
+  stage = getD told 0 0;
+  countdown = getD told 1 0;
+  rounds = getD told 2 0;
+  requests = getD told 3 0;
+}
 
 module _ (s : State) where
   -- a status is refused exactly where the state is not kept, and only with 10
@@ -39,7 +44,8 @@ module _ (s : State) where
 
   module _ (needed : ℕ) (line out : List ℕ) where
     abbrev pub Told : ℕ → List ℕ → Type 0
-    Told number new = (number ≡ numberOf (lineAnswer needed (length out) s .reply)) × (new ≡ lineShown needed line s out)
+    Told number new = (number ≡ numberOf (lineAnswer needed (length out) s .reply))
+        × (new ≡ lineShown needed line s out)
 
     pub told-status : (r : ℕ) → r ≡ numberOf (statusAnswer s .reply) → (r ≡ 0 → ⊥) → Told r out
     unfolding statusAnswer statusRefusal lineAnswer lineShown lineRefusal
@@ -49,7 +55,8 @@ module _ (s : State) where
         go (inl w) = absurd (h (rw w at e))
         go (inr w) = rw (e, w) (refl, refl)
 
-    pub told-line : wellFormed s ≡ true → (r : ℕ) (new : List ℕ) → r ≡ roomRefusal needed (length out) → new ≡ written (roomRefusal needed (length out)) line out
+    pub told-line : wellFormed s ≡ true → (r : ℕ) (new : List ℕ) → r ≡ roomRefusal needed (length out) →
+        new ≡ written (roomRefusal needed (length out)) line out
         → Told r new
     unfolding lineAnswer lineShown lineRefusal roomRefusal
     told-line w r new e slice = go (either (ltb (length out) needed))

@@ -37,7 +37,8 @@ within i h = ends-before sizes i 27 h
 part-front : (xs ys : List ℕ) (from n : ℕ) → from + n ≤ length xs → part from n (xs ++ ys) ≡ part from n xs
 unfolding part
 part-front xs ys from n h =
-    rw (drop-append-le from xs ys (omega (arith, h))) (take-append-le n (drop from xs) ys (omega (arith, length-drop from xs, h)))
+    rw (drop-append-le from xs ys (omega (arith, h)))
+    (take-append-le n (drop from xs) ys (omega (arith, length-drop from xs, h)))
 
 module _ (at : ℕ) (xs ws : List ℕ) (fits : at + length xs ≤ length ws) where
   front : length (take at ws ++ xs) ≡ at + length xs
@@ -46,14 +47,16 @@ module _ (at : ℕ) (xs ws : List ℕ) (fits : at + length xs ≤ length ws) whe
   laid-length : length (laid at xs ws) ≡ length ws
   unfolding laid
   laid-length =
-      length-append (take at ws ++ xs) (drop (at + length xs) ws) ∙ omega (arith, front, length-drop (at + length xs) ws, fits)
+      length-append (take at ws ++ xs) (drop (at + length xs) ws)
+      ∙ omega (arith, front, length-drop (at + length xs) ws, fits)
 
   -- the part that was laid
   part-same : part at (length xs) (laid at xs ws) ≡ xs
   unfolding part laid
   part-same =
       ap (λ (l : List ℕ). take (length xs) (drop at l)) (append-assoc (take at ws) xs (drop (at + length xs) ws))
-      ∙ (ap (λ (l : List ℕ). take (length xs) l) (drop-at (take at ws) (xs ++ drop (at + length xs) ws) at (length-take-le at ws (omega (arith, fits))))
+      ∙ (ap (λ (l : List ℕ). take (length xs) l)
+      (drop-at (take at ws) (xs ++ drop (at + length xs) ws) at (length-take-le at ws (omega (arith, fits))))
       ∙ take-at xs (drop (at + length xs) ws) (length xs) refl)
 
   -- a part that ends before it
@@ -64,7 +67,8 @@ module _ (at : ℕ) (xs ws : List ℕ) (fits : at + length xs ≤ length ws) whe
       let far : from + n ≤ length (take at ws) = omega (arith, size, h) in
       ap (λ (l : List ℕ). part from n l) (append-assoc (take at ws) xs (drop (at + length xs) ws))
       ∙ (part-front (take at ws) (xs ++ drop (at + length xs) ws) from n far
-      ∙ (sym (part-front (take at ws) (drop at ws) from n far) ∙ ap (λ (l : List ℕ). part from n l) (take-append-drop at ws)))
+      ∙ (sym (part-front (take at ws) (drop at ws) from n far)
+      ∙ ap (λ (l : List ℕ). part from n l) (take-append-drop at ws)))
 
   -- a part that begins after it
   part-right : (from n : ℕ) → at + length xs ≤ from → part from n (laid at xs ws) ≡ part from n ws
@@ -83,8 +87,10 @@ module _ (at : ℕ) (xs ws : List ℕ) (fits : at + length xs ≤ length ws) whe
 abbrev pub Fits : ℕ × List ℕ → Type 0
 Fits p = T (ltb (p .0) 27) × (length (p .1) ≡ size (p .0))
 
-one-laid : (p : ℕ × List ℕ) (ws : List ℕ) → length ws ≡ STATE-WORDS → Fits p → length (laid (place (p .0)) (p .1) ws) ≡ STATE-WORDS
-one-laid p ws state fit = laid-length (place (p .0)) (p .1) ws (rw (fit .1, state) (within (p .0) (ltb→lt (p .0) 27 (fit .0)))) ∙ state
+one-laid : (p : ℕ × List ℕ) (ws : List ℕ) → length ws ≡ STATE-WORDS → Fits p →
+    length (laid (place (p .0)) (p .1) ws) ≡ STATE-WORDS
+one-laid p ws state fit = laid-length (place (p .0)) (p .1) ws
+    (rw (fit .1, state) (within (p .0) (ltb→lt (p .0) 27 (fit .0)))) ∙ state
 
 -- field j after field i was laid
 field-laid : (i j : ℕ) (xs ws : List ℕ) → length ws ≡ STATE-WORDS → i < 27 → j < 27 → length xs ≡ size i
@@ -94,7 +100,8 @@ field-laid i j xs ws state hi hj e = by (eqb i j) refl (ltb i j) refl
     fits : place i + length xs ≤ length ws
     fits = rw (e, state) (within i hi)
 
-    by : (same : Bool) → eqb i j ≡ same → (less : Bool) → ltb i j ≡ less → field j (laid (place i) xs ws) ≡ cond same xs (field j ws)
+    by : (same : Bool) → eqb i j ≡ same → (less : Bool) → ltb i j ≡ less →
+        field j (laid (place i) xs ws) ≡ cond same xs (field j ws)
     by true same less f =
         let eq : i ≡ j = eqb-true i j same in
         rw (sym eq, sym e) (part-same (place i) xs ws fits)
@@ -112,7 +119,23 @@ field-laid i j xs ws state hi hj e = by (eqb i j) refl (ltb i j) refl
 same-fields : (f g : ℕ → List ℕ) → ((j : ℕ) → j < 27 → f j ≡ g j) → stateBy f ≡ stateBy g
 same-fields f g same =
     rw (at 0 tt, at 1 tt, at 2 tt, at 3 tt, at 4 tt, at 5 tt, at 6 tt, at 7 tt, at 8 tt, at 9 tt, at 10 tt, at 11 tt)
-    (rw (at 12 tt, at 13 tt, at 14 tt, at 15 tt, at 16 tt, at 17 tt, at 18 tt, at 19 tt, at 20 tt, at 21 tt, at 22 tt, at 23 tt, at 24 tt, at 25 tt, at 26 tt) refl)
+    (rw (
+      at 12 tt,
+      at 13 tt,
+      at 14 tt,
+      at 15 tt,
+      at 16 tt,
+      at 17 tt,
+      at 18 tt,
+      at 19 tt,
+      at 20 tt,
+      at 21 tt,
+      at 22 tt,
+      at 23 tt,
+      at 24 tt,
+      at 25 tt,
+      at 26 tt,
+    ) refl)
   where
     at : (j : ℕ) → T (ltb j 27) → f j ≡ g j
     at j h = same j (ltb→lt j 27 h)
@@ -137,7 +160,8 @@ chosen (p ∷ ps) j old = chosen ps j (cond (eqb (p .0) j) (p .1) old)
 abbrev pub AllFit : List (ℕ × List ℕ) → Type 0
 AllFit ps = All Fits ps
 
-all-laid : (ps : List (ℕ × List ℕ)) (ws : List ℕ) → length ws ≡ STATE-WORDS → AllFit ps → length (laidAll ps ws) ≡ STATE-WORDS
+all-laid : (ps : List (ℕ × List ℕ)) (ws : List ℕ) → length ws ≡ STATE-WORDS → AllFit ps →
+    length (laidAll ps ws) ≡ STATE-WORDS
 all-laid [] ws state fit = state
 all-laid (p ∷ ps) ws state fit = all-laid ps (laid (place (p .0)) (p .1) ws) (one-laid p ws state (fit .0)) (fit .1)
 
@@ -146,11 +170,14 @@ fields-after : (ps : List (ℕ × List ℕ)) (ws : List ℕ) → length ws ≡ S
 fields-after [] ws state fit j h = refl
 fields-after (p ∷ ps) ws state fit j h =
     fields-after ps (laid (place (p .0)) (p .1) ws) (one-laid p ws state (fit .0)) (fit .1) j h
-    ∙ ap (λ (old : List ℕ). chosen ps j old) (field-laid (p .0) j (p .1) ws state (ltb→lt (p .0) 27 (fit .0 .0)) h (fit .0 .1))
+    ∙ ap (λ (old : List ℕ). chosen ps j old)
+    (field-laid (p .0) j (p .1) ws state (ltb→lt (p .0) 27 (fit .0 .0)) h (fit .0 .1))
 
 -- the state of words over which fields were laid: each is the last table laid there, or the old one
-pub laid-fields : (ps : List (ℕ × List ℕ)) (ws after : List ℕ) → after ≡ laidAll ps ws → length ws ≡ STATE-WORDS → AllFit ps
+pub laid-fields : (ps : List (ℕ × List ℕ)) (ws after : List ℕ) → after ≡ laidAll ps ws → length ws ≡ STATE-WORDS →
+    AllFit ps
     → stateOf after ≡ stateBy (λ (j : ℕ). chosen ps j (field j ws))
 unfolding stateOf
 laid-fields ps ws after e state fit =
-    ap stateOf e ∙ same-fields (λ (j : ℕ). field j (laidAll ps ws)) (λ (j : ℕ). chosen ps j (field j ws)) (fields-after ps ws state fit)
+    ap stateOf e ∙ same-fields (λ (j : ℕ). field j (laidAll ps ws)) (λ (j : ℕ). chosen ps j (field j ws))
+    (fields-after ps ws state fit)

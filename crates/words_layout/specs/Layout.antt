@@ -1,4 +1,5 @@
--- A state as words: its numbers and tables one after the other, in the order of its groups. Where each lies follows from one list of sizes.
+-- A state as words: its numbers and tables one after the other, in the order of its groups. Where each lies follows
+-- from one list of sizes.
 use mathlib.Core.List.{List, [], _∷_}
 use Prim.Native.Nat.{ℕ, _+_}
 use lib.ListN.{getD, take}
@@ -6,11 +7,12 @@ use Rattle.table_levels.specs.Level.{fromWords}
 use Rattle.base_copies.specs.Parts.{part}
 use Rattle.spec_machine.specs.State.{State}
 
--- the words of each field: counts, ends, clock; color, parent, dist; next, pred, jump, sum, forward; nd, pre; low, high, little, big; global low and
--- high; aux parents, links, color; class, label; levels, each the two's complement of a level; the planner's parents, and
--- whether they were given
+-- the words of each field: counts, ends, clock; color, parent, dist; next, pred, jump, sum, forward; nd, pre; low,
+-- high, little, big; global low and high; aux parents, links, color; class, label; levels, each the two's complement of
+-- a level; the planner's parents, and whether they were given
 abbrev pub sizes : List ℕ
-sizes = 2 ∷ 2048 ∷ 4 ∷ 256 ∷ 256 ∷ 256 ∷ 512 ∷ 512 ∷ 512 ∷ 512 ∷ 512 ∷ 256 ∷ 256 ∷ 256 ∷ 256 ∷ 256 ∷ 256 ∷ 256 ∷ 256 ∷ 256 ∷ 1024 ∷ 256 ∷ 1024 ∷ 1024 ∷ 1024 ∷ 256 ∷ 1 ∷ []
+sizes = 2 ∷ 2048 ∷ 4 ∷ 256 ∷ 256 ∷ 256 ∷ 512 ∷ 512 ∷ 512 ∷ 512 ∷ 512 ∷ 256 ∷ 256 ∷ 256 ∷ 256 ∷ 256 ∷ 256 ∷ 256 ∷ 256
+    ∷ 256 ∷ 1024 ∷ 256 ∷ 1024 ∷ 1024 ∷ 1024 ∷ 256 ∷ 1 ∷ []
 
 abbrev pub extent : List ℕ → ℕ
 extent [] = 0
@@ -34,7 +36,12 @@ abbrev pub stateBy : (ℕ → List ℕ) → State
 stateBy f =
     record {
       table = record { units = getD (f 0) 0 0; links = getD (f 0) 1 0; ends = f 1; levels = fromWords (f 24) };
-      clock = record { stage = getD (f 2) 0 0; made = getD (f 2) 1 0; rounds = getD (f 2) 2 0; requests = getD (f 2) 3 0 };
+      clock = record {
+        stage = getD (f 2) 0 0;
+        made = getD (f 2) 1 0;
+        rounds = getD (f 2) 2 0;
+        requests = getD (f 2) 3 0;
+      };
       components = record { color = f 3 };
       plan = record { given = getD (f 26) 0 0; parent = f 25 };
       tree = record { parent = f 4; dist = f 5 };

@@ -1,5 +1,5 @@
--- Words are known by the state that they are: the state's fields, one after the other, are the words again. So what a call promises of the state settles
--- every word that was lent.
+-- Words are known by the state that they are: the state's fields, one after the other, are the words again. So what a
+-- call promises of the state settles every word that was lent.
 use mathlib.Core.Path.{_≡_, refl, sym, ap, _∙_}
 use mathlib.Core.List.{List, [], _∷_, _++_}
 use Prim.Native.Nat.{ℕ, zero, suc, _+_, _≤_, _<_}
@@ -57,7 +57,8 @@ wordsOf s = joined (fieldsOf s (toWords (s .table .levels)) (s .plan .given ∷ 
 row-joined : (at : ℕ) (ns ws : List ℕ) → joined (row at ns ws) ≡ part at (extent ns) ws
 unfolding part
 row-joined at [] ws = refl
-row-joined at (n ∷ ns) ws = ap (λ (l : List ℕ). part at n ws ++ l) (row-joined (at + n) ns ws) ∙ sym (two-parts at n (extent ns) ws)
+row-joined at (n ∷ ns) ws = ap (λ (l : List ℕ). part at n ws ++ l) (row-joined (at + n) ns ws)
+    ∙ sym (two-parts at n (extent ns) ws)
 
 of-one : (l : List ℕ) → length l ≡ 1 → getD l 0 0 ∷ [] ≡ l
 of-one [] e = absurd (omega (arith, e))
@@ -90,7 +91,8 @@ part-words at n ws h i = go (decLt i n)
     go : Dec (i < n) → getD (take n (drop at ws)) i 0 < 65536
     go (yes l) = rw (getD-take n (drop at ws) i 0 l, getD-drop at ws i 0) (h (at + i))
     go (no l) =
-        let past : getD (take n (drop at ws)) i 0 ≡ 0 = List·getD-eq-default (take n (drop at ws)) 0 (omega (arith, length-take n (drop at ws))) in
+        let past : getD (take n (drop at ws)) i 0 ≡ 0 =
+        List·getD-eq-default (take n (drop at ws)) 0 (omega (arith, length-take n (drop at ws))) in
         rw past (omega arith)
 
 module _ (ws : List ℕ) (e : length ws ≡ STATE-WORDS) (h : (i : ℕ) → getD ws i 0 < 65536) where
@@ -112,9 +114,11 @@ module _ (ws : List ℕ) (e : length ws ≡ STATE-WORDS) (h : (i : ℕ) → getD
       ap (λ (l : List ℕ). joined (fieldsOf (stateOf ws) l (getD (field 26 ws) 0 0 ∷ []))) levels
       ∙ (ap (λ (l : List ℕ). joined (fieldsOf (stateOf ws) (field 24 ws) l)) given
       ∙ (of-two (field 0 ws) (field 1 ws ++ (clock ++ rest)) (part-long (place 0) 2 ws (omega (arith, e)))
-      ∙ (ap (λ (l : List ℕ). field 0 ws ++ (field 1 ws ++ l)) (of-four (field 2 ws) rest (part-long (place 2) 4 ws (omega (arith, e))))
+      ∙ (ap (λ (l : List ℕ). field 0 ws ++ (field 1 ws ++ l))
+      (of-four (field 2 ws) rest (part-long (place 2) 4 ws (omega (arith, e))))
       ∙ (row-joined 0 sizes ws ∙ take-all STATE-WORDS ws (omega (arith, e))))))
 
-pub same-words : (a b : List ℕ) → length a ≡ STATE-WORDS → length b ≡ STATE-WORDS → ((i : ℕ) → getD a i 0 < 65536) → ((i : ℕ) → getD b i 0 < 65536)
+pub same-words : (a b : List ℕ) → length a ≡ STATE-WORDS → length b ≡ STATE-WORDS → ((i : ℕ) → getD a i 0 < 65536) →
+    ((i : ℕ) → getD b i 0 < 65536)
     → stateOf a ≡ stateOf b → a ≡ b
 same-words a b la lb ha hb e = sym (words-back a la ha) ∙ (ap wordsOf e ∙ words-back b lb hb)

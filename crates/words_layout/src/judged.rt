@@ -1,4 +1,5 @@
-// Whether words are a well-formed state (document 01: kept), told where they lie: tables of one kind that stand in a row are judged together.
+// Whether words are a well-formed state (document 01: kept), told where they lie: tables of one kind that stand in a
+// row are judged together.
 use super::layout;
 use super::layout::STATE_WORDS;
 use super::take;
@@ -63,7 +64,8 @@ fn entries_ok(units: u16, links: u16, words: &[u16; STATE_WORDS]) -> bool
 // Every one of n words from a place on passes.
 fn within(limit: Limit, at: usize, n: usize, words: &[u16]) -> bool
     requires { ⌜ at + n ≤ length (now words) ⌝ }
-    ensures { λ r. ⌜ ((p : ℕ → Bool) → Tells (limit .more) (limit .most) p → r ≡ every p (part at n (now (words .entry)))) ⌝ }
+    ensures { λ r. ⌜ ((p : ℕ → Bool) → Tells (limit .more) (limit .most) p →
+        r ≡ every p (part at n (now (words .entry)))) ⌝ }
 {
     let end = at + n;
     bounds::within(limit, &words[at..end])

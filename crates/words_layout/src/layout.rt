@@ -1,4 +1,5 @@
-// Where each number and table of a state lies in its words: each begins where the one before it ends (specs/Layout.antt has the same sizes).
+// Where each number and table of a state lies in its words: each begins where the one before it ends (specs/Layout.antt
+// has the same sizes).
 pub(crate) const UNITS: usize = 0;
 
 pub(crate) const LINKS: usize = 1;

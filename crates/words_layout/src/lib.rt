@@ -1,4 +1,5 @@
-// A state in the words that a caller lends: where each table lies, its groups taken out and laid down, and the kept test.
+// A state in the words that a caller lends: where each table lies, its groups taken out and laid down, and the kept
+// test.
 mod judged;
 mod lay;
 mod layout;

@@ -20,7 +20,8 @@ use Rattle.words_live.specs.LiveLayout.{LIVE-WORDS, liveIn, liveWords, w
 -- ---- fields laid down from the first on
 
 -- one more behind those that were laid
-laid-next : (at n : ℕ) (p xs ws : List ℕ) → length p ≡ at → length xs ≡ n → laid at xs (p ++ drop at ws) ≡ (p ++ xs) ++ drop (at + n) ws
+laid-next : (at n : ℕ) (p xs ws : List ℕ) → length p ≡ at → length xs ≡ n →
+    laid at xs (p ++ drop at ws) ≡ (p ++ xs) ++ drop (at + n) ws
 unfolding laid
 laid-next at n p xs ws e f =
     ap (λ (l : List ℕ). l ++ xs ++ drop (at + length xs) (p ++ drop at ws)) (take-at p (drop at ws) at e)
@@ -29,7 +30,8 @@ laid-next at n p xs ws e f =
     rest : drop (at + length xs) (p ++ drop at ws) ≡ drop (at + n) ws
     rest =
         sym (drop-drop (length xs) at (p ++ drop at ws))
-        ∙ (ap (λ (l : List ℕ). drop (length xs) l) (drop-at p (drop at ws) at e) ∙ (drop-drop (length xs) at ws ∙ ap (λ (k : ℕ). drop (at + k) ws) f))
+        ∙ (ap (λ (l : List ℕ). drop (length xs) l) (drop-at p (drop at ws) at e)
+        ∙ (drop-drop (length xs) at ws ∙ ap (λ (k : ℕ). drop (at + k) ws) f))
 
 -- nothing is behind the last
 drop-whole : (n : ℕ) (ws : List ℕ) → length ws ≡ n → drop n ws ≡ []
@@ -47,7 +49,8 @@ part-first n a r e = take-at a r n e
 
 part-behind : (k at n : ℕ) (a r : List ℕ) → length a ≡ k → part (k + at) n (a ++ r) ≡ part at n r
 unfolding part
-part-behind k at n a r e = ap (λ (l : List ℕ). take n l) (sym (drop-drop at k (a ++ r)) ∙ ap (λ (l : List ℕ). drop at l) (drop-at a r k e))
+part-behind k at n a r e = ap (λ (l : List ℕ). take n l) (sym (drop-drop at k (a ++ r))
+    ∙ ap (λ (l : List ℕ). drop at l) (drop-at a r k e))
 
 -- ---- the four fields
 
@@ -63,15 +66,20 @@ module _ (l : Live) (words : List ℕ) (isWords : words ≡ toWords (l .levels))
       → laid 3074 (l .counts) (laid 2050 words (laid 2 (l .ends) (laid 0 (l .units ∷ l .links ∷ []) ws))) ≡ liveWords l
   unfolding liveWords numbers
   laid-words ws e =
-      ap (λ (x : List ℕ). laid 3074 (l .counts) (laid 2050 words (laid 2 (l .ends) x))) (laid-next 0 2 [] numbers ws refl refl)
-      ∙ (ap (λ (x : List ℕ). laid 3074 (l .counts) (laid 2050 words x)) (laid-next 2 2048 numbers (l .ends) ws refl full)
-      ∙ (ap (λ (x : List ℕ). laid 3074 (l .counts) x) (laid-next 2050 1024 (numbers ++ l .ends) words ws (length-append numbers (l .ends) ∙ rw full refl) long)
+      ap (λ (x : List ℕ). laid 3074 (l .counts) (laid 2050 words (laid 2 (l .ends) x)))
+      (laid-next 0 2 [] numbers ws refl refl)
+      ∙ (ap (λ (x : List ℕ). laid 3074 (l .counts) (laid 2050 words x))
+      (laid-next 2 2048 numbers (l .ends) ws refl full)
+      ∙ (ap (λ (x : List ℕ). laid 3074 (l .counts) x)
+      (laid-next 2050 1024 (numbers ++ l .ends) words ws (length-append numbers (l .ends) ∙ rw full refl) long)
       ∙ (laid-next 3074 256 (numbers ++ l .ends ++ words) (l .counts) ws
-      (length-append (numbers ++ l .ends) words ∙ (ap (λ (k : ℕ). k + length words) (length-append numbers (l .ends)) ∙ rw (full, long) refl)) counted
+      (length-append (numbers ++ l .ends) words
+      ∙ (ap (λ (k : ℕ). k + length words) (length-append numbers (l .ends)) ∙ rw (full, long) refl)) counted
       ∙ (ap (λ (x : List ℕ). numbers ++ l .ends ++ words ++ l .counts ++ x) (drop-whole 3330 ws e)
       ∙ (append-nil (numbers ++ l .ends ++ words ++ l .counts)
       ∙ (append-assoc (numbers ++ l .ends) words (l .counts)
-      ∙ (append-assoc numbers (l .ends) (words ++ l .counts) ∙ ap (λ (x : List ℕ). numbers ++ (l .ends ++ (x ++ l .counts))) isWords)))))))
+      ∙ (append-assoc numbers (l .ends) (words ++ l .counts)
+      ∙ ap (λ (x : List ℕ). numbers ++ (l .ends ++ (x ++ l .counts))) isWords)))))))
 
   words-live : liveIn (liveWords l) ≡ l
   unfolding liveIn liveWords part
@@ -83,7 +91,8 @@ module _ (l : Live) (words : List ℕ) (isWords : words ≡ toWords (l .levels))
       ends : part 2 2048 (l .units ∷ l .links ∷ (l .ends ++ (toWords (l .levels) ++ l .counts))) ≡ l .ends
       ends = part-first 2048 (l .ends) (toWords (l .levels) ++ l .counts) full
 
-      levels : part 2050 1024 (l .units ∷ l .links ∷ (l .ends ++ (toWords (l .levels) ++ l .counts))) ≡ toWords (l .levels)
+      levels : part 2050 1024 (l .units ∷ l .links ∷ (l .ends ++ (toWords (l .levels) ++ l .counts)))
+          ≡ toWords (l .levels)
       levels =
           part-behind 2048 0 1024 (l .ends) (toWords (l .levels) ++ l .counts) full
           ∙ part-first 1024 (toWords (l .levels)) (l .counts) heard
@@ -103,17 +112,23 @@ module _ (l : Live) (words : List ℕ) (isWords : words ≡ toWords (l .levels))
 
 module _ (answer : Answer) (old : List ℕ) where
   abbrev pub Left : ℕ → List ℕ → Type 0
-  Left number new = (number ≡ answer .number) × ((new ≡ wordsLeft answer old) × (liveIn new ≡ liveLeft answer (liveIn old)))
+  Left number new = (number ≡ answer .number)
+      × ((new ≡ wordsLeft answer old) × (liveIn new ≡ liveLeft answer (liveIn old)))
 
   pub left-refused : (answer .number ≡ 0 → ⊥) → Left (answer .number) old
   left-refused h = rw (ne-eqb (answer .number) 0 h) (refl, (refl, refl))
 
-  pub left-made : (new : List ℕ) → answer .number ≡ 0 → new ≡ liveWords (answer .live) → liveIn new ≡ answer .live → Left 0 new
+  pub left-made : (new : List ℕ) → answer .number ≡ 0 → new ≡ liveWords (answer .live) → liveIn new ≡ answer .live →
+      Left 0 new
   left-made new z w e = rw (eq-eqb (answer .number) 0 z) (sym z, (w, e))
 
 -- the same of an equal answer
-pub left-by : (x y : Answer) (old : List ℕ) (number : ℕ) (new : List ℕ) → x ≡ y → Left x old number new → Left y old number new
-left-by x y old number new e p = (p .0 ∙ ap (λ (a : Answer). a .number) e, (p .1 .0 ∙ ap (λ (a : Answer). wordsLeft a old) e, p .1 .1 ∙ ap (λ (a : Answer). liveLeft a (liveIn old)) e))
+pub left-by : (x y : Answer) (old : List ℕ) (number : ℕ) (new : List ℕ) → x ≡ y → Left x old number new →
+    Left y old number new
+left-by x y old number new e p = (
+  p .0 ∙ ap (λ (a : Answer). a .number) e,
+  (p .1 .0 ∙ ap (λ (a : Answer). wordsLeft a old) e, p .1 .1 ∙ ap (λ (a : Answer). liveLeft a (liveIn old)) e),
+)
 
 -- a refused change leaves the table as given
 answer-left : (k : ℕ) (given after : Live) → liveLeft (answered k given after) given ≡ answered k given after .live

@@ -1,4 +1,5 @@
--- A live table (T-09) as words: its numbers and tables one after the other. Where each lies follows from one list of sizes.
+-- A live table (T-09) as words: its numbers and tables one after the other. Where each lies follows from one list of
+-- sizes.
 use mathlib.Core.Bool.{cond}
 use mathlib.Core.List.{List, [], _∷_, _++_}
 use Prim.Native.Nat.{ℕ}
@@ -10,7 +11,8 @@ use Rattle.words_layout.specs.Layout.{extent}
 use Rattle.live_table.specs.Live.{Live}
 use Rattle.live_table.specs.LiveCalls.{Answer}
 
--- the words of each field: units and links; ends; levels, each the two's complement of a level; the number of links at each unit
+-- the words of each field: units and links; ends; levels, each the two's complement of a level; the number of links at
+-- each unit
 abbrev pub liveSizes : List ℕ
 liveSizes = 2 ∷ 2048 ∷ 1024 ∷ 256 ∷ []
 

@@ -1,4 +1,5 @@
-// Where each number and table of a live table lies in its words: each begins where the one before it ends (specs/LiveLayout.antt has the same sizes).
+// Where each number and table of a live table lies in its words: each begins where the one before it ends
+// (specs/LiveLayout.antt has the same sizes).
 pub(crate) const UNITS: usize = 0;
 
 pub(crate) const LINKS: usize = 1;

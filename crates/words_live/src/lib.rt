@@ -1,5 +1,5 @@
-// A live table (T-09) in the words that a caller lends: opened, and changed by a link at a time. A number that comes back is that of the refusal, 0 where
-// the call was not refused; on a refusal no word is altered.
+// A live table (T-09) in the words that a caller lends: opened, and changed by a link at a time. A number that comes
+// back is that of the refusal, 0 where the call was not refused; on a refusal no word is altered.
 mod layout;
 
 use value_live::Answer;
@@ -54,9 +54,14 @@ fn put(made: Answer, words: &mut [u16; LIVE_WORDS]) -> u32
 
 // From load's tables: 4, 5, 6, 15, 16, 7, 8, 9.
 pub fn opened(live: &mut [u16; LIVE_WORDS], units: u16, table: &[u16], levels: &[i16]) -> u32
-    ensures number { λ r. ⌜ r ≡ openAnswer (record { units = units; words = now (table .entry); levels = now (levels .entry) }) .number ⌝ }
-    ensures words { λ _. ⌜ now (live .exit) ≡ wordsLeft (openAnswer (record { units = units; words = now (table .entry); levels = now (levels .entry) })) (now (live .entry)) ⌝ }
-    ensures live { λ _. ⌜ liveIn (now (live .exit)) ≡ liveLeft (openAnswer (record { units = units; words = now (table .entry); levels = now (levels .entry) })) (liveIn (now (live .entry))) ⌝ }
+    ensures number { λ r. ⌜ r ≡ openAnswer
+        (record { units = units; words = now (table .entry); levels = now (levels .entry) }) .number ⌝ }
+    ensures words { λ _. ⌜ now (live .exit)
+        ≡ wordsLeft (openAnswer (record { units = units; words = now (table .entry); levels = now (levels .entry) }))
+        (now (live .entry)) ⌝ }
+    ensures live { λ _. ⌜ liveIn (now (live .exit))
+        ≡ liveLeft (openAnswer (record { units = units; words = now (table .entry); levels = now (levels .entry) }))
+        (liveIn (now (live .entry))) ⌝ }
 {
     put(Live::opened(units, table, levels), live)
 }
@@ -64,7 +69,8 @@ pub fn opened(live: &mut [u16; LIVE_WORDS], units: u16, table: &[u16], levels: &
 // A link at the end: 4, 6, 16, 7, 8, 9, 10 of the table; 6, 16, 7, 8, 9 of the link.
 pub fn add(live: &mut [u16; LIVE_WORDS], a: u16, b: u16, level: i16) -> u32
     ensures number { λ r. ⌜ r ≡ addAnswer a b level (liveIn (now (live .entry))) .number ⌝ }
-    ensures words { λ _. ⌜ now (live .exit) ≡ wordsLeft (addAnswer a b level (liveIn (now (live .entry)))) (now (live .entry)) ⌝ }
+    ensures words { λ _. ⌜ now (live .exit)
+        ≡ wordsLeft (addAnswer a b level (liveIn (now (live .entry)))) (now (live .entry)) ⌝ }
     ensures live { λ _. ⌜ liveIn (now (live .exit)) ≡ addAnswer a b level (liveIn (now (live .entry))) .live ⌝ }
 {
     let given = live_at(live);
@@ -74,7 +80,8 @@ pub fn add(live: &mut [u16; LIVE_WORDS], a: u16, b: u16, level: i16) -> u32
 // The link that joins two units, named in either order: 4, 6, 16, 7, 8, 9, 10 of the table; 7, 8, 21 of the units.
 pub fn withdraw(live: &mut [u16; LIVE_WORDS], a: u16, b: u16) -> u32
     ensures number { λ r. ⌜ r ≡ withdrawAnswer a b (liveIn (now (live .entry))) .number ⌝ }
-    ensures words { λ _. ⌜ now (live .exit) ≡ wordsLeft (withdrawAnswer a b (liveIn (now (live .entry)))) (now (live .entry)) ⌝ }
+    ensures words { λ _. ⌜ now (live .exit)
+        ≡ wordsLeft (withdrawAnswer a b (liveIn (now (live .entry)))) (now (live .entry)) ⌝ }
     ensures live { λ _. ⌜ liveIn (now (live .exit)) ≡ withdrawAnswer a b (liveIn (now (live .entry))) .live ⌝ }
 {
     let given = live_at(live);

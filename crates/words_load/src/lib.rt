@@ -8,21 +8,31 @@ ghost use Rattle.spec_machine.specs.Load.{loadRefusal, storedLoadRefusal, loade
 ghost use Rattle.words_layout.specs.Layout.{stateOf};
 ghost use Rattle.words_load.specs.Begun.{frontBegun, backBegun};
 
-// Of a fresh table: 4 to 6, 15, 16, 7 to 9, 22. The number of the first check that fails, with the words as they were; else 0, and the words of the loaded
-// state.
+// Of a fresh table: 4 to 6, 15, 16, 7 to 9, 22. The number of the first check that fails, with the words as they were;
+// else 0, and the words of the loaded state.
 pub fn load(units: u16, table: &[u16], levels: &[i16], words: &mut [u16; STATE_WORDS]) -> u8
-    ensures number { λ r. ⌜ r ≡ loadRefusal (record { units = units; words = now (table .entry); levels = now (levels .entry) }) ⌝ }
+    ensures number { λ r. ⌜ r ≡ loadRefusal
+        (record { units = units; words = now (table .entry); levels = now (levels .entry) }) ⌝ }
     ensures words { λ _. ⌜ stateOf (now (words .exit))
-        ≡ cond (eqb (loadRefusal (record { units = units; words = now (table .entry); levels = now (levels .entry) })) 0) (loaded (record { units = units; words = now (table .entry); levels = now (levels .entry) })) (stateOf (now (words .entry))) ⌝ }
+        ≡ cond (eqb (loadRefusal (record { units = units; words = now (table .entry); levels = now (levels .entry) }))
+        0) (loaded (record { units = units; words = now (table .entry); levels = now (levels .entry) }))
+        (stateOf (now (words .entry))) ⌝ }
 {
     load_as(true, units, table, levels, words)
 }
 
 // Of a stored table: the same without 22.
 pub fn load_stored(units: u16, table: &[u16], levels: &[i16], words: &mut [u16; STATE_WORDS]) -> u8
-    ensures number { λ r. ⌜ r ≡ storedLoadRefusal (record { units = units; words = now (table .entry); levels = now (levels .entry) }) ⌝ }
+    ensures number { λ r. ⌜ r ≡ storedLoadRefusal
+        (record { units = units; words = now (table .entry); levels = now (levels .entry) }) ⌝ }
     ensures words { λ _. ⌜ stateOf (now (words .exit))
-        ≡ cond (eqb (storedLoadRefusal (record { units = units; words = now (table .entry); levels = now (levels .entry) })) 0) (loaded (record { units = units; words = now (table .entry); levels = now (levels .entry) })) (stateOf (now (words .entry))) ⌝ }
+        ≡ cond (eqb (storedLoadRefusal (record {
+          units = units;
+          words = now (table .entry);
+          levels = now (levels .entry);
+        })) 0)
+        (loaded (record { units = units; words = now (table .entry); levels = now (levels .entry) }))
+        (stateOf (now (words .entry))) ⌝ }
 {
     load_as(false, units, table, levels, words)
 }
@@ -35,9 +45,16 @@ pub fn load_planned(
     parents: &[u16],
     words: &mut [u16; STATE_WORDS],
 ) -> u8
-    ensures number { λ r. ⌜ r ≡ plannedLoadRefusal (record { units = units; words = now (table .entry); levels = now (levels .entry) }) (now (parents .entry)) ⌝ }
+    ensures number { λ r. ⌜ r ≡ plannedLoadRefusal
+        (record { units = units; words = now (table .entry); levels = now (levels .entry) }) (now (parents .entry)) ⌝ }
     ensures words { λ _. ⌜ stateOf (now (words .exit))
-        ≡ cond (eqb (plannedLoadRefusal (record { units = units; words = now (table .entry); levels = now (levels .entry) }) (now (parents .entry))) 0) (plannedLoaded (record { units = units; words = now (table .entry); levels = now (levels .entry) }) (now (parents .entry))) (stateOf (now (words .entry))) ⌝ }
+        ≡ cond (eqb (plannedLoadRefusal (record {
+          units = units;
+          words = now (table .entry);
+          levels = now (levels .entry);
+        }) (now (parents .entry))) 0)
+        (plannedLoaded (record { units = units; words = now (table .entry); levels = now (levels .entry) })
+        (now (parents .entry))) (stateOf (now (words .entry))) ⌝ }
 {
     let refused = load_plan::refusal(units, table, levels, parents);
     if refused != 0 {
@@ -55,8 +72,11 @@ fn lay_planned(
     parents: &[u16],
     words: &mut [u16; STATE_WORDS],
 )
-    requires { ⌜ plannedLoadRefusal (record { units = units; words = now table; levels = now levels }) (now parents) ≡ 0 ⌝ }
-    ensures { λ _. ⌜ stateOf (now (words .exit)) ≡ plannedLoaded (record { units = units; words = now (table .entry); levels = now (levels .entry) }) (now (parents .entry)) ⌝ }
+    requires { ⌜ plannedLoadRefusal (record { units = units; words = now table; levels = now levels }) (now parents)
+        ≡ 0 ⌝ }
+    ensures { λ _. ⌜ stateOf (now (words .exit))
+        ≡ plannedLoaded (record { units = units; words = now (table .entry); levels = now (levels .entry) })
+        (now (parents .entry)) ⌝ }
 {
     lay_loaded(units, table, levels, words);
     let drawn = load_begin::plan(parents);
@@ -73,7 +93,9 @@ fn load_as(
 ) -> u8
     ensures number { λ r. ⌜ r ≡ refusalAs fresh units (now (table .entry)) (now (levels .entry)) ⌝ }
     ensures words { λ _. ⌜ stateOf (now (words .exit))
-        ≡ cond (eqb (refusalAs fresh units (now (table .entry)) (now (levels .entry))) 0) (loaded (record { units = units; words = now (table .entry); levels = now (levels .entry) })) (stateOf (now (words .entry))) ⌝ }
+        ≡ cond (eqb (refusalAs fresh units (now (table .entry)) (now (levels .entry))) 0)
+        (loaded (record { units = units; words = now (table .entry); levels = now (levels .entry) }))
+        (stateOf (now (words .entry))) ⌝ }
 {
     let refused = table::refusal(fresh, units, table, levels);
     if refused != 0 {
@@ -86,7 +108,8 @@ fn load_as(
 // The state of a table that passes, over any words.
 fn lay_loaded(units: u16, table: &[u16], levels: &[i16], words: &mut [u16; STATE_WORDS])
     requires { ⌜ storedRefusal units (now table) (now levels) ≡ 0 ⌝ }
-    ensures { λ _. ⌜ stateOf (now (words .exit)) ≡ loaded (record { units = units; words = now (table .entry); levels = now (levels .entry) }) ⌝ }
+    ensures { λ _. ⌜ stateOf (now (words .exit))
+        ≡ loaded (record { units = units; words = now (table .entry); levels = now (levels .entry) }) ⌝ }
 {
     words_layout::lay_table(units, table, levels, words);
     words_layout::lay_clock(load_begin::clock(), words);

@@ -1,5 +1,5 @@
--- What the call about doubtful links leaves on words: what T-08 asks holds of some reply, and the number that comes back and the word lent for the verdict
--- are that reply's; the word is as it was on a refusal.
+-- What the call about doubtful links leaves on words: what T-08 asks holds of some reply, and the number that comes
+-- back and the word lent for the verdict are that reply's; the word is as it was on a refusal.
 use mathlib.Core.Path.{_≡_}
 use mathlib.Core.List.{List}
 use Prim.Native.Nat.{ℕ}

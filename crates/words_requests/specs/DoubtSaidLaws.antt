@@ -14,9 +14,21 @@ use Rattle.words_requests.specs.DoubtSaid.{DoubtSaid}
 
 module _ (i j : ℕ) (marks : List ℕ) (s : State) (old : ℕ) where
   pub doubt-not-asked : (r : ℕ) → r ≡ doubtRefusal i j (length marks) s → (r ≡ 0 → ⊥) → DoubtSaid i j marks s old old r
-  doubt-not-asked r e h = record { reply = Refused r; right = doubt-refused i j marks s r e h; number = refl; verdict = rw (ne-eqb r 0 h) refl }
+  doubt-not-asked r e h = record {
+    reply = Refused r;
+    right = doubt-refused i j marks s r e h;
+    number = refl;
+    verdict = rw (ne-eqb r 0 h) refl;
+  }
 
-  pub doubt-said : (reply : Verdict) (word : ℕ) → doubtRefusal i j (length marks) s ≡ 0 → length (s .table .ends) ≡ 2048 → numberOf reply ≡ 0
-      → VerdictTold (units s) (links s) (s .table .ends) marks i j reply → word ≡ getD (valuesOf reply) 0 0 → DoubtSaid i j marks s old word 0
+  pub doubt-said : (reply : Verdict) (word : ℕ) → doubtRefusal i j (length marks) s ≡ 0 →
+      length (s .table .ends) ≡ 2048 → numberOf reply ≡ 0
+      → VerdictTold (units s) (links s) (s .table .ends) marks i j reply → word ≡ getD (valuesOf reply) 0 0 →
+      DoubtSaid i j marks s old word 0
   doubt-said reply word none full f T w =
-      record { reply = reply; right = doubt-told i j marks s reply none full f T; number = sym f; verdict = rw (eq-eqb (numberOf reply) 0 f) w }
+      record {
+        reply = reply;
+        right = doubt-told i j marks s reply none full f T;
+        number = sym f;
+        verdict = rw (eq-eqb (numberOf reply) 0 f) w;
+      }

@@ -1,4 +1,5 @@
--- The lifting call on a state in words: its number and the slice, by 10 and 12 of the state and by what `lifting_order` tells of its tables.
+-- The lifting call on a state in words: its number and the slice, by 10 and 12 of the state and by what `lifting_order`
+-- tells of its tables.
 use mathlib.Core.Path.{_≡_, sym, ap, _∙_}
 use mathlib.Core.Bool.{true}
 use mathlib.Core.List.{List}
@@ -20,14 +21,16 @@ module _ (s : State) where
     abbrev pub Said : ℕ → List ℕ → Type 0
     Said number new = (number ≡ numberOf (liftingAnswer p (length out) s .reply)) × (new ≡ lifted p s out)
 
-    said : (answer : Answer) (new : List ℕ) → (answer ≡ liftingAnswer p (length out) s) × (new ≡ lifted p s out) → Said (numberOf (answer .reply)) new
+    said : (answer : Answer) (new : List ℕ) → (answer ≡ liftingAnswer p (length out) s) × (new ≡ lifted p s out) →
+        Said (numberOf (answer .reply)) new
     said answer new t = (ap (λ (a : Answer). numberOf (a .reply)) (t .0), t .1)
 
     pub lifting-early : (r : ℕ) → r ≡ questionRefusal s true → (r ≡ 0 → ⊥) → Said r out
     lifting-early r e h = said _ out (told-early s p out r (early r e) h)
 
     pub lifting-late : (q r : ℕ) (new : List ℕ) → q ≡ questionRefusal s true → q ≡ 0 → length (s .table .ends) ≡ 2048
-        → r ≡ orderRefusal (units s) (links s) (s .table .ends) p (length out) → new ≡ orderWritten (units s) (links s) (s .table .ends) p out → Said r new
+        → r ≡ orderRefusal (units s) (links s) (s .table .ends) p (length out) →
+        new ≡ orderWritten (units s) (links s) (s .table .ends) p out → Said r new
     lifting-late q r new e z long number slice = go (ℕ-discrete r 0)
       where
         none : earlyRefusal s ≡ 0

@@ -28,8 +28,16 @@ passes-said n t out old = go (either (eqb (strongRefusal n t (length out)) 0))
     go (inr e) = rw e refl
 
 -- of the case that the reply is
-pub strong-said : (n : ℕ) (t out : List ℕ) (old : ℕ) (reply x : Numbering) (new : List ℕ) → reply ≡ x → reply ≡ strongReply n t out → new ≡ strongNumbers n t out
+pub strong-said : (n : ℕ) (t out : List ℕ) (old : ℕ) (reply x : Numbering) (new : List ℕ) → reply ≡ x →
+    reply ≡ strongReply n t out → new ≡ strongNumbers n t out
     → numberOf reply ≡ strongRefusal n t (length out)
-    → (numberOf x ≡ strongRefusal n t (length out)) × ((new ≡ strongNumbers n t out) × (passesSaid x old ≡ wordSaid (strongRefusal n t (length out)) (minLabel n t out .1) old))
-strong-said n t out old reply x new is e numbers number =
-    (ap numberOf (sym is) ∙ number, (numbers, ap (λ (y : Numbering). passesSaid y old) (sym is ∙ e) ∙ passes-said n t out old))
+    → (numberOf x ≡ strongRefusal n t (length out))
+    × ((new ≡ strongNumbers n t out)
+    × (passesSaid x old ≡ wordSaid (strongRefusal n t (length out)) (minLabel n t out .1) old))
+strong-said n t out old reply x new is e numbers number = (
+  ap numberOf (sym is) ∙ number,
+  (
+    numbers,
+    ap (λ (y : Numbering). passesSaid y old) (sym is ∙ e) ∙ passes-said n t out old,
+  ),
+)

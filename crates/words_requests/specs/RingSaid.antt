@@ -1,5 +1,6 @@
--- What the call that shows a ring leaves on words: what T-04 asks holds of some reply, and the number that comes back and the word lent for the number of
--- units are that reply's; the word is 0 where there is no ring, and as it was on a refusal.
+-- What the call that shows a ring leaves on words: what T-04 asks holds of some reply, and the number that comes back
+-- and the word lent for the number of units are that reply's; the word is 0 where there is no ring, and as it was on a
+-- refusal.
 use mathlib.Core.Path.{_≡_}
 use mathlib.Core.List.{List}
 use Prim.Native.Nat.{ℕ}

@@ -1,4 +1,5 @@
-// The rounds of each of the stages 1 to 6 on the words of a state: its tables are taken out, changed, and laid down again.
+// The rounds of each of the stages 1 to 6 on the words of a state: its tables are taken out, changed, and laid down
+// again.
 use spec_state::Components;
 use spec_state::Ranking;
 use spec_state::Tour;

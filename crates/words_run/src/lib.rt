@@ -19,8 +19,8 @@ const NOT_KEPT: u32 = 10;
 
 const IS_FINISHED: u32 = 11;
 
-// One round: 10, 11. It calls the stages by itself: what has two callers keeps a frame of its own on the stack, so that the tables of a leap do not stand
-// beside those of stages that are not at work.
+// One round: 10, 11. It calls the stages by itself: what has two callers keeps a frame of its own on the stack, so that
+// the tables of a leap do not stand beside those of stages that are not at work.
 pub fn round(words: &mut [u16; STATE_WORDS]) -> u32
     ensures number { λ r. ⌜ r ≡ numberOf (roundAnswer (stateOf (now (words .entry))) .reply) ⌝ }
     ensures words { λ _. ⌜ stateOf (now (words .exit)) ≡ roundAnswer (stateOf (now (words .entry))) .state ⌝ }
@@ -55,7 +55,8 @@ pub fn run(words: &mut [u16; STATE_WORDS], budget: u16, made: &mut u16) -> u32
     ensures number { λ r. ⌜ r ≡ numberOf (runAnswer budget (stateOf (now (words .entry))) .reply) ⌝ }
     ensures words { λ _. ⌜ stateOf (now (words .exit)) ≡ runAnswer budget (stateOf (now (words .entry))) .state ⌝ }
     ensures made { λ _. ⌜ now (made .exit)
-        ≡ cond (eqb (roundRefusal (stateOf (now (words .entry)))) 0) (ran budget 0 (stateOf (now (words .entry))) .1) (now (made .entry)) ⌝ }
+        ≡ cond (eqb (roundRefusal (stateOf (now (words .entry)))) 0) (ran budget 0 (stateOf (now (words .entry))) .1)
+        (now (made .entry)) ⌝ }
 {
     let refused = refusal(words);
     if refused != 0 {

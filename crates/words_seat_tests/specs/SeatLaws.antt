@@ -9,7 +9,8 @@ use lib.ListN.{getD}
 use Rattle.base_lists.specs.Folds.{some}
 use Rattle.base_lists.specs.Some.{some-exact}
 
-pub eight-flags : (f : ℕ → Bool) (b0 b1 b2 b3 b4 b5 b6 b7 : Bool) → b0 ≡ f 0 → b1 ≡ f 1 → b2 ≡ f 2 → b3 ≡ f 3 → b4 ≡ f 4 → b5 ≡ f 5 → b6 ≡ f 6 → b7 ≡ f 7
+pub eight-flags : (f : ℕ → Bool) (b0 b1 b2 b3 b4 b5 b6 b7 : Bool) → b0 ≡ f 0 → b1 ≡ f 1 → b2 ≡ f 2 → b3 ≡ f 3 →
+    b4 ≡ f 4 → b5 ≡ f 5 → b6 ≡ f 6 → b7 ≡ f 7
     → (i : ℕ) → i < 8 → getD (b0 ∷ b1 ∷ b2 ∷ b3 ∷ b4 ∷ b5 ∷ b6 ∷ b7 ∷ []) i false ≡ f i
 eight-flags f b0 b1 b2 b3 b4 b5 b6 b7 e0 e1 e2 e3 e4 e5 e6 e7 = first
   where
@@ -25,7 +26,8 @@ eight-flags f b0 b1 b2 b3 b4 b5 b6 b7 e0 e1 e2 e3 e4 e5 e6 e7 = first
     first (suc zero) h = e1
     first (suc (suc zero)) h = e2
     first (suc (suc (suc zero))) h = e3
-    first (suc (suc (suc (suc i)))) h = let e : 4 + i ≡ suc (suc (suc (suc i))) = omega arith in rw (sym e) (rest i (omega arith))
+    first (suc (suc (suc (suc i)))) h = let e : 4 + i ≡ suc (suc (suc (suc i))) =
+        omega arith in rw (sym e) (rest i (omega arith))
 
 pub search-found : (p : ℕ → Bool) (i n : ℕ) → i < n → p i ≡ true → false ≡ not (some n p)
 search-found p i n h e = rw (some-exact n p .1 (i, h, e)) refl

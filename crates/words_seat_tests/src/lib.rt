@@ -56,7 +56,8 @@ pub fn flags(seats: &[[u16; STATE_WORDS]; 8]) -> [bool; 8]
 
 // Whether all others are empty or kept.
 pub fn others_sound(seats: &[[u16; STATE_WORDS]], but: u16) -> bool
-    ensures { λ r. ⌜ r ≡ not (some (length (now (seats .entry))) (λ (i : ℕ). not (eqb i but) && spoilt (stateOf (getD (now (seats .entry)) i [])))) ⌝ }
+    ensures { λ r. ⌜ r ≡ not (some (length (now (seats .entry)))
+        (λ (i : ℕ). not (eqb i but) && spoilt (stateOf (getD (now (seats .entry)) i [])))) ⌝ }
 {
     let mut i: usize = 0;
     while i < seats.len() {

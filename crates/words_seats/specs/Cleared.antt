@@ -1,5 +1,5 @@
--- Eight seats in words whose unit counts are 0, cleared memory among them, and a new turn are where T-12's promises begin: they hold of whatever loads and
--- ticks make of these words.
+-- Eight seats in words whose unit counts are 0, cleared memory among them, and a new turn are where T-12's promises
+-- begin: they hold of whatever loads and ticks make of these words.
 use mathlib.Core.Path.{_≡_, refl, sym, _∙_}
 use mathlib.Core.List.{List, []}
 use Prim.Native.Nat.{ℕ, _<_}
@@ -21,12 +21,14 @@ first-word : (ws : List ℕ) → units (stateOf ws) ≡ getD ws 0 0
 unfolding stateOf
 first-word ws = sym (number-in 0 2 0 ws (lit< tt))
 
-pub cleared : (words : List (List ℕ)) → length words ≡ 8 → ((i : ℕ) → i < 8 → getD (getD words i []) 0 0 ≡ 0) → Begun (officeOf 7 words)
+pub cleared : (words : List (List ℕ)) → length words ≡ 8 → ((i : ℕ) → i < 8 → getD (getD words i []) 0 0 ≡ 0) →
+    Begun (officeOf 7 words)
 unfolding officeOf
 cleared words l z =
     record {
       eight = length-map words stateOf ∙ l;
-      empty = λ i h. rw (seat-words 7 words i (omega (arith, h, l))) (eq-eqb (units (stateOf (getD words i []))) 0 (first-word (getD words i []) ∙ z i h));
+      empty = λ i h. rw (seat-words 7 words i (omega (arith, h, l)))
+          (eq-eqb (units (stateOf (getD words i []))) 0 (first-word (getD words i []) ∙ z i h));
       turn = refl;
     }
 

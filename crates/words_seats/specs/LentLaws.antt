@@ -10,7 +10,8 @@ use Rattle.words_layout.specs.Layout.{stateOf}
 use Rattle.spec_channel.specs.Office.{seat}
 use Rattle.words_seats.specs.Lent.{officeOf}
 
-map-below : (f : List ℕ → State) (d : State) (l : List (List ℕ)) (i : ℕ) → i < length l → getD (map f l) i d ≡ f (getD l i [])
+map-below : (f : List ℕ → State) (d : State) (l : List (List ℕ)) (i : ℕ) → i < length l →
+    getD (map f l) i d ≡ f (getD l i [])
 map-below f d [] i h = absurd (omega arith)
 map-below f d (x ∷ l) zero h = refl
 map-below f d (x ∷ l) (suc i) h = map-below f d l i (omega arith)
@@ -21,7 +22,8 @@ map-set f (x ∷ l) zero y = refl
 map-set f (x ∷ l) (suc i) y = ap (λ (t : List State). f x ∷ t) (map-set f l i y)
 
 -- the survey in a seat is what its words are
-pub seat-words : (last : ℕ) (words : List (List ℕ)) (i : ℕ) → i < length words → seat i (officeOf last words) ≡ stateOf (getD words i [])
+pub seat-words : (last : ℕ) (words : List (List ℕ)) (i : ℕ) → i < length words →
+    seat i (officeOf last words) ≡ stateOf (getD words i [])
 unfolding officeOf
 seat-words last words i h = map-below stateOf unloaded words i h
 

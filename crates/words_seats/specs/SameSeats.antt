@@ -1,5 +1,6 @@
--- T-12, word for word: eight seats as a caller lends them are known by the office that they are. So what a tick or a load promises of the office settles
--- every lent word: of a seat that it leaves, no word is altered, and of a refused one none at all.
+-- T-12, word for word: eight seats as a caller lends them are known by the office that they are. So what a tick or a
+-- load promises of the office settles every lent word: of a seat that it leaves, no word is altered, and of a refused
+-- one none at all.
 use mathlib.Core.Path.{_≡_, sym, ap, subst, _∙_}
 use mathlib.Core.List.{List, []}
 use Prim.Native.Nat.{ℕ, _<_}
@@ -11,7 +12,8 @@ use Rattle.spec_machine.specs.Step.{step}
 use Rattle.words_layout.specs.Layout.{STATE-WORDS, stateOf}
 use Rattle.words_layout.specs.SameWords.{same-words}
 use Rattle.spec_channel.specs.Office.{Office, seat, served, tickRefusal, tick, seatRefusal, loadSeat}
-use Rattle.spec_channel.specs.OfficeLaws.{tick-made, tick-refused, tick-same, tick-other, served-below, load-same, load-other, load-refused, seat-accepted}
+use Rattle.spec_channel.specs.OfficeLaws.{tick-made, tick-refused, tick-same, tick-other, served-below, load-same}
+use Rattle.spec_channel.specs.OfficeLaws.{load-other, load-refused, seat-accepted}
 use Rattle.words_seats.specs.Lent.{officeOf}
 use Rattle.words_seats.specs.LentLaws.{seat-words}
 
@@ -64,8 +66,10 @@ module _ (old new : List (List ℕ)) (O : Seats old) (N : Seats new) where
   ticked-words last after e =
       record {
         turn = turn;
-        round = λ z. subst (λ (i : ℕ). stateOf (getD new i []) ≡ step (stateOf (getD old i []))) (sym (turn z)) (round z);
-        others = λ z i l h. same-seat new old N O after last i l (ap (seat i) e ∙ tick-other (officeOf last old) i (λ _ q. h (turn z ∙ q)));
+        round = λ z. subst (λ (i : ℕ). stateOf (getD new i []) ≡ step (stateOf (getD old i []))) (sym (turn z))
+            (round z);
+        others = λ z i l h. same-seat new old N O after last i l (ap (seat i) e
+            ∙ tick-other (officeOf last old) i (λ _ q. h (turn z ∙ q)));
         refused = λ h. same-seats new old N O after last (e ∙ tick-refused (officeOf last old) h);
       }
     where
@@ -73,7 +77,8 @@ module _ (old new : List (List ℕ)) (O : Seats old) (N : Seats new) where
       turn z = ap (λ (o : Office). o .last) (e ∙ tick-made (officeOf last old) z)
 
       round : tickRefusal (officeOf last old) ≡ 0
-          → stateOf (getD new (served (officeOf last old)) []) ≡ step (stateOf (getD old (served (officeOf last old)) []))
+          → stateOf (getD new (served (officeOf last old)) [])
+          ≡ step (stateOf (getD old (served (officeOf last old)) []))
       round z =
           let o = officeOf last old in
           let l = served-below o z in
@@ -82,10 +87,13 @@ module _ (old new : List (List ℕ)) (O : Seats old) (N : Seats new) where
           ∙ tick-same o (office-eight last) z
           ∙ ap step (seat-words last old (served o) (omega (arith, O .eight)))
 
-  pub loaded-seat : (i : ℕ) (input : Input) → ((last : ℕ) → officeOf last new ≡ loadSeat i input (officeOf last old)) → LoadedSeat i input old new
+  pub loaded-seat : (i : ℕ) (input : Input) → ((last : ℕ) → officeOf last new ≡ loadSeat i input (officeOf last old)) →
+      LoadedSeat i input old new
   loaded-seat i input e =
       record {
-        survey = λ z. sym (seat-words 0 new i (omega (arith, N .eight, seat-accepted i input z .0))) ∙ ap (seat i) (e 0) ∙ load-same i input (officeOf 0 old) (office-eight 0) z;
-        others = λ z j l h. same-seat new old N O 0 0 j l (ap (seat j) (e 0) ∙ load-other i input (officeOf 0 old) j (λ q _. h q));
+        survey = λ z. sym (seat-words 0 new i (omega (arith, N .eight, seat-accepted i input z .0))) ∙ ap (seat i) (e 0)
+            ∙ load-same i input (officeOf 0 old) (office-eight 0) z;
+        others = λ z j l h. same-seat new old N O 0 0 j l (ap (seat j) (e 0)
+            ∙ load-other i input (officeOf 0 old) j (λ q _. h q));
         refused = λ h. same-seats new old N O 0 0 (e 0 ∙ load-refused i input (officeOf 0 old) h) .1;
       }

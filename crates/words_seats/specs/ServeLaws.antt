@@ -20,9 +20,11 @@ use Rattle.spec_machine.specs.Calls.{numberOf, roundRefusal, roundAnswer}
 use Rattle.words_layout.specs.Layout.{stateOf}
 use Rattle.spec_channel.specs.Turns.{picked}
 use Rattle.spec_channel.specs.TurnLaws.{picked-same}
-use Rattle.spec_channel.specs.Office.{Office, seat, waits, waiting, spoilt, tickRefusal, tick, served, given, seatRefusal, loadSeat}
+use Rattle.spec_channel.specs.Office.{Office, seat, waits, waiting, spoilt, tickRefusal, tick, served, given}
+use Rattle.spec_channel.specs.Office.{seatRefusal, loadSeat}
 use Rattle.spec_channel.specs.OfficeLaws.{waiting-parts, tick-made, load-refused, load-made, seat-missing, seat-there}
-use Rattle.spec_channel.specs.TickLaws.{tick-stays, tick-high, tick-spoilt, tick-over, tick-unkept, tick-given, served-waits}
+use Rattle.spec_channel.specs.TickLaws.{tick-stays, tick-high, tick-spoilt, tick-over, tick-unkept, tick-given}
+use Rattle.spec_channel.specs.TickLaws.{served-waits}
 use Rattle.words_seats.specs.Lent.{officeOf}
 use Rattle.words_seats.specs.LentLaws.{seat-words, words-set}
 
@@ -32,7 +34,8 @@ round-unkept : (s : State) → wellFormed s ≡ false → (numberOf (roundAnswer
 unfolding roundAnswer roundRefusal
 round-unkept s w = rw w (refl, refl)
 
-round-made : (s : State) → wellFormed s ≡ true → finished s ≡ false → (numberOf (roundAnswer s .reply) ≡ 0) × (roundAnswer s .state ≡ step s)
+round-made : (s : State) → wellFormed s ≡ true → finished s ≡ false →
+    (numberOf (roundAnswer s .reply) ≡ 0) × (roundAnswer s .state ≡ step s)
 unfolding roundAnswer roundRefusal
 round-made s w f = rw (w, f) (refl, refl)
 
@@ -41,7 +44,8 @@ round-made s w f = rw (w, f) (refl, refl)
 same-office : (last : ℕ) (words : List (List ℕ)) (i : ℕ) (new : List ℕ) → stateOf new ≡ stateOf (getD words i [])
     → officeOf last (set words i new) ≡ officeOf last words
 unfolding officeOf
-same-office last words i new e = ap (λ (t : List State). record { seats = t; last = last }) (map-set-same stateOf words i new [] e)
+same-office last words i new e = ap (λ (t : List State). record { seats = t; last = last })
+    (map-set-same stateOf words i new [] e)
 
 office-last : (last : ℕ) (words : List (List ℕ)) → officeOf last words .last ≡ last
 unfolding officeOf
@@ -49,18 +53,25 @@ office-last last words = refl
 
 -- one seat replaced, and the turn as it was or moved
 office-laid : (last : ℕ) (words : List (List ℕ)) (i : ℕ) (new : List ℕ) (s : State) → stateOf new ≡ s
-    → officeOf last (set words i new) ≡ record { seats = set (officeOf last words .seats) i s; last = officeOf last words .last }
+    → officeOf last (set words i new) ≡ record {
+      seats = set (officeOf last words .seats) i s;
+      last = officeOf last words .last;
+    }
 unfolding officeOf
-office-laid last words i new s e = words-set last words i new ∙ ap (λ (t : State). record { seats = set (map stateOf words) i t; last = last }) e
+office-laid last words i new s e = words-set last words i new
+    ∙ ap (λ (t : State). record { seats = set (map stateOf words) i t; last = last }) e
 
-office-given : (last : ℕ) (words : List (List ℕ)) (i : ℕ) (new : List ℕ) → stateOf new ≡ step (seat i (officeOf last words))
+office-given : (last : ℕ) (words : List (List ℕ)) (i : ℕ) (new : List ℕ) →
+    stateOf new ≡ step (seat i (officeOf last words))
     → officeOf i (set words i new) ≡ given i (officeOf last words)
 unfolding officeOf
-office-given last words i new e = words-set i words i new ∙ ap (λ (s : State). record { seats = set (map stateOf words) i s; last = i }) e
+office-given last words i new e = words-set i words i new
+    ∙ ap (λ (s : State). record { seats = set (map stateOf words) i s; last = i }) e
 
 -- ---- a tick
 
--- what is known once the turn is found and the other seats are judged: r is served next, and b tells whether the others are sound
+-- what is known once the turn is found and the other seats are judged: r is served next, and b tells whether the others
+-- are sound
 pub record Judged (last : ℕ) (words : List (List ℕ)) (r : ℕ) (b : Bool) : Type 0 where
   pub eight : length words ≡ 8
   pub is : r ≡ served (officeOf last words)
@@ -83,7 +94,8 @@ module _ (last : ℕ) (words : List (List ℕ)) where
     at i h = seat-words last words i (omega arith)
 
     -- the seat that is picked by the flags
-    pub seat-served : (flags : List Bool) (r : ℕ) → ((i : ℕ) → i < 8 → getD flags i false ≡ waiting (stateOf (getD words i [])))
+    pub seat-served : (flags : List Bool) (r : ℕ) →
+        ((i : ℕ) → i < 8 → getD flags i false ≡ waiting (stateOf (getD words i [])))
         → r ≡ picked last (λ (i : ℕ). getD flags i false) → r ≡ served o
     seat-served flags r h e =
         let p : picked last (λ (i : ℕ). getD flags i false) ≡ picked last (waits o) =
@@ -101,7 +113,8 @@ module _ (last : ℕ) (words : List (List ℕ)) where
     told-others e =
         let f : some 8 other ≡ true = not-false (some 8 other) (sym judged ∙ not-true b e) in
         let (i, h, q) = some-exact 8 other .0 f in
-        let s : spoilt (seat i o) ≡ true = rw (at (known .eight) i h) (and-right (not (eqb i r)) (spoilt (stateOf (getD words i []))) q) in
+        let s : spoilt (seat i o) ≡ true =
+        rw (at (known .eight) i h) (and-right (not (eqb i r)) (spoilt (stateOf (getD words i []))) q) in
         tick-stays o 10 (tick-spoilt o i h s) (omega arith)
 
     module _ (clean : not b ≡ false) where
@@ -119,7 +132,8 @@ module _ (last : ℕ) (words : List (List ℕ)) where
       told-over h = tick-stays o 11 (tick-over o low others (rw (sym (known .is)) h)) (omega arith)
 
       module _ (below : r ≤ 7) (number : ℕ) (new : List ℕ)
-          (said : number ≡ numberOf (roundAnswer (stateOf (getD words r [])) .reply)) (left : stateOf new ≡ roundAnswer (stateOf (getD words r [])) .state) where
+          (said : number ≡ numberOf (roundAnswer (stateOf (getD words r [])) .reply))
+          (left : stateOf new ≡ roundAnswer (stateOf (getD words r [])) .state) where
         here : seat (served o) o ≡ stateOf (getD words r [])
         here = rw (sym (known .is)) (at (known .eight) r (omega arith))
 
@@ -132,7 +146,8 @@ module _ (last : ℕ) (words : List (List ℕ)) where
         pub told-refused : (number ≡ 0 → ⊥) → Told number last (set words r new)
         told-refused h = go (either (wellFormed (stateOf (getD words r []))))
           where
-            go : (wellFormed (stateOf (getD words r [])) ≡ true) ⊎ (wellFormed (stateOf (getD words r [])) ≡ false) → Told number last (set words r new)
+            go : (wellFormed (stateOf (getD words r [])) ≡ true) ⊎ (wellFormed (stateOf (getD words r [])) ≡ false) →
+                Told number last (set words r new)
             go (inl w) = absurd (h (said ∙ round-made (stateOf (getD words r [])) w going .0))
             go (inr w) =
                 let u = round-unkept (stateOf (getD words r [])) w in
@@ -142,25 +157,36 @@ module _ (last : ℕ) (words : List (List ℕ)) where
         pub told-given : number ≡ 0 → Told 0 r (set words r new)
         told-given z = go (either (wellFormed (stateOf (getD words r []))))
           where
-            go : (wellFormed (stateOf (getD words r [])) ≡ true) ⊎ (wellFormed (stateOf (getD words r [])) ≡ false) → Told 0 r (set words r new)
-            go (inr w) = let q : _≡_ {A = ℕ} 10 0 = sym (round-unkept (stateOf (getD words r [])) w .0) ∙ (sym said ∙ z) in absurd (omega arith)
+            go : (wellFormed (stateOf (getD words r [])) ≡ true) ⊎ (wellFormed (stateOf (getD words r [])) ≡ false) →
+                Told 0 r (set words r new)
+            go (inr w) = let q : _≡_ {A = ℕ} 10 0 =
+                sym (round-unkept (stateOf (getD words r [])) w .0) ∙ (sym said ∙ z) in absurd (omega arith)
             go (inl w) =
                 let m = round-made (stateOf (getD words r [])) w going in
                 let e : tickRefusal o ≡ 0 = tick-given o low others due (rw here w) in
-                let step-here : stateOf new ≡ step (seat r o) = left ∙ (m .1 ∙ ap step (sym (at (known .eight) r (omega arith)))) in
-                (sym e, office-given last words r new step-here ∙ (ap (λ (i : ℕ). given i o) (known .is) ∙ sym (tick-made o e)))
+                let step-here : stateOf new ≡ step (seat r o) =
+                left ∙ (m .1 ∙ ap step (sym (at (known .eight) r (omega arith)))) in (
+                  sym e,
+                  office-given last words r new step-here
+                      ∙ (ap (λ (i : ℕ). given i o) (known .is) ∙ sym (tick-made o e)),
+                )
 
 -- ---- a load of a seat
 
 module _ (words : List (List ℕ)) (i : ℕ) (input : Input) where
-  pub load-high : 7 < i → (23 ≡ seatRefusal i input) × ((last : ℕ) → officeOf last words ≡ loadSeat i input (officeOf last words))
+  pub load-high : 7 < i → (23 ≡ seatRefusal i input)
+      × ((last : ℕ) → officeOf last words ≡ loadSeat i input (officeOf last words))
   load-high h =
-      let e : seatRefusal i input ≡ 23 = seat-missing i input h in
-      (sym e, λ last. sym (load-refused i input (officeOf last words) (λ z. let q : _≡_ {A = ℕ} 23 0 = sym e ∙ z in omega arith)))
+      let e : seatRefusal i input ≡ 23 = seat-missing i input h in (
+        sym e,
+        λ last. sym (load-refused i input (officeOf last words) (λ z. let q : _≡_ {A = ℕ} 23 0 = sym e
+            ∙ z in omega arith)),
+      )
 
   pub load-there : i ≤ 7 → (number : ℕ) (new : List ℕ) → number ≡ loadRefusal input
       → stateOf new ≡ cond (eqb (loadRefusal input) 0) (loaded input) (stateOf (getD words i []))
-      → (number ≡ seatRefusal i input) × ((last : ℕ) → officeOf last (set words i new) ≡ loadSeat i input (officeOf last words))
+      → (number ≡ seatRefusal i input) × ((last : ℕ) →
+      officeOf last (set words i new) ≡ loadSeat i input (officeOf last words))
   load-there h number new said left = (said ∙ sym own, λ last. go last (either (eqb (loadRefusal input) 0)))
     where
       own : seatRefusal i input ≡ loadRefusal input
@@ -174,4 +200,5 @@ module _ (words : List (List ℕ)) (i : ℕ) (input : Input) where
           office-laid last words i new (loaded input) l ∙ sym (load-made i input (officeOf last words) z)
       go last (inr e) =
           let l : stateOf new ≡ stateOf (getD words i []) = rw e at left in
-          same-office last words i new l ∙ sym (load-refused i input (officeOf last words) (λ z. eqb-false (loadRefusal input) 0 e (sym own ∙ z)))
+          same-office last words i new l
+          ∙ sym (load-refused i input (officeOf last words) (λ z. eqb-false (loadRefusal input) 0 e (sym own ∙ z)))

@@ -1,6 +1,6 @@
-// Several sites over one channel (T-12): eight seats in words that the caller lends, and whose turn it is. A seat is the words of a survey, empty while its
-// unit count is 0, so that cleared memory is eight empty seats. A number that comes back is that of a refusal, 0 where there was none; on a refusal nothing
-// lent is altered.
+// Several sites over one channel (T-12): eight seats in words that the caller lends, and whose turn it is. A seat is
+// the words of a survey, empty while its unit count is 0, so that cleared memory is eight empty seats. A number that
+// comes back is that of a refusal, 0 where there was none; on a refusal nothing lent is altered.
 
 use words_layout::STATE_WORDS;
 ghost use mathlib.Core.Path.{_≡_};
@@ -16,11 +16,13 @@ pub struct Served {
     pub last: u16,
 }
 
-// A tick: one round to the seat whose turn it is. 10, 11. A caller in Rattle takes `serve`; this one is also for Rust and C, to whom it is exported.
+// A tick: one round to the seat whose turn it is. 10, 11. A caller in Rattle takes `serve`; this one is also for Rust
+// and C, to whom it is exported.
 #[no_mangle]
 pub extern "C" fn tick(turn: &mut Turn, seats: &mut [[u16; STATE_WORDS]; 8]) -> u32
     ensures { λ r. ⌜ (r ≡ tickRefusal (officeOf (now (turn .entry) .last) (now (seats .entry))))
-        × (officeOf (now (turn .exit) .last) (now (seats .exit)) ≡ tick (officeOf (now (turn .entry) .last) (now (seats .entry)))) ⌝ }
+        × (officeOf (now (turn .exit) .last) (now (seats .exit))
+        ≡ tick (officeOf (now (turn .entry) .last) (now (seats .entry)))) ⌝ }
 {
     let last = turn.last;
     let r = serve(last, seats);
@@ -61,9 +63,11 @@ pub fn load(
     table: &[u16],
     levels: &[i16],
 ) -> u32
-    ensures number { λ r. ⌜ r ≡ seatRefusal seat (record { units = units; words = now (table .entry); levels = now (levels .entry) }) ⌝ }
+    ensures number { λ r. ⌜ r ≡ seatRefusal seat
+        (record { units = units; words = now (table .entry); levels = now (levels .entry) }) ⌝ }
     ensures seats { λ _. ⌜ ((last : ℕ) → officeOf last (now (seats .exit))
-        ≡ loadSeat seat (record { units = units; words = now (table .entry); levels = now (levels .entry) }) (officeOf last (now (seats .entry)))) ⌝ }
+        ≡ loadSeat seat (record { units = units; words = now (table .entry); levels = now (levels .entry) })
+        (officeOf last (now (seats .entry)))) ⌝ }
 {
     if 7 < seat {
         return 23;

@@ -26,15 +26,22 @@ loop-again : tie.Need-loop-again Inv-loop μ-loop
 loop-again c =
     let l = c .before .before in
     let s = l .before in
-    let a = s .args in
-    (search needs, search needs, rw (l .loop .inv .2) (carry-next (a .from .now) (a .words .now) (a .at) (a .count) (a .place) (s .pre .0) (l .loop .i) (search needs) (s .pre .1)))
+    let a = s .args in (
+      search needs,
+      search needs,
+      rw (l .loop .inv .2)
+          (carry-next (a .from .now) (a .words .now) (a .at) (a .count) (a .place) (s .pre .0) (l .loop .i)
+          (search needs)
+          (s .pre .1)),
+    )
 
 returns : tie.Need-returns Inv-loop μ-loop
 returns c =
     let l = c .before in
     let s = l .before in
     let a = s .args in
-    l .loop .inv .2 ∙ carry-end (a .from .now) (a .words .now) (a .at) (a .count) (a .place) (s .pre .0) (l .loop .i) (omega arith)
+    l .loop .inv .2 ∙ carry-end (a .from .now) (a .words .now) (a .at) (a .count) (a .place) (s .pre .0) (l .loop .i)
+    (omega arith)
 
 pub carry-spec : {M : Type 1} → statement M
 carry-spec =

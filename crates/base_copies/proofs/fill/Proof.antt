@@ -18,7 +18,8 @@ many n x = length-replicate n x
 
 abbrev Inv-loop : tie.InvT-loop
 Inv-loop x at count words₀ i₀ words i =
-    (i ≤ count) × (length words ≡ length words₀) × (at + count ≤ length words₀) × (words ≡ paste words₀ at (replicate count x) i)
+    (i ≤ count) × (length words ≡ length words₀) × (at + count ≤ length words₀)
+    × (words ≡ paste words₀ at (replicate count x) i)
 
 abbrev μ-loop : tie.MeasureT-loop
 μ-loop x at count words₀ i₀ words i = count - i
@@ -26,13 +27,18 @@ abbrev μ-loop : tie.MeasureT-loop
 returns : tie.Need-returns Inv-loop μ-loop
 returns c =
     let a = c .before .before .before .args in
-    let far : leb (a .at + a .count) (length (a .words .now)) ≡ false = sym (c .before .fits2 .ensures) ∙ not-true _ (c .if1 .taken) in
+    let far : leb (a .at + a .count) (length (a .words .now)) ≡ false =
+    sym (c .before .fits2 .ensures) ∙ not-true _ (c .if1 .taken) in
     laid-out (a .at) (replicate (a .count) (a .x)) (a .words .now) (rw (many (a .count) (a .x)) far)
 
 loop-holds : tie.Need-loop-holds Inv-loop μ-loop
 loop-holds c =
-    let a = c .before .before .before .args in
-    (omega arith, refl, leb-true _ _ (sym (c .before .fits2 .ensures) ∙ not-false _ (c .if1 .left)), paste-zero (a .words .now) (a .at) (replicate (a .count) (a .x)))
+    let a = c .before .before .before .args in (
+      omega arith,
+      refl,
+      leb-true _ _ (sym (c .before .fits2 .ensures) ∙ not-false _ (c .if1 .left)),
+      paste-zero (a .words .now) (a .at) (replicate (a .count) (a .x)),
+    )
 
 loop-again : tie.Need-loop-again Inv-loop μ-loop
 loop-again c =
@@ -42,7 +48,8 @@ loop-again c =
       search needs,
       search needs,
       i .2,
-      rw (i .3) (paste-next (a .words .now) (replicate (a .count) (a .x)) (a .at) (l .loop .i) (a .x) (sym (getD-replicate (a .count) (l .loop .i) (a .x) 0 (c .loop-test .taken)))
+      rw (i .3) (paste-next (a .words .now) (replicate (a .count) (a .x)) (a .at) (l .loop .i) (a .x)
+          (sym (getD-replicate (a .count) (l .loop .i) (a .x) 0 (c .loop-test .taken)))
           (omega (arith, many (a .count) (a .x), c .loop-test .taken)) (omega (arith, many (a .count) (a .x), i .2))),
     )
 
@@ -51,7 +58,8 @@ returns-2 c =
     let l = c .before in
     let a = l .before .before .before .before .args in
     let i = l .loop .inv in
-    i .3 ∙ paste-end (a .words .now) (replicate (a .count) (a .x)) (a .at) (l .loop .i) (omega (arith, many (a .count) (a .x), i .0, c .loop-test .left)) (omega (arith, many (a .count) (a .x), i .2))
+    i .3 ∙ paste-end (a .words .now) (replicate (a .count) (a .x)) (a .at) (l .loop .i)
+    (omega (arith, many (a .count) (a .x), i .0, c .loop-test .left)) (omega (arith, many (a .count) (a .x), i .2))
 
 pub fill-spec : {M : Type 1} → statement M
 fill-spec =

@@ -9,7 +9,8 @@ use Rattle.base_copies.proofs.lay_first.Statement.{statement}
 use Rattle.base_copies.proofs.lay_first.Tie as tie
 
 abbrev Inv-loop : tie.InvT-loop
-Inv-loop count table words₀ v₀ words v = (v ≤ count) × (length words ≡ length words₀) × (words ≡ over v (λ (i : ℕ). getD table i 0) words₀)
+Inv-loop count table words₀ v₀ words v =
+    (v ≤ count) × (length words ≡ length words₀) × (words ≡ over v (λ (i : ℕ). getD table i 0) words₀)
 
 abbrev μ-loop : tie.MeasureT-loop
 μ-loop count table words₀ v₀ words v = count - v
@@ -21,8 +22,12 @@ loop-again : tie.Need-loop-again Inv-loop μ-loop
 loop-again c =
     let at-word = c .before .before .before in
     let at-loop = at-word .before .before .before in
-    let start = at-loop .before .before .before in
-    (search needs, search needs, over-more _ (λ (i : ℕ). getD (start .args .table .now) i 0) _ _ _ _ (at-loop .loop .inv .2) (at-word .word .ensures) (c .before .before .put .ensures))
+    let start = at-loop .before .before .before in (
+      search needs,
+      search needs,
+      over-more _ (λ (i : ℕ). getD (start .args .table .now) i 0) _ _ _ _
+          (at-loop .loop .inv .2) (at-word .word .ensures) (c .before .before .put .ensures),
+    )
 
 returns : tie.Need-returns Inv-loop μ-loop
 returns c = c .before .loop .inv .2 ∙ over-all _ _ _ _ (c .before .loop .inv .0) (c .loop-test .left)

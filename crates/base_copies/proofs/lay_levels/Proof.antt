@@ -32,13 +32,21 @@ abbrev μ-loop : tie.MeasureT-loop
 returns : tie.Need-returns Inv-loop μ-loop
 returns c =
     let a = c .before .before .before .args in
-    let far : leb (a .at + length (a .levels .now)) (length (a .words .now)) ≡ false = sym (c .before .fits2 .ensures) ∙ not-true _ (c .if1 .taken) in
-    (laid-out (a .at) (toWords (a .levels .now)) (a .words .now) (rw (length-words (a .levels .now)) far), λ l. absurd (omega (arith, l, leb-false (a .at + length (a .levels .now)) (length (a .words .now)) far)))
+    let far : leb (a .at + length (a .levels .now)) (length (a .words .now)) ≡ false =
+    sym (c .before .fits2 .ensures) ∙ not-true _ (c .if1 .taken) in (
+      laid-out (a .at) (toWords (a .levels .now)) (a .words .now) (rw (length-words (a .levels .now)) far),
+      λ l. absurd (omega (arith, l, leb-false (a .at + length (a .levels .now)) (length (a .words .now)) far)),
+    )
 
 loop-holds : tie.Need-loop-holds Inv-loop μ-loop
 loop-holds c =
-    let a = c .before .before .before .args in
-    (omega arith, refl, leb-true _ _ (sym (c .before .fits2 .ensures) ∙ not-false _ (c .if1 .left)), paste-zero (a .words .now) (a .at) (toWords (a .levels .now)), back-none (a .levels .now))
+    let a = c .before .before .before .args in (
+      omega arith,
+      refl,
+      leb-true _ _ (sym (c .before .fits2 .ensures) ∙ not-false _ (c .if1 .left)),
+      paste-zero (a .words .now) (a .at) (toWords (a .levels .now)),
+      back-none (a .levels .now),
+    )
 
 loop-again : tie.Need-loop-again Inv-loop μ-loop
 loop-again c =
@@ -49,11 +57,13 @@ loop-again c =
     let v = l .loop .inv in
     let h = c .before .before .loop-test .taken in
     let f = c .before .level .given in
-    let w = c .word-of .ensures ∙ ap levelWord (toZ-ofZ w16 (getD ls i (pos 0)) (record { sfits = f })) ∙ word-at ls i h in (
+    let w = c .word-of .ensures ∙ ap levelWord (toZ-ofZ w16 (getD ls i (pos 0)) (record { sfits = f }))
+    ∙ word-at ls i h in (
       search needs,
       search needs,
       v .2,
-      rw (v .3) (paste-next (a .words .now) (toWords ls) (a .at) i (c .word-of .result) w (omega (arith, length-words ls, h)) (omega (arith, length-words ls, v .2))),
+      rw (v .3) (paste-next (a .words .now) (toWords ls) (a .at) i (c .word-of .result) w
+          (omega (arith, length-words ls, h)) (omega (arith, length-words ls, v .2))),
       back-next ls i h f (v .4),
     )
 
@@ -63,8 +73,11 @@ returns-2 c =
     let a = l .before .before .before .before .args in
     let ls = a .levels .now in
     let v = l .loop .inv in
-    let e : l .loop .i ≡ length ls = omega (arith, v .0, c .loop-test .left) in
-    (v .3 ∙ paste-end (a .words .now) (toWords ls) (a .at) (l .loop .i) (omega (arith, length-words ls, e)) (omega (arith, length-words ls, v .2)), λ _. rw (e, take-length ls) at (v .4))
+    let e : l .loop .i ≡ length ls = omega (arith, v .0, c .loop-test .left) in (
+      v .3 ∙ paste-end (a .words .now) (toWords ls) (a .at) (l .loop .i) (omega (arith, length-words ls, e))
+          (omega (arith, length-words ls, v .2)),
+      λ _. rw (e, take-length ls) at (v .4),
+    )
 
 pub lay-levels-spec : {M : Type 1} → statement M
 lay-levels-spec =

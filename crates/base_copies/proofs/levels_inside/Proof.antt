@@ -14,7 +14,8 @@ use Rattle.base_copies.proofs.levels_inside.Statement.{statement}
 use Rattle.base_copies.proofs.levels_inside.Tie as tie
 
 abbrev Inv-loop : tie.InvT-loop
-Inv-loop words at to₀ i₀ to i = (i ≤ length to₀) × (length to ≡ length to₀) × (to ≡ fromWords (part at i words) ++ drop i to₀)
+Inv-loop words at to₀ i₀ to i = (i ≤ length to₀) × (length to ≡ length to₀)
+    × (to ≡ fromWords (part at i words) ++ drop i to₀)
 
 abbrev μ-loop : tie.MeasureT-loop
 μ-loop words at to₀ i₀ to i = length to₀ - i
@@ -32,7 +33,11 @@ loop-again c =
     let w = getD (a .words .now) (a .at + l .loop .i) 0 in (
       search needs,
       search needs,
-      rw (c .of-word .ensures, toZ-ofZ w16 (wordLevel w) (record { sfits = level-small w }), l .loop .inv .2) (levels-next (a .words .now) (a .to .now) (a .at) (l .loop .i) (search needs) (start .pre)),
+      rw (
+        c .of-word .ensures,
+        toZ-ofZ w16 (wordLevel w) (record { sfits = level-small w }),
+        l .loop .inv .2,
+      ) (levels-next (a .words .now) (a .to .now) (a .at) (l .loop .i) (search needs) (start .pre)),
     )
 
 returns : tie.Need-returns Inv-loop μ-loop

@@ -16,7 +16,8 @@ returns c =
     let p = c .before .before in
     let st = p .before in
     let o = st .before .before .before in
-    level-fault (o .args .stream .now) (o .args .cursor) (p .part .result) (p .part .ensures ∙ ap (partAt (o .args .stream .now) (o .args .cursor)) (st .start .ensures)) (c .if1 .taken)
+    level-fault (o .args .stream .now) (o .args .cursor) (p .part .result) (p .part .ensures
+    ∙ ap (partAt (o .args .stream .now) (o .args .cursor)) (st .start .ensures)) (c .if1 .taken)
 
 returns-2 : tie.Need-returns-2
 returns-2 c =
@@ -24,7 +25,8 @@ returns-2 c =
     let p = i .before .before in
     let st = p .before in
     let o = st .before .before .before in
-    level-great (o .args .stream .now) (o .args .cursor) (p .part .result) (p .part .ensures ∙ ap (partAt (o .args .stream .now) (o .args .cursor)) (st .start .ensures)) (i .if1 .left) (c .if2 .taken)
+    level-great (o .args .stream .now) (o .args .cursor) (p .part .result) (p .part .ensures
+    ∙ ap (partAt (o .args .stream .now) (o .args .cursor)) (st .start .ensures)) (i .if1 .left) (c .if2 .taken)
 
 returns-3 : tie.Need-returns-3
 returns-3 c =
@@ -34,8 +36,10 @@ returns-3 c =
     let st = p .before in
     let b = st .before in
     let o = b .before .before in
-    let fits : mag (c .signed .result) < 32768 = rw (c .signed .ensures) (signed-small (eqb (b .byte .result) 45) (p .part .result .value) (i .if2 .left)) in
-    level-read (o .args .stream .now) (o .args .cursor) (p .part .result) (p .part .ensures ∙ ap (partAt (o .args .stream .now) (o .args .cursor)) (st .start .ensures)) _ (if .if1 .left) (i .if2 .left)
+    let fits : mag (c .signed .result) < 32768 =
+    rw (c .signed .ensures) (signed-small (eqb (b .byte .result) 45) (p .part .result .value) (i .if2 .left)) in
+    level-read (o .args .stream .now) (o .args .cursor) (p .part .result) (p .part .ensures
+    ∙ ap (partAt (o .args .stream .now) (o .args .cursor)) (st .start .ensures)) _ (if .if1 .left) (i .if2 .left)
     (toZ-ofZ w16 (c .signed .result) (record { sfits = fits }) ∙ (c .signed .ensures ∙ rw (b .byte .ensures) refl))
 
 pub next-level-spec : {M : Type 1} → statement M

@@ -16,7 +16,8 @@ returns-2 c =
     let r = c .before in
     let i = r .before in
     let o = i .before .before in
-    part-empty (o .args .stream .now) (o .args .cursor) (o .args .from) (r .read .result .end) (i .if1 .left) (r .read .ensures .1) (c .if2 .taken)
+    part-empty (o .args .stream .now) (o .args .cursor) (o .args .from) (r .read .result .end) (i .if1 .left)
+    (r .read .ensures .1) (c .if2 .taken)
 
 returns-3 : tie.Need-returns-3
 returns-3 c =
@@ -25,7 +26,8 @@ returns-3 c =
     let r = i .before in
     let if = r .before in
     let o = if .before .before in
-    part-open (o .args .stream .now) (o .args .cursor) (o .args .from) (r .read .result .end) (if .if1 .left) (r .read .ensures .1) (i .if2 .left) (sym (cl .closed .ensures) ∙ not-true (cl .closed .result) (c .if3 .taken))
+    part-open (o .args .stream .now) (o .args .cursor) (o .args .from) (r .read .result .end) (if .if1 .left)
+    (r .read .ensures .1) (i .if2 .left) (sym (cl .closed .ensures) ∙ not-true (cl .closed .result) (c .if3 .taken))
 
 returns-4 : tie.Need-returns-4
 returns-4 c =
@@ -35,7 +37,9 @@ returns-4 c =
     let r = if .before in
     let if1 = r .before in
     let o = if1 .before .before in
-    part-read (o .args .stream .now) (o .args .cursor) (o .args .from) (r .read .result .end) (if1 .if1 .left) (r .read .ensures .1) (r .read .result .value) (c .after .result) (if .if2 .left) (sym (cl .closed .ensures) ∙ not-false (cl .closed .result) (i .if3 .left)) (r .read .ensures .0) (c .after .ensures)
+    part-read (o .args .stream .now) (o .args .cursor) (o .args .from) (r .read .result .end) (if1 .if1 .left)
+    (r .read .ensures .1) (r .read .result .value) (c .after .result) (if .if2 .left) (sym (cl .closed .ensures)
+    ∙ not-false (cl .closed .result) (i .if3 .left)) (r .read .ensures .0) (c .after .ensures)
 
 pub part-spec : {M : Type 1} → statement M
 part-spec =

@@ -23,19 +23,24 @@ returns : tie.Need-returns Inv-loop μ-loop
 returns c =
     let s = c .before .before in
     let a = s .before .args in
-    picked-found (a .last) (λ (i : ℕ). getD (a .t2) i false) (s .loop .d) (search needs) (c .if1 .taken) (s .loop .inv .1)
+    picked-found (a .last) (λ (i : ℕ). getD (a .t2) i false) (s .loop .d) (search needs) (c .if1 .taken)
+    (s .loop .inv .1)
 
 loop-again : tie.Need-loop-again Inv-loop μ-loop
 loop-again c =
     let s = c .before .before in
-    let a = s .before .args in
-    (search needs, one-more (λ (j : ℕ). getD (a .t2) (seatAfter (a .last) j) false) (s .loop .d) (s .loop .inv .1) (c .if1 .left))
+    let a = s .before .args in (
+      search needs,
+      one-more (λ (j : ℕ). getD (a .t2) (seatAfter (a .last) j) false) (s .loop .d) (s .loop .inv .1)
+          (c .if1 .left),
+    )
 
 returns-2 : tie.Need-returns-2 Inv-loop μ-loop
 returns-2 c =
     let s = c .before in
     let a = s .before .args in
-    picked-none (a .last) (λ (i : ℕ). getD (a .t2) i false) (λ j h. s .loop .inv .1 j (omega (arith, c .loop-test .left)))
+    picked-none (a .last) (λ (i : ℕ). getD (a .t2) i false)
+    (λ j h. s .loop .inv .1 j (omega (arith, c .loop-test .left)))
 
 pub pick-spec : {M : Type 1} → statement M
 pick-spec =

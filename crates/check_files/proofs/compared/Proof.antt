@@ -6,7 +6,8 @@ use Rattle.check_files.proofs.compared.Statement.{statement}
 use Rattle.check_files.proofs.compared.Tie as tie
 
 slice-aggregate-same : tie.Need-slice-aggregate-same
-slice-aggregate-same c = sym (length-take-le (c .before .before .before .before .args .end) (c .before .before .before .before .args .copy .now) (search needs))
+slice-aggregate-same c = sym (length-take-le (c .before .before .before .before .args .end)
+    (c .before .before .before .before .args .copy .now) (search needs))
 
 pub compared-spec : {M : Type 1} → statement M
 compared-spec =

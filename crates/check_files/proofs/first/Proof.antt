@@ -6,7 +6,8 @@ use Rattle.check_files.proofs.first.Statement.{statement}
 use Rattle.check_files.proofs.first.Tie as tie
 
 slice-aggregate-again : tie.Need-slice-aggregate-again
-slice-aggregate-again c = sym (length-take-le (c .before .before .before .args .end) (c .before .before .before .args .copy .now) (search needs))
+slice-aggregate-again c = sym (length-take-le (c .before .before .before .args .end)
+    (c .before .before .before .args .copy .now) (search needs))
 
 pub first-spec : {M : Type 1} → statement M
 first-spec =

@@ -6,7 +6,8 @@ use Rattle.check_vectors.proofs.front_is.Statement.{statement}
 use Rattle.check_vectors.proofs.front_is.Tie as tie
 
 slice-aggregate-same : tie.Need-slice-aggregate-same
-slice-aggregate-same c = sym (length-take-le (c .before .before .before .before .args .count) (c .before .before .before .before .args .out .now) (search needs))
+slice-aggregate-same c = sym (length-take-le (c .before .before .before .before .args .count)
+    (c .before .before .before .before .args .out .now) (search needs))
 
 pub front-is-spec : {M : Type 1} → statement M
 front-is-spec =

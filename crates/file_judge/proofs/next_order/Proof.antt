@@ -22,12 +22,20 @@ returns-4 : tie.Need-returns-4
 returns-4 c = rw (c .before .before .if3 .left, sym (c .before .is-link .ensures) ∙ c .if4 .taken)
 
 returns-5 : tie.Need-returns-5
-returns-5 c = rw (c .before .before .before .if3 .left, sym (c .before .before .is-link .ensures) ∙ c .before .if4 .left, c .if5 .taken)
+returns-5 c = rw (
+  c .before .before .before .if3 .left,
+  sym (c .before .before .is-link .ensures) ∙ c .before .if4 .left,
+  c .if5 .taken,
+)
 
 returns-6 : tie.Need-returns-6
 returns-6 c =
     let kind = c .before .before .before .before .before .args .kind in
-    rw (c .before .before .before .if3 .left, sym (c .before .before .is-link .ensures) ∙ c .before .if4 .left, ne-eqb kind END (c .if5 .left))
+    rw (
+      c .before .before .before .if3 .left,
+      sym (c .before .before .is-link .ensures) ∙ c .before .if4 .left,
+      ne-eqb kind END (c .if5 .left),
+    )
 
 pub next-order-spec : {M : Type 1} → statement M
 next-order-spec =

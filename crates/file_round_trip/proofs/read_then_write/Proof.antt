@@ -25,34 +25,40 @@ start r = r .before .before .before .before .before .before
 
 -- the reply of the reading where a file was accepted, and its words and levels
 found : (c : tie.After-known-told2)
-    → readReply (start (took c) .args .file .now) (length (start (took c) .args .words .now)) (length (start (took c) .args .levels .now)) ≡ Read (c .before .found2 .given .0 .0) (c .before .found2 .given .0 .1 .0)
+    → readReply (start (took c) .args .file .now) (length (start (took c) .args .words .now))
+    (length (start (took c) .args .levels .now))
+    ≡ Read (c .before .found2 .given .0 .0) (c .before .found2 .given .0 .1 .0)
 found c = sym (took c .read .ensures .0) ∙ c .before .found2 .given .1
 
 long : (c : tie.After-known-told2) → 2 * (c .before .found2 .given .0 .1 .0) ≤ length (took c .read .last .1 .0)
 long c =
     let a = start (took c) .args in
     let g = c .before .found2 .given .0 in
-    let fits = read-long (a .file .now) (length (a .words .now)) (length (a .levels .now)) (g .0) (g .1 .0) (found c) (a .words .now) refl in
+    let fits = read-long (a .file .now) (length (a .words .now)) (length (a .levels .now)) (g .0) (g .1 .0) (found c)
+    (a .words .now) refl in
     omega (arith, fits, took c .read .kept)
 
 longLevels : (c : tie.After-known-told2) → c .before .found2 .given .0 .1 .0 ≤ length (took c .read .last .1 .1 .0)
 longLevels c =
     let a = start (took c) .args in
     let g = c .before .found2 .given .0 in
-    let fits = read-long-levels (a .file .now) (length (a .words .now)) (length (a .levels .now)) (g .0) (g .1 .0) (found c) (a .levels .now) refl in
+    let fits = read-long-levels (a .file .now) (length (a .words .now)) (length (a .levels .now)) (g .0) (g .1 .0)
+    (found c) (a .levels .now) refl in
     omega (arith, fits, took c .read .kept)
 
 slice-reshare-prefix-write : tie.Need-slice-reshare-prefix-write
 slice-reshare-prefix-write c = long c
 
 slice-aggregate-write : tie.Need-slice-aggregate-write
-slice-aggregate-write c = sym (length-take-le (2 * (c .before .before .found2 .given .0 .1 .0)) (took (c .before) .read .last .1 .0) (long (c .before)))
+slice-aggregate-write c = sym (length-take-le (2 * (c .before .before .found2 .given .0 .1 .0))
+    (took (c .before) .read .last .1 .0) (long (c .before)))
 
 slice-reshare-prefix-write-2 : tie.Need-slice-reshare-prefix-write-2
 slice-reshare-prefix-write-2 c = longLevels (c .before)
 
 slice-aggregate-write-2 : tie.Need-slice-aggregate-write-2
-slice-aggregate-write-2 c = sym (length-take-le (c .before .before .before .found2 .given .0 .1 .0) (took (c .before .before) .read .last .1 .1 .0) (longLevels (c .before .before)))
+slice-aggregate-write-2 c = sym (length-take-le (c .before .before .before .found2 .given .0 .1 .0)
+    (took (c .before .before) .read .last .1 .1 .0) (longLevels (c .before .before)))
 
 returns : tie.Need-returns
 returns c =
@@ -69,7 +75,10 @@ returns c =
         r .read .ensures .1 .0,
         (
           r .read .ensures .1 .1 .0,
-          (rewrite-kept (a .file .now) places spaces k e (a .copy .now), rewrite-tells (a .file .now) places spaces chars (Writing.Refused k) reply),
+          (
+            rewrite-kept (a .file .now) places spaces k e (a .copy .now),
+            rewrite-tells (a .file .now) places spaces chars (Writing.Refused k) reply,
+          ),
         ),
       ),
     )
@@ -86,17 +95,21 @@ returns-2 c =
     let places = length (a .words .now) in
     let spaces = length (a .levels .now) in
     let chars = length (a .copy .now) in
-    let front = ap (take (2 * m)) (r .ensures .1 .0) ∙ read-front (a .file .now) places spaces u m e (a .words .now) refl in
-    let levels = ap (take m) (r .ensures .1 .1 .0) ∙ read-front-levels (a .file .now) places spaces u m e (a .levels .now) refl in
+    let front = ap (take (2 * m)) (r .ensures .1 .0)
+    ∙ read-front (a .file .now) places spaces u m e (a .words .now) refl in
+    let levels = ap (take m) (r .ensures .1 .1 .0)
+    ∙ read-front-levels (a .file .now) places spaces u m e (a .levels .now) refl in
     let reply =
-    w .ensures .0 ∙ ap₂ (λ (l : List ℕ) (z : List ℤ). writeReply u l z chars) front levels ∙ rewrite-written (a .file .now) places spaces u m e chars in (
+    w .ensures .0 ∙ ap₂ (λ (l : List ℕ) (z : List ℤ). writeReply u l z chars) front levels
+    ∙ rewrite-written (a .file .now) places spaces u m e chars in (
       reply,
       (
         r .ensures .1 .0,
         (
           r .ensures .1 .1 .0,
           (
-            w .ensures .1 .0 ∙ ap₂ (λ (l : List ℕ) (z : List ℤ). writtenFile u l z (a .copy .now)) front levels ∙ rewrite-bytes (a .file .now) places spaces u m e (a .copy .now),
+            w .ensures .1 .0 ∙ ap₂ (λ (l : List ℕ) (z : List ℤ). writtenFile u l z (a .copy .now)) front levels
+                ∙ rewrite-bytes (a .file .now) places spaces u m e (a .copy .now),
             rewrite-tells (a .file .now) places spaces chars (w .result) reply,
           ),
         ),

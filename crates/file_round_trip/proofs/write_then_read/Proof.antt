@@ -6,7 +6,8 @@ use native.Mathlib.Omega.{arith}
 use lib.ListN.{length, take}
 use lib.Seq.{length-take-le}
 use Rattle.file_spec.specs.File.{writeReply, readReply, readWords, readLevels}
-use Rattle.file_round_trip.specs.TripLaws.{copy-refused, copy-kept, copy-kept-levels, written-front, written-long, copy-read, copy-words, copy-levels}
+use Rattle.file_round_trip.specs.TripLaws.{copy-refused, copy-kept, copy-kept-levels, written-front, written-long}
+use Rattle.file_round_trip.specs.TripLaws.{copy-read, copy-words, copy-levels}
 use Rattle.file_spec.specs.declared.Writing.the-variants.{Written}
 use Rattle.file_spec.specs.Replies.{copy-tells}
 use Rattle.file_spec.specs.declared.Reading.{Reading}
@@ -23,20 +24,23 @@ start w = w .before .before .before .before .before
 
 -- the reply of the writing where a file was written, and its characters
 done : (c : tie.After-known-told2)
-    → writeReply (start (wrote c) .args .units) (start (wrote c) .args .words .now) (start (wrote c) .args .levels .now) (length (start (wrote c) .args .file .now)) ≡ Written (c .before .done2 .given .0 .0)
+    → writeReply (start (wrote c) .args .units) (start (wrote c) .args .words .now) (start (wrote c) .args .levels .now)
+    (length (start (wrote c) .args .file .now)) ≡ Written (c .before .done2 .given .0 .0)
 done c = sym (wrote c .write .ensures .0) ∙ c .before .done2 .given .1
 
 long : (c : tie.After-known-told2) → c .before .done2 .given .0 .0 ≤ length (wrote c .write .last .1 .1 .1 .0)
 long c =
     let a = start (wrote c) .args in
-    let fits = written-long (a .units) (a .words .now) (a .levels .now) (length (a .file .now)) (c .before .done2 .given .0 .0) (done c) (a .file .now) refl in
+    let fits = written-long (a .units) (a .words .now) (a .levels .now) (length (a .file .now))
+    (c .before .done2 .given .0 .0) (done c) (a .file .now) refl in
     omega (arith, fits, wrote c .write .kept)
 
 slice-reshare-prefix-read : tie.Need-slice-reshare-prefix-read
 slice-reshare-prefix-read c = long c
 
 slice-aggregate-read : tie.Need-slice-aggregate-read
-slice-aggregate-read c = sym (length-take-le (c .before .before .done2 .given .0 .0) (wrote (c .before) .write .last .1 .1 .1 .0) (long (c .before)))
+slice-aggregate-read c = sym (length-take-le (c .before .before .done2 .given .0 .0)
+    (wrote (c .before) .write .last .1 .1 .1 .0) (long (c .before)))
 
 returns : tie.Need-returns
 returns c =
@@ -72,15 +76,19 @@ returns-2 c =
     let chars = length (a .file .now) in
     let places = length (a .copy .now) in
     let spaces = length (a .copied .now) in
-    let front = ap (take m) (w .write .ensures .1 .0) ∙ written-front (a .units) (a .words .now) (a .levels .now) chars m e (a .file .now) refl in
-    let reply = r .ensures .0 ∙ ap (λ (l : List ℕ). readReply l places spaces) front ∙ copy-read (a .units) (a .words .now) (a .levels .now) chars m e places spaces in (
+    let front = ap (take m) (w .write .ensures .1 .0)
+    ∙ written-front (a .units) (a .words .now) (a .levels .now) chars m e (a .file .now) refl in
+    let reply = r .ensures .0 ∙ ap (λ (l : List ℕ). readReply l places spaces) front
+    ∙ copy-read (a .units) (a .words .now) (a .levels .now) chars m e places spaces in (
       reply,
       (
         w .write .ensures .1 .0,
         (
-          r .ensures .1 .0 ∙ ap (λ (l : List ℕ). readWords l (a .copy .now) spaces) front ∙ copy-words (a .units) (a .words .now) (a .levels .now) chars m e (a .copy .now) spaces,
+          r .ensures .1 .0 ∙ ap (λ (l : List ℕ). readWords l (a .copy .now) spaces) front
+              ∙ copy-words (a .units) (a .words .now) (a .levels .now) chars m e (a .copy .now) spaces,
           (
-            r .ensures .1 .1 .0 ∙ ap (λ (l : List ℕ). readLevels l places (a .copied .now)) front ∙ copy-levels (a .units) (a .words .now) (a .levels .now) chars m e places (a .copied .now),
+            r .ensures .1 .1 .0 ∙ ap (λ (l : List ℕ). readLevels l places (a .copied .now)) front
+                ∙ copy-levels (a .units) (a .words .now) (a .levels .now) chars m e places (a .copied .now),
             copy-tells (a .units) (a .words .now) (a .levels .now) chars places spaces (r .result) reply,
           ),
         ),

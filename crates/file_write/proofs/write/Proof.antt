@@ -6,7 +6,8 @@ use lib.ListN.{length}
 use Rattle.table.specs.Table.{linkCount}
 use Rattle.table.specs.Passes.{passes, table-alone}
 use Rattle.file_spec.specs.File.{writeRefusal}
-use Rattle.file_write.specs.WriteLaws.{write-refused, bytes-refused, written-stored, written-one, written-fits, write-accepted, bytes-accepted}
+use Rattle.file_write.specs.WriteLaws.{write-refused, bytes-refused, written-stored, written-one, written-fits}
+use Rattle.file_write.specs.WriteLaws.{write-accepted, bytes-accepted}
 use Rattle.file_spec.specs.Replies.{write-tells}
 use Rattle.file_spec.specs.declared.Writing.{Writing}
 use Rattle.file_spec.specs.declared.Writing.the-variants.{Written}
@@ -14,30 +15,42 @@ use borrow.Author.Needs.{needs}
 use Rattle.file_write.proofs.write.Statement.{statement}
 use Rattle.file_write.proofs.write.Tie as tie
 
-accepted : (c : tie.Else1) → writeRefusal (c .before .before .before .before .args .units) (c .before .before .before .before .args .words .now) (c .before .before .before .before .args .levels .now) (length (c .before .before .before .before .args .out .now)) ≡ 0
+accepted : (c : tie.Else1) → writeRefusal (c .before .before .before .before .args .units)
+    (c .before .before .before .before .args .words .now) (c .before .before .before .before .args .levels .now)
+    (length (c .before .before .before .before .args .out .now)) ≡ 0
 accepted c = sym (c .before .refusal .ensures) ∙ c .if1 .left
 
 few : (c : tie.Else1) → linkCount (c .before .before .before .before .args .words .now) ≤ 1024
 few c =
     let a = c .before .before .before .before .args in
-    passes (a .units) (a .words .now) (table-alone (a .units) (a .words .now) (a .levels .now) (written-stored (a .units) (a .words .now) (a .levels .now) (length (a .out .now)) (accepted c))) .fewLinks
+    passes (a .units) (a .words .now) (table-alone (a .units) (a .words .now) (a .levels .now)
+    (written-stored (a .units) (a .words .now) (a .levels .now) (length (a .out .now)) (accepted c))) .fewLinks
 
 returns : tie.Need-returns
 returns c =
     let a = c .before .before .before .before .args in
     let r = c .before .refusal in
-    let reply = write-refused (a .units) (a .words .now) (a .levels .now) (length (a .out .now)) (r .result) (r .ensures) (c .if1 .taken) in (
+    let reply = write-refused (a .units) (a .words .now) (a .levels .now) (length (a .out .now)) (r .result)
+    (r .ensures) (c .if1 .taken) in (
       reply,
       (
-        bytes-refused (a .units) (a .words .now) (a .levels .now) (a .out .now) (r .result) (r .ensures) (c .if1 .taken),
-        write-tells (a .units) (a .words .now) (a .levels .now) (length (a .out .now)) (Writing.Refused (r .result)) reply,
+        bytes-refused (a .units) (a .words .now) (a .levels .now) (a .out .now) (r .result) (r .ensures)
+            (c .if1 .taken),
+        write-tells (a .units) (a .words .now) (a .levels .now) (length (a .out .now))
+            (Writing.Refused (r .result)) reply,
       ),
     )
 
 lines-requires : tie.Need-lines-requires
 lines-requires c κs =
-    let a = c .before .before .before .before .before .args in
-    (record { few = few (c .before); one = written-one (a .units) (a .words .now) (a .levels .now) (length (a .out .now)) (accepted (c .before)) }, written-fits (a .units) (a .words .now) (a .levels .now) (length (a .out .now)) (accepted (c .before)))
+    let a = c .before .before .before .before .before .args in (
+      record {
+        few = few (c .before);
+        one = written-one (a .units) (a .words .now) (a .levels .now)
+            (length (a .out .now)) (accepted (c .before));
+      },
+      written-fits (a .units) (a .words .now) (a .levels .now) (length (a .out .now)) (accepted (c .before)),
+    )
 
 mul-t12 : tie.Need-mul-t12
 mul-t12 c = omega (arith, few (c .before .before .before .before))
@@ -56,7 +69,8 @@ returns-2 c =
       reply,
       (
         c .before .before .lines .ensures ∙ bytes-accepted (a .units) (a .words .now) (a .levels .now) (a .out .now) e,
-        write-tells (a .units) (a .words .now) (a .levels .now) (length (a .out .now)) (Written (18 + 15 * (length (a .words .now) / 2))) reply,
+        write-tells (a .units) (a .words .now) (a .levels .now) (length (a .out .now))
+            (Written (18 + 15 * (length (a .words .now) / 2))) reply,
       ),
     )
 

@@ -11,7 +11,8 @@ use Rattle.leap_least.proofs.leap.Statement.{statement}
 use Rattle.leap_least.proofs.leap.Tie as tie
 
 -- what was found is right, and the budget and the ceiling cover it
-sure : (c : tie.Else1) → (c .before .before .before .before .found .result .right && c .before .before .covers .result) ≡ true
+sure : (c : tie.Else1) → (c .before .before .before .before .found .result .right && c .before .before .covers .result)
+    ≡ true
 sure c = sym (c .before .both .ensures) ∙ not-false _ (c .if1 .left)
 
 covers-requires : tie.Need-covers-requires

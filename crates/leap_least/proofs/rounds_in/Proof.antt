@@ -8,8 +8,10 @@ use Rattle.leap_least.proofs.rounds_in.Tie as tie
 
 returns : tie.Need-returns
 returns c =
-    let a = c .before .before .args in
-    (rw (eq-eqb (a .made) 0 (c .before .if1 .taken), c .greatest-of .ensures) refl, omega (arith, c .greatest-of .ensures, c .before .before .fits .rounds))
+    let a = c .before .before .args in (
+      rw (eq-eqb (a .made) 0 (c .before .if1 .taken), c .greatest-of .ensures) refl,
+      omega (arith, c .greatest-of .ensures, c .before .before .fits .rounds),
+    )
 
 returns-2 : tie.Need-returns-2
 returns-2 c =

@@ -16,8 +16,10 @@ returns c =
     let s = r .before .before in
     let start = s .before .before .before .before .before in
     let a = start .args in (
-      found-by (a .arcs) (a .t2) (a .t3) _ _ _ _ _ _ _ _ _ _ (start .pre) (omega (arith, start .pre, start .good .1 .0)) (omega (arith, start .pre, start .good .1 .1 .0))
-          (s .sums .ensures) (r .ranks .ensures) (own .numbers-ok .ensures) (whole .numbers-ok2 .ensures) (k .keys-right .ensures) (q .asked .ensures .0) (q .asked .ensures .1 .0)
+      found-by (a .arcs) (a .t2) (a .t3) _ _ _ _ _ _ _ _ _ _ (start .pre) (omega (arith, start .pre, start .good .1 .0))
+          (omega (arith, start .pre, start .good .1 .1 .0))
+          (s .sums .ensures) (r .ranks .ensures) (own .numbers-ok .ensures) (whole .numbers-ok2 .ensures)
+          (k .keys-right .ensures) (q .asked .ensures .0) (q .asked .ensures .1 .0)
           (b .both .ensures) (c .both2 .ensures),
       q .asked .ensures .1 .1,
     )

@@ -18,8 +18,11 @@ abbrev μ-loop : tie.MeasureT-loop
 loop-again : tie.Need-loop-again Inv-loop μ-loop
 loop-again c =
     let s = c .before .before .before in
-    let a = s .before .args in
-    (search needs, over-more (s .loop .v) (λ (u : ℕ). lastIn (getD (a .key .now) u 0)) _ _ _ _ (s .loop .inv .1) (c .last-in .ensures) refl)
+    let a = s .before .args in (
+      search needs,
+      over-more (s .loop .v) (λ (u : ℕ). lastIn (getD (a .key .now) u 0)) _ _ _ _ (s .loop .inv .1)
+          (c .last-in .ensures) refl,
+    )
 
 returns : tie.Need-returns Inv-loop μ-loop
 returns c = c .before .loop .inv .1 ∙ over-all _ _ _ _ (c .before .loop .inv .0) (c .loop-test .left)

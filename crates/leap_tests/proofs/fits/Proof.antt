@@ -27,7 +27,12 @@ slice-aggregate-all-below c =
     rw (length-take (2 * a .pairs) (a .ends .now)) (omega arith)
 
 returns-5 : tie.Need-returns-5
-returns-5 c = λ e. (search needs, search needs, within-all _ _ _ (search needs) (sym (c .all-below .ensures) ∙ e), search needs)
+returns-5 c = λ e. (
+  search needs,
+  search needs,
+  within-all _ _ _ (search needs) (sym (c .all-below .ensures) ∙ e),
+  search needs,
+)
 
 pub fits-spec : {M : Type 1} → statement M
 fits-spec =

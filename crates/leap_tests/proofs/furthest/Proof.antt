@@ -18,8 +18,11 @@ abbrev μ-loop : tie.MeasureT-loop
 loop-again : tie.Need-loop-again Inv-loop μ-loop
 loop-again c =
     let s = c .before .before .before .before in
-    let a = s .before .args in
-    (search needs, fold-more (λ (u : ℕ). waitIn (getD (a .key .now) u 0)) (s .loop .v) (s .loop .most) (c .greatest-of .result) (s .loop .inv .1) (rw (c .before .wait-in .ensures) at (c .greatest-of .ensures)))
+    let a = s .before .args in (
+      search needs,
+      fold-more (λ (u : ℕ). waitIn (getD (a .key .now) u 0)) (s .loop .v) (s .loop .most)
+          (c .greatest-of .result) (s .loop .inv .1) (rw (c .before .wait-in .ensures) at (c .greatest-of .ensures)),
+    )
 
 returns : tie.Need-returns Inv-loop μ-loop
 returns c = rw (le-antisymm (c .before .loop .inv .0) (c .loop-test .left)) at (c .before .loop .inv .1)

@@ -5,7 +5,12 @@ use Rattle.leap_tests.proofs.leads.Statement.{statement}
 use Rattle.leap_tests.proofs.leads.Tie as tie
 
 returns : tie.Need-returns
-returns c = rw (c .either .ensures, c .before .before .before .both .ensures, c .before .both2 .ensures, c .before .before .before .before .before .sooner .ensures) refl
+returns c = rw (
+  c .either .ensures,
+  c .before .before .before .both .ensures,
+  c .before .both2 .ensures,
+  c .before .before .before .before .before .sooner .ensures,
+) refl
 
 pub leads-spec : {M : Type 1} → statement M
 leads-spec =

@@ -17,8 +17,11 @@ returns c =
 leads-requires : tie.Need-leads-requires
 leads-requires c κs =
     let e = c .before .before in
-    let s = e .before .before in
-    (s .pre .0, s .pre .2 .1 (2 * s .args .j) (omega (arith, e .if1 .left)), s .pre .2 .1 (2 * s .args .j + 1) (omega (arith, e .if1 .left)))
+    let s = e .before .before in (
+      s .pre .0,
+      s .pre .2 .1 (2 * s .args .j) (omega (arith, e .if1 .left)),
+      s .pre .2 .1 (2 * s .args .j + 1) (omega (arith, e .if1 .left)),
+    )
 
 returns-2 : tie.Need-returns-2
 unfolding led

@@ -10,7 +10,8 @@ use Rattle.leap_tests.proofs.pairs_right.Statement.{statement}
 use Rattle.leap_tests.proofs.pairs_right.Tie as tie
 
 abbrev Inv-loop : tie.InvT-loop
-Inv-loop pairs ends key most₀ j₀ most j = (j ≤ pairs) × (most ≤ 2 → (i : ℕ) → i < j → Close (getD key (endA ends i) 0) (getD key (endB ends i) 0))
+Inv-loop pairs ends key most₀ j₀ most j =
+    (j ≤ pairs) × (most ≤ 2 → (i : ℕ) → i < j → Close (getD key (endA ends i) 0) (getD key (endB ends i) 0))
 
 abbrev μ-loop : tie.MeasureT-loop
 μ-loop pairs ends key most₀ j₀ most j = pairs - j
@@ -21,14 +22,20 @@ loop-holds c = (omega arith, λ e i h. absurd (omega arith))
 apart-requires : tie.Need-apart-requires Inv-loop μ-loop
 apart-requires c κs =
     let g = c .before .before in
-    let p = g .before .before .before .pre .1 in
-    (p (2 * g .before .loop .j) (omega (arith, g .loop-test .taken)), p (2 * g .before .loop .j + 1) (omega (arith, g .loop-test .taken)))
+    let p = g .before .before .before .pre .1 in (
+      p (2 * g .before .loop .j) (omega (arith, g .loop-test .taken)),
+      p (2 * g .before .loop .j + 1) (omega (arith, g .loop-test .taken)),
+    )
 
 loop-again : tie.Need-loop-again Inv-loop μ-loop
 loop-again c =
     let s = c .before .before .before .before .before in
-    let a = s .before .before .args in
-    (search needs, bound-more (λ (i : ℕ). Close (getD (a .key .now) (endA (a .ends .now) i) 0) (getD (a .key .now) (endB (a .ends .now) i) 0)) (s .loop .j) (s .loop .most) (c .greater .result) (c .before .apart .result) (s .loop .inv .1) (c .before .apart .ensures) (c .greater .ensures))
+    let a = s .before .before .args in (
+      search needs,
+      bound-more (λ (i : ℕ). Close (getD (a .key .now) (endA (a .ends .now) i) 0)
+          (getD (a .key .now) (endB (a .ends .now) i) 0)) (s .loop .j) (s .loop .most) (c .greater .result)
+          (c .before .apart .result) (s .loop .inv .1) (c .before .apart .ensures) (c .greater .ensures),
+    )
 
 returns : tie.Need-returns Inv-loop μ-loop
 returns c = λ e i h. c .before .loop .inv .1 (leb-true _ 2 e) i (omega (arith, h, c .loop-test .left))

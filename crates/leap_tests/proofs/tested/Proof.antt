@@ -25,7 +25,13 @@ fine : (c : tie.Else1) → Fine c
 fine c =
     let f = c .before .fits2 .ensures (not-false _ (c .if1 .left)) in
     let a = start c .args in
-    record { units = f .0; pairs = f .1; within = f .2; few = within-few (a .units) (a .pairs) (a .ends .now) (f .0) (f .2); room = f .3 }
+    record {
+      units = f .0;
+      pairs = f .1;
+      within = f .2;
+      few = within-few (a .units) (a .pairs) (a .ends .now) (f .0) (f .2);
+      room = f .3;
+    }
 
 returns : tie.Need-returns
 returns c = (λ t. absurd (false≢true t), λ _. refl)
@@ -56,8 +62,10 @@ returns-3 c =
     let f = p .before in
     let g = fine (f .before) in
     let a = start (f .before) .args in (
-      λ _. found-by (a .units) (a .pairs) (a .ends .now) (a .value .now) (a .key .now) (a .via .now) _ _ _ _ _ _ (g .room) (g .within) (p .pairs-right .ensures) (u .units-right .ensures)
-          (f .furthest .ensures) (c .end .ensures) (b .both .ensures) (t .before .both2 .ensures) (not-false _ (t .if2 .left)),
+      λ _. found-by (a .units) (a .pairs) (a .ends .now) (a .value .now) (a .key .now) (a .via .now) _ _ _ _ _ _
+          (g .room) (g .within) (p .pairs-right .ensures) (u .units-right .ensures)
+          (f .furthest .ensures) (c .end .ensures) (b .both .ensures) (t .before .both2 .ensures)
+          (not-false _ (t .if2 .left)),
       λ e. absurd (true≢false e),
     )
 

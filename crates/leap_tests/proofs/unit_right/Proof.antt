@@ -13,7 +13,10 @@ returns c =
     let w = c .before in
     let l = w .before .before in
     let a = l .before .before .before .before .args in
-    rw (eq-eqb (waitIn (getD (a .key .now) (a .v) 0)) 0 (sym (w .wait-in .ensures) ∙ c .if1 .taken), l .last-in .ensures) refl
+    rw (
+      eq-eqb (waitIn (getD (a .key .now) (a .v) 0)) 0 (sym (w .wait-in .ensures) ∙ c .if1 .taken),
+      l .last-in .ensures,
+    ) refl
 
 returns-2 : tie.Need-returns-2
 unfolding unitRight
@@ -23,7 +26,12 @@ returns-2 c =
     let w = e .before in
     let l = w .before .before in
     let a = l .before .before .before .before .args in
-    rw (ne-eqb (waitIn (getD (a .key .now) (a .v) 0)) 0 (λ q. e .if1 .left (w .wait-in .ensures ∙ q)), c .both .ensures, l .last-in .ensures, led .led .ensures) refl
+    rw (
+      ne-eqb (waitIn (getD (a .key .now) (a .v) 0)) 0 (λ q. e .if1 .left (w .wait-in .ensures ∙ q)),
+      c .both .ensures,
+      l .last-in .ensures,
+      led .led .ensures,
+    ) refl
 
 pub unit-right-spec : {M : Type 1} → statement M
 unit-right-spec =

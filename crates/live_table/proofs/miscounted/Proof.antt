@@ -29,14 +29,18 @@ loop-again c =
     let right : c .before .word2 .result ≡ countedAt (a .links) (a .words .now) (s .loop .v) =
     c .before .word2 .ensures ∙ rw (r .ensures) (counts-at (a .links) (a .words .now) (s .loop .v) (search needs)) in
     let is : not (eqb (c .before .before .before .word .result) (c .before .word2 .result)) ≡ wrong (s .loop .v) =
-    rw (c .before .before .before .word .ensures, right) refl in
-    (search needs, some-more (s .loop .v) wrong (s .loop .wrong) (c .either .result) _ (s .loop .inv .1) is (c .either .ensures))
+    rw (c .before .before .before .word .ensures, right) refl in (
+      search needs,
+      some-more (s .loop .v) wrong (s .loop .wrong) (c .either .result) _ (s .loop .inv .1) is
+          (c .either .ensures),
+    )
 
 returns : tie.Need-returns Inv-loop μ-loop
 returns c =
     let s = c .before in
     let a = s .before .before .before .before .args in
-    miscounted-all (a .links) (a .words .now) (a .counts .now) (s .loop .v) (s .loop .wrong) (s .loop .inv .1) (s .loop .inv .0) (search needs)
+    miscounted-all (a .links) (a .words .now) (a .counts .now) (s .loop .v) (s .loop .wrong) (s .loop .inv .1)
+    (s .loop .inv .0) (search needs)
 
 pub miscounted-spec : {M : Type 1} → statement M
 miscounted-spec =

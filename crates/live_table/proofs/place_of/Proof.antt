@@ -23,15 +23,18 @@ returns c =
     let s = c .before .before .before .before .before in
     let a = s .before .before .args in
     let here : placeOf (a .a) (a .b) (drop (s .loop .i) (a .words .now)) ≡ 0 =
-    place-here (a .a) (a .b) (a .words .now) (s .loop .i) (search needs) (sym (c .before .same-ends .ensures) ∙ c .if1 .taken) in
+    place-here (a .a) (a .b) (a .words .now) (s .loop .i) (search needs) (sym (c .before .same-ends .ensures)
+    ∙ c .if1 .taken) in
     omega (arith, s .loop .inv .2, here)
 
 loop-again : tie.Need-loop-again Inv-loop μ-loop
 loop-again c =
     let s = c .before .before .before .before .before in
     let a = s .before .before .args in
-    let later : placeOf (a .a) (a .b) (drop (s .loop .i) (a .words .now)) ≡ suc (placeOf (a .a) (a .b) (drop (s .loop .i + 2) (a .words .now))) =
-    place-later (a .a) (a .b) (a .words .now) (s .loop .i) (search needs) (sym (c .before .same-ends .ensures) ∙ c .if1 .left) in
+    let later : placeOf (a .a) (a .b) (drop (s .loop .i) (a .words .now))
+    ≡ suc (placeOf (a .a) (a .b) (drop (s .loop .i + 2) (a .words .now))) =
+    place-later (a .a) (a .b) (a .words .now) (s .loop .i) (search needs) (sym (c .before .same-ends .ensures)
+    ∙ c .if1 .left) in
     (search needs, search needs, omega (arith, s .loop .inv .2, later))
 
 returns-2 : tie.Need-returns-2 Inv-loop μ-loop

@@ -26,8 +26,10 @@ returns c =
     let a = h .before .before .before .args in
     let w = a .words .now in
     let count = h .held .result in
-    let same : take count w ≡ take (length (a .to .now)) w = held-words (length (a .to .now)) count w (h .held .ensures) in
-    rw same at (laid-front (take count w) (a .to .now) (k .lay .ensures) (rw (length-take count w) (omega (arith, h .held .ensures))))
+    let same : take count w ≡ take (length (a .to .now)) w =
+    held-words (length (a .to .now)) count w (h .held .ensures) in
+    rw same at (laid-front (take count w) (a .to .now) (k .lay .ensures)
+    (rw (length-take count w) (omega (arith, h .held .ensures))))
 
 pub first-words-spec : {M : Type 1} → statement M
 first-words-spec =

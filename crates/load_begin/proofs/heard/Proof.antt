@@ -15,7 +15,11 @@ slice-aggregate-levels-in c =
 levels-in-requires : tie.Need-levels-in-requires
 levels-in-requires c κs =
     let w = c .before .before .before .before .args .levels .now in
-    rw (length-take (c .before .before .held .result) w, c .before .before .before .silent .ensures, length-silences 1024) (omega (arith, c .before .before .held .ensures))
+    rw (
+      length-take (c .before .before .held .result) w,
+      c .before .before .before .silent .ensures,
+      length-silences 1024,
+    ) (omega (arith, c .before .before .held .ensures))
 
 returns : tie.Need-returns
 returns c =

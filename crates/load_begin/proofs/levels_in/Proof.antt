@@ -30,7 +30,11 @@ loop-again c =
     let z = getD (a .levels .now) (l .loop .i) (pos 0) in (
       search needs,
       search needs,
-      rw (toZ-ofZ w16 z (record { sfits = c .level .given }), l .loop .inv .2) (copy-one (a .levels .now) (a .heard .now) (l .loop .i) (pos 0) (search needs) (l .before .pre)),
+      rw (
+        toZ-ofZ w16 z (record { sfits = c .level .given }),
+        l .loop .inv .2,
+      ) (copy-one (a .levels .now) (a .heard .now) (l .loop .i) (pos 0) (search needs)
+          (l .before .pre)),
     )
 
 returns : tie.Need-returns Inv-loop μ-loop

@@ -20,11 +20,17 @@ loop-again c =
     let one = two .before .before in
     let w = one .before in
     let s = w .before .before in
-    let a = s .before .before .before .args in
-    (search needs, differ-more (a .table .now) (a .tops .now) (s .loop .j) (s .loop .apart) (c .either .result) (one .at .result) (two .at2 .result) (s .loop .inv .1) (rw (w .word .ensures) at (one .at .ensures)) (rw (two .before .word2 .ensures) at (two .at2 .ensures)) (c .either .ensures))
+    let a = s .before .before .before .args in (
+      search needs,
+      differ-more (a .table .now) (a .tops .now) (s .loop .j) (s .loop .apart) (c .either .result)
+          (one .at .result) (two .at2 .result) (s .loop .inv .1) (rw (w .word .ensures) at (one .at .ensures))
+          (rw (two .before .word2 .ensures) at (two .at2 .ensures)) (c .either .ensures),
+    )
 
 returns : tie.Need-returns Inv-loop μ-loop
-returns c = let s = c .before in let a = s .before .before .before .args in s .loop .inv .1 ∙ some-all _ _ (topsDiffer (a .table .now) (a .tops .now)) (s .loop .inv .0) (c .loop-test .left)
+returns c = let s = c .before in let a =
+    s .before .before .before .args in s .loop .inv .1
+    ∙ some-all _ _ (topsDiffer (a .table .now) (a .tops .now)) (s .loop .inv .0) (c .loop-test .left)
 
 pub splits-spec : {M : Type 1} → statement M
 splits-spec =

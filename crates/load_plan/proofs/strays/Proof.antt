@@ -22,11 +22,18 @@ loop-again c =
     let near = top .before in
     let up = near .before in
     let s = up .before .before in
-    let a = s .before .before .before .before .args in
-    (search needs, stray-more (a .parents .now) (a .near .now) (a .tops .now) (s .loop .v) (s .loop .astray) (c .either2 .result) (b .both .result) (w .either .result) (up .at .result) (near .at2 .result) (top .at3 .result) (s .loop .inv .1) (up .at .ensures) (near .at2 .ensures) (top .at3 .ensures) (b .both .ensures) (w .either .ensures) (c .either2 .ensures))
+    let a = s .before .before .before .before .args in (
+      search needs,
+      stray-more (a .parents .now) (a .near .now) (a .tops .now) (s .loop .v) (s .loop .astray)
+          (c .either2 .result) (b .both .result) (w .either .result) (up .at .result) (near .at2 .result)
+          (top .at3 .result) (s .loop .inv .1) (up .at .ensures) (near .at2 .ensures) (top .at3 .ensures)
+          (b .both .ensures) (w .either .ensures) (c .either2 .ensures),
+    )
 
 returns : tie.Need-returns Inv-loop μ-loop
-returns c = let s = c .before in let a = s .before .before .before .before .args in s .loop .inv .1 ∙ some-all _ _ (stray (a .parents .now) (a .near .now) (a .tops .now)) (s .loop .inv .0) (c .loop-test .left)
+returns c = let s = c .before in let a =
+    s .before .before .before .before .args in s .loop .inv .1
+    ∙ some-all _ _ (stray (a .parents .now) (a .near .now) (a .tops .now)) (s .loop .inv .0) (c .loop-test .left)
 
 pub strays-spec : {M : Type 1} → statement M
 strays-spec =

@@ -14,7 +14,8 @@ returns c =
     let start = ne .before .before .before in
     let a = start .args in
     rw (c .either .ensures, sp .splits .ensures, st .strays .ensures)
-    (unfit-by (a .units) (a .links) (a .table .now) (a .parents .now) (ne .near .result) (to .tops .result) (start .pre .0) (start .pre .2) (ne .near .ensures) (to .tops .ensures))
+    (unfit-by (a .units) (a .links) (a .table .now) (a .parents .now) (ne .near .result) (to .tops .result)
+    (start .pre .0) (start .pre .2) (ne .near .ensures) (to .tops .ensures))
 
 pub unfit-spec : {M : Type 1} → statement M
 unfit-spec =

@@ -9,21 +9,24 @@ returns : tie.Need-returns
 returns c =
     let p = c .before in
     let o = p .before .before in
-    p .pair-refusal .ensures ∙ strong-table (o .args .units) (o .args .links .now) (o .args .words) (λ z. c .if1 .taken (p .pair-refusal .ensures ∙ z))
+    p .pair-refusal .ensures ∙ strong-table (o .args .units) (o .args .links .now) (o .args .words)
+    (λ z. c .if1 .taken (p .pair-refusal .ensures ∙ z))
 
 returns-2 : tie.Need-returns-2
 returns-2 c =
     let i = c .before in
     let p = i .before in
     let o = p .before .before in
-    strong-short (o .args .units) (o .args .links .now) (o .args .words) (sym (p .pair-refusal .ensures) ∙ i .if1 .left) (c .if2 .taken)
+    strong-short (o .args .units) (o .args .links .now) (o .args .words) (sym (p .pair-refusal .ensures)
+    ∙ i .if1 .left) (c .if2 .taken)
 
 returns-3 : tie.Need-returns-3
 returns-3 c =
     let i = c .before in
     let p = i .before in
     let o = p .before .before in
-    strong-passed (o .args .units) (o .args .links .now) (o .args .words) (sym (p .pair-refusal .ensures) ∙ i .if1 .left) (c .if2 .left)
+    strong-passed (o .args .units) (o .args .links .now) (o .args .words) (sym (p .pair-refusal .ensures)
+    ∙ i .if1 .left) (c .if2 .left)
 
 pub refusal-spec : {M : Type 1} → statement M
 refusal-spec =

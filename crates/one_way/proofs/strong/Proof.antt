@@ -11,8 +11,15 @@ returns c =
     let r = c .before in
     let o = r .before .before .before in
     let k = r .refusal .ensures in
-    let p = strong-refused (o .args .units) (o .args .links .now) (o .args .numbers .now) (r .refusal .result) k (c .if1 .taken) in
-    (p .0, (p .1, strong-tells (o .args .units) (o .args .links .now) (o .args .numbers .now) (Refused (r .refusal .result)) (p .0)))
+    let p = strong-refused (o .args .units) (o .args .links .now) (o .args .numbers .now) (r .refusal .result) k
+    (c .if1 .taken) in (
+      p .0,
+      (
+        p .1,
+        strong-tells (o .args .units) (o .args .links .now) (o .args .numbers .now)
+            (Refused (r .refusal .result)) (p .0),
+      ),
+    )
 
 all-requires : tie.Need-all-requires
 all-requires c κs =
@@ -27,9 +34,16 @@ returns-2 c =
     let i = a .before .before in
     let r = i .before in
     let o = r .before .before .before in
-    let p = strong-accepted (o .args .units) (o .args .links .now) (o .args .numbers .now) (sym (r .refusal .ensures) ∙ i .if1 .left) in
-    let r = ap Passes (a .all .ensures .1) ∙ p .0 in
-    (r, (a .all .ensures .0 ∙ p .1, strong-tells (o .args .units) (o .args .links .now) (o .args .numbers .now) (Passes (a .all .result)) r))
+    let p = strong-accepted (o .args .units) (o .args .links .now) (o .args .numbers .now) (sym (r .refusal .ensures)
+    ∙ i .if1 .left) in
+    let r = ap Passes (a .all .ensures .1) ∙ p .0 in (
+      r,
+      (
+        a .all .ensures .0 ∙ p .1,
+        strong-tells (o .args .units) (o .args .links .now) (o .args .numbers .now)
+            (Passes (a .all .result)) r,
+      ),
+    )
 
 pub strong-spec : {M : Type 1} → statement M
 strong-spec =

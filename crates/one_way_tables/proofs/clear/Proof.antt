@@ -22,14 +22,19 @@ loop-again : tie.Need-loop-again Inv-loop μ-loop
 loop-again c =
     let p = c .before .before in
     let s = p .before .before .before in
-    let o = s .before .before in
-    (search needs, search needs, over-more (s .loop .v) (λ (w : ℕ). NONE) (o .args .out .now) (s .loop .out) _ NONE (s .loop .inv .2) refl (p .put .ensures))
+    let o = s .before .before in (
+      search needs,
+      search needs,
+      over-more (s .loop .v) (λ (w : ℕ). NONE) (o .args .out .now) (s .loop .out) _ NONE
+          (s .loop .inv .2) refl (p .put .ensures),
+    )
 
 returns : tie.Need-returns Inv-loop μ-loop
 returns c =
     let s = c .before in
     let o = s .before .before in
-    s .loop .inv .2 ∙ over-all (s .loop .v) (o .args .units) (λ (w : ℕ). NONE) (o .args .out .now) (search needs) (search needs)
+    s .loop .inv .2 ∙ over-all (s .loop .v) (o .args .units) (λ (w : ℕ). NONE) (o .args .out .now) (search needs)
+    (search needs)
 
 pub clear-spec : {M : Type 1} → statement M
 clear-spec =

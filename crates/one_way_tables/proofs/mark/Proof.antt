@@ -27,14 +27,22 @@ loop-again c =
     let wo = w .before in
     let wor = wo .before .before in
     let s = wor .before .before .before in
-    let o = s .before .before .before .before in
-    (search needs, search needs, marks-more (o .args .f .now) (o .args .b .now) (o .args .out .now) (s .loop .out) _ (s .loop .v) (wo .word2 .result) (w .word3 .result) (wor .word .result) (n .number-of .result) (s .loop .inv .2) (wor .word .ensures) (wo .word2 .ensures) (w .word3 .ensures) (n .number-of .ensures) (p .put .ensures))
+    let o = s .before .before .before .before in (
+      search needs,
+      search needs,
+      marks-more (o .args .f .now) (o .args .b .now) (o .args .out .now) (s .loop .out) _
+          (s .loop .v) (wo .word2 .result) (w .word3 .result) (wor .word .result) (n .number-of .result)
+          (s .loop .inv .2)
+          (wor .word .ensures) (wo .word2 .ensures) (w .word3 .ensures) (n .number-of .ensures) (p .put .ensures),
+    )
 
 returns : tie.Need-returns Inv-loop μ-loop
 returns c =
     let s = c .before in
     let o = s .before .before .before .before in
-    s .loop .inv .2 ∙ over-all (s .loop .v) (o .args .units) (marked (o .args .f .now) (o .args .b .now) (o .args .out .now)) (o .args .out .now) (search needs) (search needs)
+    s .loop .inv .2 ∙ over-all (s .loop .v) (o .args .units)
+    (marked (o .args .f .now) (o .args .b .now) (o .args .out .now)) (o .args .out .now) (search needs)
+    (search needs)
 
 pub mark-spec : {M : Type 1} → statement M
 mark-spec =

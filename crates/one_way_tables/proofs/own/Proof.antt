@@ -19,8 +19,12 @@ loop-holds c = (omega arith, refl, λ j h. absurd (omega arith))
 
 loop-again : tie.Need-loop-again Inv-loop μ-loop
 loop-again c =
-    let s = c .before in
-    (search needs, search needs, entry-more (λ (v : ℕ). v) (s .loop .x) _ (s .loop .v) (s .loop .v) (search needs) (s .loop .inv .2) refl refl)
+    let s = c .before in (
+      search needs,
+      search needs,
+      entry-more (λ (v : ℕ). v) (s .loop .x) _ (s .loop .v) (s .loop .v) (search needs)
+          (s .loop .inv .2) refl refl,
+    )
 
 returns : tie.Need-returns Inv-loop μ-loop
 returns c =

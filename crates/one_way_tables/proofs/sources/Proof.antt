@@ -24,8 +24,13 @@ loop-again : tie.Need-loop-again Inv-loop μ-loop
 loop-again c =
     let w = c .before in
     let s = w .before .before in
-    let o = s .before .before in
-    (search needs, search needs, entry-more (source (o .args .f .now)) (s .loop .x) _ (s .loop .v) (c .choose .result) (search needs) (s .loop .inv .2) (c .choose .ensures ∙ ap (λ (z : ℕ). cond (eqb z (s .loop .v)) (s .loop .v) 65535) (w .word .ensures)) refl)
+    let o = s .before .before in (
+      search needs,
+      search needs,
+      entry-more (source (o .args .f .now)) (s .loop .x) _ (s .loop .v) (c .choose .result)
+          (search needs) (s .loop .inv .2) (c .choose .ensures
+          ∙ ap (λ (z : ℕ). cond (eqb z (s .loop .v)) (s .loop .v) 65535) (w .word .ensures)) refl,
+    )
 
 returns : tie.Need-returns Inv-loop μ-loop
 returns c =

@@ -22,14 +22,18 @@ loop-again : tie.Need-loop-again Inv-loop μ-loop
 loop-again c =
     let w = c .before in
     let s = w .before .before in
-    let o = s .before .before in
-    (search needs, some-more (s .loop .v) (λ (w : ℕ). eqb (getD (o .args .out .now) w 0) 65535) (s .loop .any) (c .either .result) _ (s .loop .inv .1) (ap (λ (z : ℕ). eqb z 65535) (w .word .ensures)) (c .either .ensures))
+    let o = s .before .before in (
+      search needs,
+      some-more (s .loop .v) (λ (w : ℕ). eqb (getD (o .args .out .now) w 0) 65535) (s .loop .any)
+          (c .either .result) _ (s .loop .inv .1) (ap (λ (z : ℕ). eqb z 65535) (w .word .ensures)) (c .either .ensures),
+    )
 
 returns : tie.Need-returns Inv-loop μ-loop
 returns c =
     let s = c .before in
     let o = s .before .before in
-    s .loop .inv .1 ∙ some-all (s .loop .v) (o .args .units) (λ (w : ℕ). eqb (getD (o .args .out .now) w 0) 65535) (search needs) (search needs)
+    s .loop .inv .1 ∙ some-all (s .loop .v) (o .args .units) (λ (w : ℕ). eqb (getD (o .args .out .now) w 0) 65535)
+    (search needs) (search needs)
 
 pub unfinished-spec : {M : Type 1} → statement M
 unfinished-spec =

@@ -11,7 +11,8 @@ use Rattle.report_lines.proofs.link_lines.Statement.{statement}
 use Rattle.report_lines.proofs.link_lines.Tie as tie
 
 abbrev Inv-loop : tie.InvT-loop
-Inv-loop links label lones out₀ pairs j₀ out j = (j ≤ links) × (length out ≡ length out₀) × (out ≡ linesOf j (labelRow label lones) ++ drop (15 * j) out₀)
+Inv-loop links label lones out₀ pairs j₀ out j =
+    (j ≤ links) × (length out ≡ length out₀) × (out ≡ linesOf j (labelRow label lones) ++ drop (15 * j) out₀)
 
 abbrev μ-loop : tie.MeasureT-loop
 μ-loop links label lones out₀ pairs j₀ out j = links - j
@@ -26,7 +27,13 @@ link-at-requires c κs =
     let s = c .before .before .before in
     let at = 15 * s .loop .j in (
       s .before .table .ensures,
-      rw (lent-rest at (s .loop .out)) (omega (arith, length-drop at (s .loop .out), s .loop .inv .1, s .before .before .if1 .left, c .before .before .loop-test .taken)),
+      rw (lent-rest at (s .loop .out)) (omega (
+        arith,
+        length-drop at (s .loop .out),
+        s .loop .inv .1,
+        s .before .before .if1 .left,
+        c .before .before .loop-test .taken,
+      )),
     )
 
 loop-again : tie.Need-loop-again Inv-loop μ-loop
@@ -38,7 +45,12 @@ loop-again c =
       search needs,
       search needs,
       rw (c .before .before .link-at .ensures, s .loop .inv .2, ← further)
-          (lines-next (s .loop .j) body (a .out .now) (15 * s .loop .j) (length-lines 15 (s .loop .j) body (λ i. refl)) (omega (arith, s .before .before .if1 .left, c .before .before .before .before .before .loop-test .taken))),
+          (lines-next (s .loop .j) body (a .out .now) (15 * s .loop .j) (length-lines 15 (s .loop .j) body (λ i. refl))
+          (omega (
+            arith,
+            s .before .before .if1 .left,
+            c .before .before .before .before .before .loop-test .taken,
+          ))),
     )
 
 returns-2 : tie.Need-returns-2 Inv-loop μ-loop
@@ -46,7 +58,11 @@ returns-2 c =
     let s = c .before in
     let a = s .before .before .before .before .before .before .args in
     let e : s .loop .j ≡ a .links = omega arith in
-    rw (linesOver-fits 15 (a .links) (labelRow (a .label .now) (a .lones .now)) (a .out .now) (s .before .before .if1 .left), ← e) (s .loop .inv .2)
+    rw (
+      linesOver-fits 15 (a .links) (labelRow (a .label .now) (a .lones .now)) (a .out .now)
+          (s .before .before .if1 .left),
+      ← e,
+    ) (s .loop .inv .2)
 
 pub link-lines-spec : {M : Type 1} → statement M
 link-lines-spec =

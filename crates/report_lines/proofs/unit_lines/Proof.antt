@@ -11,7 +11,9 @@ use Rattle.report_lines.proofs.unit_lines.Statement.{statement}
 use Rattle.report_lines.proofs.unit_lines.Tie as tie
 
 abbrev Inv-loop : tie.InvT-loop
-Inv-loop units color parent place singles out₀ pairs v₀ out v = (v ≤ units) × (length out ≡ length out₀) × (out ≡ linesOf v (unitRow color parent place singles) ++ drop (23 * v) out₀)
+Inv-loop units color parent place singles out₀ pairs v₀ out v =
+    (v ≤ units) × (length out ≡ length out₀)
+    × (out ≡ linesOf v (unitRow color parent place singles) ++ drop (23 * v) out₀)
 
 abbrev μ-loop : tie.MeasureT-loop
 μ-loop units color parent place singles out₀ pairs v₀ out v = units - v
@@ -19,14 +21,21 @@ abbrev μ-loop : tie.MeasureT-loop
 returns : tie.Need-returns Inv-loop μ-loop
 returns c =
     let a = c .before .before .before .before .before .before .args in
-    sym (linesOver-short 23 (a .units) (unitRow (a .color .now) (a .parent .now) (a .place .now) (a .singles .now)) (a .out .now) (c .if1 .taken))
+    sym (linesOver-short 23 (a .units) (unitRow (a .color .now) (a .parent .now) (a .place .now) (a .singles .now))
+    (a .out .now) (c .if1 .taken))
 
 unit-at-requires : tie.Need-unit-at-requires Inv-loop μ-loop
 unit-at-requires c κs =
     let s = c .before .before .before in
     let at = 23 * s .loop .v in (
       s .before .table .ensures,
-      rw (lent-rest at (s .loop .out)) (omega (arith, length-drop at (s .loop .out), s .loop .inv .1, s .before .before .if1 .left, c .before .before .loop-test .taken)),
+      rw (lent-rest at (s .loop .out)) (omega (
+        arith,
+        length-drop at (s .loop .out),
+        s .loop .inv .1,
+        s .before .before .if1 .left,
+        c .before .before .loop-test .taken,
+      )),
     )
 
 loop-again : tie.Need-loop-again Inv-loop μ-loop
@@ -38,7 +47,12 @@ loop-again c =
       search needs,
       search needs,
       rw (c .before .before .unit-at .ensures, s .loop .inv .2, ← further)
-          (lines-next (s .loop .v) body (a .out .now) (23 * s .loop .v) (length-lines 23 (s .loop .v) body (λ i. refl)) (omega (arith, s .before .before .if1 .left, c .before .before .before .before .before .loop-test .taken))),
+          (lines-next (s .loop .v) body (a .out .now) (23 * s .loop .v) (length-lines 23 (s .loop .v) body (λ i. refl))
+          (omega (
+            arith,
+            s .before .before .if1 .left,
+            c .before .before .before .before .before .loop-test .taken,
+          ))),
     )
 
 returns-2 : tie.Need-returns-2 Inv-loop μ-loop
@@ -46,7 +60,11 @@ returns-2 c =
     let s = c .before in
     let a = s .before .before .before .before .before .before .before .before .args in
     let e : s .loop .v ≡ a .units = omega arith in
-    rw (linesOver-fits 23 (a .units) (unitRow (a .color .now) (a .parent .now) (a .place .now) (a .singles .now)) (a .out .now) (s .before .before .if1 .left), ← e) (s .loop .inv .2)
+    rw (
+      linesOver-fits 23 (a .units) (unitRow (a .color .now) (a .parent .now) (a .place .now) (a .singles .now))
+          (a .out .now) (s .before .before .if1 .left),
+      ← e,
+    ) (s .loop .inv .2)
 
 pub unit-lines-spec : {M : Type 1} → statement M
 unit-lines-spec =

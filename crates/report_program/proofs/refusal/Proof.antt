@@ -8,13 +8,17 @@ use Rattle.report_program.proofs.refusal.Tie as tie
 
 returns : tie.Need-returns
 returns c =
-    let a = c .before .before .before .before .before .before .before .args in
-    (refusal-short (a .number) (length (a .out .now)) (search needs), c .before .before .before .write .ensures ∙ refusal-line (a .number) (a .out .now))
+    let a = c .before .before .before .before .before .before .before .args in (
+      refusal-short (a .number) (length (a .out .now)) (search needs),
+      c .before .before .before .write .ensures ∙ refusal-line (a .number) (a .out .now),
+    )
 
 returns-2 : tie.Need-returns-2
 returns-2 c =
-    let a = c .before .before .before .before .before .before .before .args in
-    (refusal-long (a .number) (length (a .out .now)) (search needs), c .before .before .before .write .ensures ∙ refusal-line (a .number) (a .out .now))
+    let a = c .before .before .before .before .before .before .before .args in (
+      refusal-long (a .number) (length (a .out .now)) (search needs),
+      c .before .before .before .write .ensures ∙ refusal-line (a .number) (a .out .now),
+    )
 
 pub refusal-spec : {M : Type 1} → statement M
 refusal-spec =

@@ -8,7 +8,8 @@ use lib.ListN.{length}
 use borrow.Author.Tests.{ne-eqb}
 use Rattle.table.specs.Refusals.{written}
 use Rattle.report_program.specs.Printed.{MAX-INPUT, unreadBy, tableIn}
-use Rattle.report_program.specs.LaidLaws.{input-long, taken-few, taken-refused, taken-told, taken-words, taken-levels}
+use Rattle.report_program.specs.LaidLaws.{input-long, taken-few, taken-refused, taken-told, taken-words}
+use Rattle.report_program.specs.LaidLaws.{taken-levels}
 use borrow.Author.Needs.{needs}
 use Rattle.report_program.proofs.taken.Statement.{statement}
 use Rattle.report_program.proofs.taken.Tie as tie
@@ -33,8 +34,12 @@ module _ (r : tie.After-read) where
   short : length input ≤ MAX-INPUT
   short = r .before .before .before .if1 .left
 
-  left : (r .read .last .1 .0 ≡ written unread (tableIn input .words) words) × (r .read .last .1 .1 .0 ≡ written unread (tableIn input .levels) levels)
-  left = (r .read .ensures .1 .0 ∙ taken-words input words levels short, r .read .ensures .1 .1 .0 ∙ taken-levels input words levels short)
+  left : (r .read .last .1 .0 ≡ written unread (tableIn input .words) words)
+      × (r .read .last .1 .1 .0 ≡ written unread (tableIn input .levels) levels)
+  left = (
+    r .read .ensures .1 .0 ∙ taken-words input words levels short,
+    r .read .ensures .1 .1 .0 ∙ taken-levels input words levels short,
+  )
 
 returns : tie.Need-returns
 returns c = rw (input-long _ _ _ (c .if1 .taken)) (refl, (refl, (refl, (omega arith, (refl, refl)))))
@@ -42,15 +47,28 @@ returns c = rw (input-long _ _ _ (c .if1 .taken)) (refl, (refl, (refl, (omega ar
 returns-2 : tie.Need-returns-2
 returns-2 c =
     let r = c .before .before .before .before .before .before in
-    let (k, h) = taken-refused (input r) (length (words r)) (length (levels r)) (short r) _ (sym (r .read .ensures .0) ∙ c .before .found .given .1) in
+    let (k, h) = taken-refused (input r) (length (words r)) (length (levels r)) (short r) _ (sym (r .read .ensures .0)
+    ∙ c .before .found .given .1) in
     let no = ne-eqb (unread r) 0 h in
     (k, (rw no refl, (rw no refl, (omega arith, (left r .0, left r .1)))))
 
 returns-3 : tie.Need-returns-3
 returns-3 c =
     let r = c .before .before .before .before .before .before in
-    let (z, u, m) = taken-told (input r) (length (words r)) (length (levels r)) (short r) _ _ (sym (r .read .ensures .0) ∙ c .before .found2 .given .1) in
-    (sym z, (rw z u, (rw z m, (omega (arith, m, taken-few (input r) (length (words r)) (length (levels r)) z), (left r .0, left r .1)))))
+    let (z, u, m) = taken-told (input r) (length (words r)) (length (levels r)) (short r) _ _ (sym (r .read .ensures .0)
+    ∙ c .before .found2 .given .1) in (
+      sym z,
+      (
+        rw z u,
+        (
+          rw z m,
+          (
+            omega (arith, m, taken-few (input r) (length (words r)) (length (levels r)) z),
+            (left r .0, left r .1),
+          ),
+        ),
+      ),
+    )
 
 pub taken-spec : {M : Type 1} → statement M
 taken-spec =

@@ -17,8 +17,11 @@ returns c =
     let at-end-a = at-end-b .before in
     let start = at-end-a .before .before .before .before .before in
     let a = start .args in
-    ear-of (a .units) (a .ends .now) (a .parent .now) (a .held .now) (a .j) (a .pos .now) (c .before .before .weave .last .1 .1 .1 .1 .1 .0) (at-end-a .end-a .result) (at-end-b .end-b .result)
-    (at-at .at .result) (at-at3 .at3 .result) (at-at2 .at2 .result) (at-at4 .at4 .result) (at-choose .choose .result) (at-choose2 .choose2 .result) _ (at-end-a .end-a .ensures) (at-end-b .end-b .ensures) (at-at .at .ensures) (at-at2 .at2 .ensures) (at-at3 .at3 .ensures) (at-at4 .at4 .ensures) refl
+    ear-of (a .units) (a .ends .now) (a .parent .now) (a .held .now) (a .j) (a .pos .now)
+    (c .before .before .weave .last .1 .1 .1 .1 .1 .0) (at-end-a .end-a .result) (at-end-b .end-b .result)
+    (at-at .at .result) (at-at3 .at3 .result) (at-at2 .at2 .result) (at-at4 .at4 .result) (at-choose .choose .result)
+    (at-choose2 .choose2 .result) _ (at-end-a .end-a .ensures) (at-end-b .end-b .ensures) (at-at .at .ensures)
+    (at-at2 .at2 .ensures) (at-at3 .at3 .ensures) (at-at4 .at4 .ensures) refl
     (at-choose .choose .ensures) (at-choose2 .choose2 .ensures) (c .before .before .weave .ensures)
 
 pub ear-spec : {M : Type 1} → statement M

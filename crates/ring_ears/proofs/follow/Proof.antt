@@ -10,7 +10,8 @@ use Rattle.ring_ears.proofs.follow.Tie as tie
 
 abbrev Inv-loop : tie.InvT-loop
 Inv-loop marks units links ends count parent seq row pos₀ held₀ total i₀ pos held i =
-    (i ≤ total) × (length pos ≡ length pos₀) × (length held ≡ length held₀) × Followed (sure marks) units links ends count parent seq pos₀ held₀ pos held
+    (i ≤ total) × (length pos ≡ length pos₀) × (length held ≡ length held₀)
+    × Followed (sure marks) units links ends count parent seq pos₀ held₀ pos held
 
 abbrev μ-loop : tie.MeasureT-loop
 μ-loop marks units links ends count parent seq row pos₀ held₀ total i₀ pos held i = total - i
@@ -29,7 +30,10 @@ loop-again c =
       search needs,
       at-visit .visit .kept .1 .1 .1 .1 .1 .1 .1 .1 .0 ∙ s .inv .1,
       at-visit .visit .kept .1 .1 .1 .1 .1 .1 .1 .1 .1 .0 ∙ s .inv .2,
-      followed-more (sure (a .marks .now)) (a .units) (a .links) (a .ends .now) (a .count) (a .parent .now) (a .seq .now) (at-at .at .result) (a .pos .now) (a .held .now) (s .pos) (s .held) (at-visit .visit .last .1 .1 .1 .1 .1 .1 .1 .1 .0) (at-visit .visit .last .1 .1 .1 .1 .1 .1 .1 .1 .1 .0) (s .inv .3) (at-visit .visit .ensures),
+      followed-more (sure (a .marks .now)) (a .units) (a .links) (a .ends .now) (a .count) (a .parent .now)
+          (a .seq .now) (at-at .at .result) (a .pos .now) (a .held .now) (s .pos) (s .held)
+          (at-visit .visit .last .1 .1 .1 .1 .1 .1 .1 .1 .0) (at-visit .visit .last .1 .1 .1 .1 .1 .1 .1 .1 .1 .0)
+          (s .inv .3) (at-visit .visit .ensures),
     )
 
 returns : tie.Need-returns Inv-loop μ-loop

@@ -12,7 +12,11 @@ returns c =
     let at-hold = at-follow .before .before .before .before .before in
     let start = at-hold .before .before .before .before .before .before .before .before .before .before in
     let a = start .args in
-    settles (sure (a .marks .now)) (a .units) (a .links) (a .ends .now) (a .count) (a .parent .now) (a .seq .now) (a .b) (a .pos .now) (a .held .now) (at-hold .hold .last .1 .1 .1 .1 .0) (at-follow .follow .last .1 .1 .1 .1 .1 .1 .1 .1 .0) (at-follow .follow .last .1 .1 .1 .1 .1 .1 .1 .1 .1 .0) (at-settle .settle .last .1 .1 .1 .1 .1 .1 .1 .1 .0) (at-settle .settle .last .1 .1 .1 .1 .1 .1 .1 .1 .1 .0) (at-hold .hold .ensures) (at-follow .follow .ensures) (at-settle .settle .ensures)
+    settles (sure (a .marks .now)) (a .units) (a .links) (a .ends .now) (a .count) (a .parent .now) (a .seq .now) (a .b)
+    (a .pos .now) (a .held .now) (at-hold .hold .last .1 .1 .1 .1 .0)
+    (at-follow .follow .last .1 .1 .1 .1 .1 .1 .1 .1 .0) (at-follow .follow .last .1 .1 .1 .1 .1 .1 .1 .1 .1 .0)
+    (at-settle .settle .last .1 .1 .1 .1 .1 .1 .1 .1 .0) (at-settle .settle .last .1 .1 .1 .1 .1 .1 .1 .1 .1 .0)
+    (at-hold .hold .ensures) (at-follow .follow .ensures) (at-settle .settle .ensures)
 
 pub grow-spec : {M : Type 1} → statement M
 grow-spec =

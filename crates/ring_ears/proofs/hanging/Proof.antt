@@ -10,7 +10,8 @@ use Rattle.ring_ears.proofs.hanging.Statement.{statement}
 use Rattle.ring_ears.proofs.hanging.Tie as tie
 
 abbrev Inv-loop : tie.InvT-loop
-Inv-loop units parent pos v limit u₀ k₀ u k = (k ≤ limit) × (length (hanging limit parent pos v) ≡ k + length (hanging (limit - k) parent pos u))
+Inv-loop units parent pos v limit u₀ k₀ u k =
+    (k ≤ limit) × (length (hanging limit parent pos v) ≡ k + length (hanging (limit - k) parent pos u))
 
 abbrev μ-loop : tie.MeasureT-loop
 μ-loop units parent pos v limit u₀ k₀ u k = limit - k
@@ -24,19 +25,30 @@ returns : tie.Need-returns Inv-loop μ-loop
 returns c =
     let s = c .before .before .before .loop in
     let a = c .before .before .before .before .before .before .before .args in
-    chain-stop (at (a .parent .now)) (onOrder (a .pos .now)) (c .before .before .before .before .bounded-sum .result) (s .k) (a .v) (s .u) (sym (c .before .on .ensures) ∙ c .if1 .taken) (s .inv .1) ∙ ap (λ (z : ℕ). length (hanging z (a .parent .now) (a .pos .now) (a .v))) (c .before .before .before .before .bounded-sum .ensures)
+    chain-stop (at (a .parent .now)) (onOrder (a .pos .now)) (c .before .before .before .before .bounded-sum .result)
+    (s .k) (a .v) (s .u) (sym (c .before .on .ensures) ∙ c .if1 .taken) (s .inv .1)
+    ∙ ap (λ (z : ℕ). length (hanging z (a .parent .now) (a .pos .now) (a .v)))
+    (c .before .before .before .before .bounded-sum .ensures)
 
 loop-again : tie.Need-loop-again Inv-loop μ-loop
 loop-again c =
     let s = c .before .before .before .before .loop in
-    let a = c .before .before .before .before .before .before .before .before .args in
-    (search needs, rw (c .at .ensures) (chain-turn (at (a .parent .now)) (onOrder (a .pos .now)) (c .before .before .before .before .before .bounded-sum .result) (s .k) (a .v) (s .u) (c .before .before .before .loop-test .taken) (sym (c .before .before .on .ensures) ∙ c .before .if1 .left) (s .inv .1)))
+    let a = c .before .before .before .before .before .before .before .before .args in (
+      search needs,
+      rw (c .at .ensures) (chain-turn (at (a .parent .now)) (onOrder (a .pos .now))
+          (c .before .before .before .before .before .bounded-sum .result) (s .k) (a .v) (s .u)
+          (c .before .before .before .loop-test .taken) (sym (c .before .before .on .ensures)
+          ∙ c .before .if1 .left) (s .inv .1)),
+    )
 
 returns-2 : tie.Need-returns-2 Inv-loop μ-loop
 returns-2 c =
     let s = c .before .loop in
     let a = c .before .before .before .before .before .args in
-    chain-full (at (a .parent .now)) (onOrder (a .pos .now)) (c .before .before .bounded-sum .result) (s .k) (a .v) (s .u) (c .loop-test .left) (s .inv .1) ∙ ap (λ (z : ℕ). length (hanging z (a .parent .now) (a .pos .now) (a .v))) (c .before .before .bounded-sum .ensures)
+    chain-full (at (a .parent .now)) (onOrder (a .pos .now)) (c .before .before .bounded-sum .result) (s .k) (a .v)
+    (s .u) (c .loop-test .left) (s .inv .1)
+    ∙ ap (λ (z : ℕ). length (hanging z (a .parent .now) (a .pos .now) (a .v)))
+    (c .before .before .bounded-sum .ensures)
 
 pub hanging-spec : {M : Type 1} → statement M
 hanging-spec =

@@ -12,7 +12,8 @@ use Rattle.ring_ears.proofs.move_on.Statement.{statement}
 use Rattle.ring_ears.proofs.move_on.Tie as tie
 
 abbrev Inv-loop : tie.InvT-loop
-Inv-loop units q c pos₀ v₀ pos v = (v ≤ units) × (length pos ≡ length pos₀) × (pos ≡ over v (λ (w : ℕ). cond (ltb q (at pos₀ w)) (min (at pos₀ w + c) 2048) (at pos₀ w)) pos₀)
+Inv-loop units q c pos₀ v₀ pos v = (v ≤ units) × (length pos ≡ length pos₀)
+    × (pos ≡ over v (λ (w : ℕ). cond (ltb q (at pos₀ w)) (min (at pos₀ w + c) 2048) (at pos₀ w)) pos₀)
 
 abbrev μ-loop : tie.MeasureT-loop
 μ-loop units q c pos₀ v₀ pos v = units - v
@@ -23,8 +24,17 @@ loop-holds c = (search needs, search needs, refl)
 loop-again : tie.Need-loop-again Inv-loop μ-loop
 loop-again c =
     let s = c .before .before .before .before .before .before .before .before .before .loop in
-    let a = c .before .before .before .before .before .before .before .before .before .before .before .args in
-    (search needs, c .before .before .store .kept .0 ∙ s .inv .1, moved-turn (a .units) (a .q) (a .c) (a .pos .now) (s .pos) (c .before .before .store .last .0) (s .v) (c .before .before .before .before .before .before .at .result) (c .before .before .before .before .before .bounded-sum .result) (c .before .before .before .before .choose .result) _ (s .inv .2) (c .before .before .before .before .before .before .at .ensures) refl (c .before .before .before .before .before .bounded-sum .ensures) (c .before .before .before .before .choose .ensures) (c .before .before .store .ensures))
+    let a = c .before .before .before .before .before .before .before .before .before .before .before .args in (
+      search needs,
+      c .before .before .store .kept .0 ∙ s .inv .1,
+      moved-turn (a .units) (a .q) (a .c) (a .pos .now) (s .pos) (c .before .before .store .last .0) (s .v)
+          (c .before .before .before .before .before .before .at .result)
+          (c .before .before .before .before .before .bounded-sum .result)
+          (c .before .before .before .before .choose .result) _ (s .inv .2)
+          (c .before .before .before .before .before .before .at .ensures) refl
+          (c .before .before .before .before .before .bounded-sum .ensures)
+          (c .before .before .before .before .choose .ensures) (c .before .before .store .ensures),
+    )
 
 returns : tie.Need-returns Inv-loop μ-loop
 returns c =

@@ -11,15 +11,21 @@ use Rattle.ring_ears.proofs.pass.Tie as tie
 
 abbrev Inv-loop : tie.InvT-loop
 Inv-loop marks units links ends count parent seq pos₀ held₀ j₀ pos held j =
-    (j ≤ links) × (length pos ≡ length pos₀) × (length held ≡ length held₀) × Passed (sure marks) units links ends count parent seq j pos₀ held₀ pos held
+    (j ≤ links) × (length pos ≡ length pos₀) × (length held ≡ length held₀)
+    × Passed (sure marks) units links ends count parent seq j pos₀ held₀ pos held
 
 abbrev μ-loop : tie.MeasureT-loop
 μ-loop marks units links ends count parent seq pos₀ held₀ j₀ pos held j = links - j
 
 loop-holds : tie.Need-loop-holds Inv-loop μ-loop
 loop-holds c =
-    let a = c .before .before .before .before .before .before .args in
-    (search needs, search needs, search needs, passed-begun (sure (a .marks .now)) (a .units) (a .links) (a .ends .now) (a .count) (a .parent .now) (a .seq .now) (a .pos .now) (a .held .now))
+    let a = c .before .before .before .before .before .before .args in (
+      search needs,
+      search needs,
+      search needs,
+      passed-begun (sure (a .marks .now)) (a .units) (a .links) (a .ends .now) (a .count) (a .parent .now)
+          (a .seq .now) (a .pos .now) (a .held .now),
+    )
 
 loop-again : tie.Need-loop-again Inv-loop μ-loop
 loop-again c =
@@ -32,7 +38,10 @@ loop-again c =
       search needs,
       at-visit .visit .kept .1 .1 .1 .1 .1 .1 .1 .1 .0 ∙ s .inv .1,
       at-visit .visit .kept .1 .1 .1 .1 .1 .1 .1 .1 .1 .0 ∙ s .inv .2,
-      passed-more (sure (a .marks .now)) (a .units) (a .links) (a .ends .now) (a .count) (a .parent .now) (a .seq .now) (s .j) (a .pos .now) (a .held .now) (s .pos) (s .held) (at-visit .visit .last .1 .1 .1 .1 .1 .1 .1 .1 .0) (at-visit .visit .last .1 .1 .1 .1 .1 .1 .1 .1 .1 .0) (at-loop-test .loop-test .taken) (s .inv .3) (at-visit .visit .ensures),
+      passed-more (sure (a .marks .now)) (a .units) (a .links) (a .ends .now) (a .count) (a .parent .now) (a .seq .now)
+          (s .j) (a .pos .now) (a .held .now) (s .pos) (s .held) (at-visit .visit .last .1 .1 .1 .1 .1 .1 .1 .1 .0)
+          (at-visit .visit .last .1 .1 .1 .1 .1 .1 .1 .1 .1 .0) (at-loop-test .loop-test .taken) (s .inv .3)
+          (at-visit .visit .ensures),
     )
 
 returns : tie.Need-returns Inv-loop μ-loop
@@ -40,7 +49,12 @@ returns c =
     let start = c .before .before .before .before .before .before .before .before in
     let s = c .before .loop in
     let a = start .args in
-    let e : s .j ≡ a .links = omega (arith, s .inv .0, c .loop-test .left) in subst (λ (z : ℕ). Passed (sure (a .marks .now)) (a .units) (a .links) (a .ends .now) (a .count) (a .parent .now) (a .seq .now) z (a .pos .now) (a .held .now) (s .pos) (s .held)) e (s .inv .3)
+    let e : s .j ≡ a .links = omega (
+      arith,
+      s .inv .0,
+      c .loop-test .left,
+    ) in subst (λ (z : ℕ). Passed (sure (a .marks .now)) (a .units) (a .links) (a .ends .now)
+    (a .count) (a .parent .now) (a .seq .now) z (a .pos .now) (a .held .now) (s .pos) (s .held)) e (s .inv .3)
 
 pub pass-spec : {M : Type 1} → statement M
 pass-spec =

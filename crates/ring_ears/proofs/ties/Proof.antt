@@ -15,7 +15,20 @@ returns c =
     let at-counts = at-has .before in
     let at-end-b = at-counts .before in
     let at-end-a = at-end-b .before in
-    rw (c .both4 .ensures, c .before .both3 .ensures, at-both .both .ensures, c .before .before .both2 .ensures, at-counts .counts .ensures, at-has .has .ensures, at-on .on .ensures, at-on2 .on2 .ensures, at-at .at .ensures, at-at2 .at2 .ensures, at-end-a .end-a .ensures, at-end-b .end-b .ensures) refl
+    rw (
+      c .both4 .ensures,
+      c .before .both3 .ensures,
+      at-both .both .ensures,
+      c .before .before .both2 .ensures,
+      at-counts .counts .ensures,
+      at-has .has .ensures,
+      at-on .on .ensures,
+      at-on2 .on2 .ensures,
+      at-at .at .ensures,
+      at-at2 .at2 .ensures,
+      at-end-a .end-a .ensures,
+      at-end-b .end-b .ensures,
+    ) refl
 
 pub ties-spec : {M : Type 1} → statement M
 ties-spec =

@@ -18,9 +18,15 @@ returns c =
     let at-at = at-at2 .before in
     let start = at-at .before .before .before .before .before in
     let a = start .args in
-    woven-in (a .units) (a .parent .now) (a .held .now) (a .u) (a .v) (a .pos .now) (at-move-on .move-on .last .1 .1 .1 .0) (at-lay .lay .last .1 .1 .1 .1 .1 .1 .0) (c .before .before .lay2 .last .1 .1 .1 .1 .1 .1 .0)
-    (at-at .at .result) (at-at2 .at2 .result) (at-hanging .hanging .result) (at-hanging2 .hanging2 .result) (at-bounded-sum .bounded-sum .result) (at-bounded-sum2 .bounded-sum2 .result) (at-bounded-sum3 .bounded-sum3 .result) (at-at .at .ensures) (at-at2 .at2 .ensures)
-    (at-hanging .hanging .ensures) (at-hanging2 .hanging2 .ensures) (at-bounded-sum .bounded-sum .ensures) (at-bounded-sum2 .bounded-sum2 .ensures) (at-move-on .move-on .ensures) (at-lay .lay .ensures) (at-bounded-sum3 .bounded-sum3 .ensures) (c .before .before .lay2 .ensures)
+    woven-in (a .units) (a .parent .now) (a .held .now) (a .u) (a .v) (a .pos .now)
+    (at-move-on .move-on .last .1 .1 .1 .0) (at-lay .lay .last .1 .1 .1 .1 .1 .1 .0)
+    (c .before .before .lay2 .last .1 .1 .1 .1 .1 .1 .0)
+    (at-at .at .result) (at-at2 .at2 .result) (at-hanging .hanging .result) (at-hanging2 .hanging2 .result)
+    (at-bounded-sum .bounded-sum .result) (at-bounded-sum2 .bounded-sum2 .result)
+    (at-bounded-sum3 .bounded-sum3 .result) (at-at .at .ensures) (at-at2 .at2 .ensures)
+    (at-hanging .hanging .ensures) (at-hanging2 .hanging2 .ensures) (at-bounded-sum .bounded-sum .ensures)
+    (at-bounded-sum2 .bounded-sum2 .ensures) (at-move-on .move-on .ensures) (at-lay .lay .ensures)
+    (at-bounded-sum3 .bounded-sum3 .ensures) (c .before .before .lay2 .ensures)
 
 pub weave-spec : {M : Type 1} → statement M
 weave-spec =

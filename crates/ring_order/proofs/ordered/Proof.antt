@@ -20,8 +20,15 @@ returns c =
     let at-end-a = at-end-b .before in
     let start = at-end-a .before .before .before .before in
     let a = start .args in
-    ordered (sure (a .marks .now)) (a .units) (a .links) (a .ends .now) (a .i) (a .pos .now) (at-store .store .last .0) (at-store2 .store2 .last .0) (at-grow .grow .last .1 .1 .1 .1 .1 .1 .1 .1 .1 .0) (at-end-a .end-a .result) (at-end-b .end-b .result) (at-span .span .result)
-    (at-blank .blank .result) (at-zeros2 .zeros2 .result) (at-span .span .last .1 .1 .1 .1 .1 .1 .1 .0) (at-span .span .last .1 .1 .1 .1 .1 .1 .1 .1 .0) (at-zeros3 .zeros3 .result) (at-grow .grow .last .1 .1 .1 .1 .1 .1 .1 .1 .1 .1 .0) (at-end-a .end-a .ensures) (at-end-b .end-b .ensures) (search (at-blank .blank .ok, needs)) (at-blank .blank .ensures) (search (at-zeros2 .zeros2 .ok, needs)) (at-span .span .ensures) (search (at-zeros3 .zeros3 .ok, needs)) (at-store .store .ensures) (at-store2 .store2 .ensures) (at-grow .grow .ensures)
+    ordered (sure (a .marks .now)) (a .units) (a .links) (a .ends .now) (a .i) (a .pos .now) (at-store .store .last .0)
+    (at-store2 .store2 .last .0) (at-grow .grow .last .1 .1 .1 .1 .1 .1 .1 .1 .1 .0) (at-end-a .end-a .result)
+    (at-end-b .end-b .result) (at-span .span .result)
+    (at-blank .blank .result) (at-zeros2 .zeros2 .result) (at-span .span .last .1 .1 .1 .1 .1 .1 .1 .0)
+    (at-span .span .last .1 .1 .1 .1 .1 .1 .1 .1 .0) (at-zeros3 .zeros3 .result)
+    (at-grow .grow .last .1 .1 .1 .1 .1 .1 .1 .1 .1 .1 .0) (at-end-a .end-a .ensures) (at-end-b .end-b .ensures)
+    (search (at-blank .blank .ok, needs)) (at-blank .blank .ensures) (search (at-zeros2 .zeros2 .ok, needs))
+    (at-span .span .ensures) (search (at-zeros3 .zeros3 .ok, needs)) (at-store .store .ensures)
+    (at-store2 .store2 .ensures) (at-grow .grow .ensures)
 
 pub ordered-spec : {M : Type 1} → statement M
 ordered-spec =

@@ -10,7 +10,8 @@ use Rattle.ring_search.proofs.ring.Tie as tie
 returns : tie.Need-returns
 returns c =
     let a = c .before .before .before .before .before .args in
-    told-missing (sure (a .marks .now)) (a .units) (a .links) (a .ends .now) (a .i) (a .j) (a .out .now) (sym (c .before .counts .ensures) ∙ not-true _ (c .if1 .taken))
+    told-missing (sure (a .marks .now)) (a .units) (a .links) (a .ends .now) (a .i) (a .j) (a .out .now)
+    (sym (c .before .counts .ensures) ∙ not-true _ (c .if1 .taken))
 
 returns-2 : tie.Need-returns-2
 returns-2 c =
@@ -20,7 +21,10 @@ returns-2 c =
     let at-counts = at-if1 .before in
     let start = at-counts .before .before .before .before in
     let a = start .args in
-    told-none (sure (a .marks .now)) (a .units) (a .links) (a .ends .now) (a .i) (a .j) (a .out .now) (at-zeros .zeros .result) (at-ordered .ordered .last .1 .1 .1 .1 .1 .0) (sym (at-counts .counts .ensures) ∙ not-false _ (at-if1 .if1 .left)) (search (at-zeros .zeros .ok, needs)) (at-zeros .zeros .ensures) (at-ordered .ordered .ensures) (c .before .second .result) (c .before .second .ensures) (c .if2 .taken)
+    told-none (sure (a .marks .now)) (a .units) (a .links) (a .ends .now) (a .i) (a .j) (a .out .now)
+    (at-zeros .zeros .result) (at-ordered .ordered .last .1 .1 .1 .1 .1 .0) (sym (at-counts .counts .ensures)
+    ∙ not-false _ (at-if1 .if1 .left)) (search (at-zeros .zeros .ok, needs)) (at-zeros .zeros .ensures)
+    (at-ordered .ordered .ensures) (c .before .second .result) (c .before .second .ensures) (c .if2 .taken)
 
 returns-3 : tie.Need-returns-3
 returns-3 c =
@@ -43,9 +47,19 @@ returns-3 c =
     let at-counts = at-if1 .before in
     let start = at-counts .before .before .before .before in
     let a = start .args in
-    told-ring (sure (a .marks .now)) (a .units) (a .links) (a .ends .now) (a .i) (a .j) (a .out .now) (at-zeros .zeros .result) (at-ordered .ordered .last .1 .1 .1 .1 .1 .0) (sym (at-counts .counts .ensures) ∙ not-false _ (at-if1 .if1 .left)) (search (at-zeros .zeros .ok, needs)) (at-zeros .zeros .ensures) (at-ordered .ordered .ensures) (at-second .second .result) (at-second .second .ensures) (at-if2 .if2 .left)
-    (at-zeros2 .zeros2 .result) (at-zeros3 .zeros3 .result) (at-lean .lean .last .1 .1 .1 .1 .0) (at-lean .lean .last .1 .1 .1 .1 .1 .0) (search (at-zeros2 .zeros2 .ok, needs)) (search (at-zeros3 .zeros3 .ok, needs)) (at-lean .lean .ensures) (at-end-a .end-a .result) (at-end-b .end-b .result) (at-at .at .result) (at-at2 .at2 .result) (at-choose .choose .result) (at-choose2 .choose2 .result) (at-end-a2 .end-a2 .result) (at-end-b2 .end-b2 .result) _
-    (at-end-a .end-a .ensures) (at-end-b .end-b .ensures) (at-at .at .ensures) (at-at2 .at2 .ensures) refl (at-choose .choose .ensures) (at-choose2 .choose2 .ensures) (at-end-a2 .end-a2 .ensures) (at-end-b2 .end-b2 .ensures) (c .before .before .close .last .1 .1 .1 .1 .1 .1 .1 .0) (c .before .before .close .result) (c .before .before .close .ensures)
+    told-ring (sure (a .marks .now)) (a .units) (a .links) (a .ends .now) (a .i) (a .j) (a .out .now)
+    (at-zeros .zeros .result) (at-ordered .ordered .last .1 .1 .1 .1 .1 .0) (sym (at-counts .counts .ensures)
+    ∙ not-false _ (at-if1 .if1 .left)) (search (at-zeros .zeros .ok, needs)) (at-zeros .zeros .ensures)
+    (at-ordered .ordered .ensures) (at-second .second .result) (at-second .second .ensures) (at-if2 .if2 .left)
+    (at-zeros2 .zeros2 .result) (at-zeros3 .zeros3 .result) (at-lean .lean .last .1 .1 .1 .1 .0)
+    (at-lean .lean .last .1 .1 .1 .1 .1 .0) (search (at-zeros2 .zeros2 .ok, needs))
+    (search (at-zeros3 .zeros3 .ok, needs)) (at-lean .lean .ensures) (at-end-a .end-a .result)
+    (at-end-b .end-b .result) (at-at .at .result) (at-at2 .at2 .result) (at-choose .choose .result)
+    (at-choose2 .choose2 .result) (at-end-a2 .end-a2 .result) (at-end-b2 .end-b2 .result) _
+    (at-end-a .end-a .ensures) (at-end-b .end-b .ensures) (at-at .at .ensures) (at-at2 .at2 .ensures) refl
+    (at-choose .choose .ensures) (at-choose2 .choose2 .ensures) (at-end-a2 .end-a2 .ensures)
+    (at-end-b2 .end-b2 .ensures) (c .before .before .close .last .1 .1 .1 .1 .1 .1 .1 .0)
+    (c .before .before .close .result) (c .before .before .close .ensures)
 
 pub ring-spec : {M : Type 1} → statement M
 ring-spec =

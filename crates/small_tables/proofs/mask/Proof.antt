@@ -13,18 +13,23 @@ use Rattle.small_tables.proofs.mask.Statement.{statement}
 use Rattle.small_tables.proofs.mask.Tie as tie
 
 abbrev Inv-loop : tie.InvT-loop
-Inv-loop singles set₀ bit₀ i₀ set bit i = (i ≤ 5) × (bit ≡ 2 ^ i) × (set < bit) × (bit ≤ 32) × (set ≡ sum i (λ (k : ℕ). cond (getD singles k false) (2 ^ k) 0))
+Inv-loop singles set₀ bit₀ i₀ set bit i =
+    (i ≤ 5) × (bit ≡ 2 ^ i) × (set < bit) × (bit ≤ 32)
+    × (set ≡ sum i (λ (k : ℕ). cond (getD singles k false) (2 ^ k) 0))
 
 abbrev μ-loop : tie.MeasureT-loop
 μ-loop singles set₀ bit₀ i₀ set bit i = 5 - i
 
 add-set : tie.Need-add-set Inv-loop μ-loop
-add-set c = let i = c .before .before .loop .inv in let m : c .choose .result ≤ c .before .before .loop .bit = bit-small (getD (c .before .before .before .args .t1) (c .before .before .loop .i) false) _ _ (c .choose .ensures) in omega (arith, m, i .2, i .3)
+add-set c = let i = c .before .before .loop .inv in let m : c .choose .result ≤ c .before .before .loop .bit =
+    bit-small (getD (c .before .before .before .args .t1) (c .before .before .loop .i) false) _ _
+    (c .choose .ensures) in omega (arith, m, i .2, i .3)
 
 loop-again : tie.Need-loop-again Inv-loop μ-loop
 loop-again c =
     let s = c .before .before in
-    mask-more (s .before .args .t1) _ _ _ _ (c .before .loop-test .taken) (s .loop .inv .1) (s .loop .inv .2) (s .loop .inv .4) (c .choose .ensures)
+    mask-more (s .before .args .t1) _ _ _ _ (c .before .loop-test .taken) (s .loop .inv .1) (s .loop .inv .2)
+    (s .loop .inv .4) (c .choose .ensures)
 
 returns : tie.Need-returns Inv-loop μ-loop
 unfolding maskOf

@@ -23,7 +23,8 @@ loop-again c =
 returns : tie.Need-returns Inv-loop μ-loop
 returns c =
     let s = c .before .before in
-    table-done _ _ _ _ _ _ (s .before .before .least-of .ensures) (s .before .none-of .ensures) (s .loop .inv .1) (c .before .loop-test .left)
+    table-done _ _ _ _ _ _ (s .before .before .least-of .ensures) (s .before .none-of .ensures) (s .loop .inv .1)
+    (c .before .loop-test .left)
 
 pub table-spec : {M : Type 1} → statement M
 table-spec =

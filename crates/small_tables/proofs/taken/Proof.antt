@@ -14,7 +14,8 @@ unfolding takes
 returns c =
     let second = c .before .before in
     let first = second .before .before .before in
-    let odd : eqb (first .before .before .before .before .before .before .args .x .rest % 2) 1 ≡ true = eq-eqb _ 1 (first .before .before .if1 .taken) in
+    let odd : eqb (first .before .before .before .before .before .before .args .x .rest % 2) 1 ≡ true =
+    eq-eqb _ 1 (first .before .before .if1 .taken) in
     rw (odd, c .bounded-sum .ensures, second .put2 .ensures, first .put .ensures)
 
 returns-2 : tie.Need-returns-2

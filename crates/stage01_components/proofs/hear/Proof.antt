@@ -8,12 +8,14 @@ use Rattle.stage01_components.proofs.hear.Tie as tie
 lower-requires : tie.Need-lower-requires
 lower-requires c κs =
     let s = c .before .before .before .before .before .before .before in
-    hearer-within (s .args .n) (s .args .said .now) (s .args .t .now) (s .args .a) (s .args .b) (s .pre .0) (s .pre .1) _ (c .before .choose .ensures)
+    hearer-within (s .args .n) (s .args .said .now) (s .args .t .now) (s .args .a) (s .args .b) (s .pre .0)
+    (s .pre .1) _ (c .before .choose .ensures)
 
 returns : tie.Need-returns
 returns c =
     let s = c .before .before .before .before .before .before .before .before .before .before in
-    hears-lesser (s .args .n) (s .args .said .now) (s .args .t .now) (s .args .a) (s .args .b) (s .pre .0) (s .pre .1) _ _
+    hears-lesser (s .args .n) (s .args .said .now) (s .args .t .now) (s .args .a) (s .args .b) (s .pre .0)
+    (s .pre .1) _ _
     (c .before .before .before .before .choose .ensures)
     (c .before .before .before .least-of .ensures)
     _

@@ -13,7 +13,8 @@ use Rattle.stage01_components.proofs.heard.Statement.{statement}
 use Rattle.stage01_components.proofs.heard.Tie as tie
 
 abbrev Inv-loop : tie.InvT-loop
-Inv-loop n links ends value new₀ j₀ new j = (j ≤ links) × (length new ≡ 256) × (new ≡ over n (leastHeard j ends value) value)
+Inv-loop n links ends value new₀ j₀ new j =
+    (j ≤ links) × (length new ≡ 256) × (new ≡ over n (leastHeard j ends value) value)
 
 abbrev μ-loop : tie.MeasureT-loop
 μ-loop n links ends value new₀ j₀ new j = links - j
@@ -30,7 +31,8 @@ hear-requires c κs =
     let a = start .args in
     let on = s .loop .inv .2 in
     let one = start .pre .1 .1 (2 * s .loop .j) (omega (arith, c .before .before .before .before .loop-test .taken)) in
-    let two = start .pre .1 .1 (2 * s .loop .j + 1) (omega (arith, c .before .before .before .before .loop-test .taken)) in (
+    let two = start .pre .1 .1 (2 * s .loop .j + 1)
+    (omega (arith, c .before .before .before .before .loop-test .taken)) in (
       hearer (a .n) (s .loop .j) (a .ends .now) (a .t4) (s .loop .new) _ one (omega (arith, one, start .pre .0)) on,
       hearer (a .n) (s .loop .j) (a .ends .now) (a .t4) (s .loop .new) _ two (omega (arith, two, start .pre .0)) on,
     )
@@ -38,8 +40,12 @@ hear-requires c κs =
 loop-again : tie.Need-loop-again Inv-loop μ-loop
 loop-again c =
     let s = c .before .before .before .before .before .before .before in
-    let a = s .before .before .args in
-    (search needs, search needs, heard-more (a .n) (s .loop .j) (a .ends .now) (a .t4) _ _ (s .loop .inv .2) (c .before .hear .ensures))
+    let a = s .before .before .args in (
+      search needs,
+      search needs,
+      heard-more (a .n) (s .loop .j) (a .ends .now) (a .t4) _ _ (s .loop .inv .2)
+          (c .before .hear .ensures),
+    )
 
 returns : tie.Need-returns Inv-loop μ-loop
 returns c = rw (le-antisymm (c .before .loop .inv .0) (c .loop-test .left)) at (c .before .loop .inv .2)

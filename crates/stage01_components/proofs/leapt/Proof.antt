@@ -17,11 +17,14 @@ use Rattle.stage01_components.proofs.leapt.Tie as tie
 
 -- the stage makes a round
 go : (c : tie.Else1)
-    → (let a = c .before .before .before .before .args in Goes (a .units) 1 0 (a .budget) (linksFit (a .units) (a .links) (a .ends .now)) (a .clock))
+    → (let a = c .before .before .before .before .args in Goes (a .units) 1 0 (a .budget)
+    (linksFit (a .units) (a .links) (a .ends .now)) (a .clock))
 go c =
     let g = c .before .before .before in
     let s = g .before in
-    goes _ _ _ _ _ _ (rw (s .pre) at (sym (g .goes-on .ensures) ∙ and-right (c .before .before .pays .result) (g .goes-on .result) (sym (c .before .both .ensures) ∙ not-false _ (c .if1 .left))))
+    goes _ _ _ _ _ _ (rw (s .pre) at (sym (g .goes-on .ensures)
+    ∙ and-right (c .before .before .pays .result) (g .goes-on .result) (sym (c .before .both .ensures)
+    ∙ not-false _ (c .if1 .left))))
 
 returns : tie.Need-returns
 returns c = λ e. absurd (false≢true e)
@@ -34,10 +37,12 @@ returns-2 c =
     let a = e .before .before .before .before .args in
     let all : a .budget - 0 ≡ a .budget = omega arith in
     λ right.
-    leapt-run ran (on (a .units) (a .links) (a .ends .now)) (one (a .units) (a .links) (a .ends .now)) (a .units) (a .links) 1 (a .ends .now) (numbers (a .units)) Any
+    leapt-run ran (on (a .units) (a .links) (a .ends .now)) (one (a .units) (a .links) (a .ends .now)) (a .units)
+    (a .links) 1 (a .ends .now) (numbers (a .units)) Any
     (spreads (a .units) (a .links) (a .ends .now) (go e .fit)) (a .budget) (a .color) (a .clock) 0 _ _ _
     (rw (m .greatest-of .ensures, d .said .ensures) at (c .leap .ensures right)) (λ x. x) (go e .inside)
-    ∙ ap (λ (b : ℕ). stageRun (on (a .units) (a .links) (a .ends .now)) (one (a .units) (a .links) (a .ends .now)) b (ran (a .color) (a .clock) 0)) all
+    ∙ ap (λ (b : ℕ). stageRun (on (a .units) (a .links) (a .ends .now)) (one (a .units) (a .links) (a .ends .now)) b
+    (ran (a .color) (a .clock) 0)) all
 
 pub leapt-spec : {M : Type 1} → statement M
 leapt-spec =

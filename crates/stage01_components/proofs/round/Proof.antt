@@ -8,7 +8,8 @@ use Rattle.stage01_components.proofs.round.Tie as tie
 returns : tie.Need-returns
 returns c =
     let a = c .before .before .before .args in
-    c .heard .ensures ∙ color-round (a .units) (a .links) (a .made) (a .ends .now) (a .color) _ (c .before .said .ensures)
+    c .heard .ensures ∙ color-round (a .units) (a .links) (a .made) (a .ends .now) (a .color) _
+    (c .before .said .ensures)
 
 pub round-spec : {M : Type 1} → statement M
 round-spec =

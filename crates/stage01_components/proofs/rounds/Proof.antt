@@ -14,14 +14,16 @@ use Rattle.stage01_components.proofs.rounds.Tie as tie
 abbrev Inv-loop : tie.InvT-loop
 Inv-loop fits units links budget ends value₀ c₀ made₀ value c made =
     (length value ≡ 256)
-    × Turning (on units links ends) (one units links ends) budget (record { color = value₀; clock = c₀; made = 0 }) made (record { color = value; clock = c; made = made })
+    × Turning (on units links ends) (one units links ends) budget (record { color = value₀; clock = c₀; made = 0 }) made
+    (record { color = value; clock = c; made = made })
 
 abbrev μ-loop : tie.MeasureT-loop
 μ-loop fits units links budget ends value₀ c₀ made₀ value c made = budget - made
 
 -- the stage goes on where a round is made
 go : (c : tie.Then1 Inv-loop μ-loop)
-    → (let a = c .before .before .before .args in Goes (a .units) 1 (c .before .before .loop .made) (a .budget) (linksFit (a .units) (a .links) (a .ends .now)) (c .before .before .loop .c))
+    → (let a = c .before .before .before .args in Goes (a .units) 1 (c .before .before .loop .made) (a .budget)
+    (linksFit (a .units) (a .links) (a .ends .now)) (c .before .before .loop .c))
 go c = goes _ _ _ _ _ _ (rw (c .before .before .before .pre) at (sym (c .before .goes-on .ensures) ∙ c .if1 .taken))
 
 loop-holds : tie.Need-loop-holds Inv-loop μ-loop
@@ -49,11 +51,13 @@ loop-again c =
     let at-loop = at-round .before .before .before .before in
     let g = go t in (
       search (at-round .round .ok, needs),
-      turns-on _ _ _ _ _ _ _ (at-loop .loop .inv .1) (g .test) (rw (c .ticked .ensures, g .inside, c .before .ends .ensures, at-round .round .ensures)),
+      turns-on _ _ _ _ _ _ _ (at-loop .loop .inv .1) (g .test)
+          (rw (c .ticked .ensures, g .inside, c .before .ends .ensures, at-round .round .ensures)),
     )
 
 returns : tie.Need-returns Inv-loop μ-loop
-returns c = turns-over _ _ _ _ _ _ (c .before .before .loop .inv .1) (rw (c .before .before .before .pre) at (sym (c .before .goes-on .ensures) ∙ c .if1 .left))
+returns c = turns-over _ _ _ _ _ _ (c .before .before .loop .inv .1)
+    (rw (c .before .before .before .pre) at (sym (c .before .goes-on .ensures) ∙ c .if1 .left))
 
 pub rounds-spec : {M : Type 1} → statement M
 rounds-spec =

@@ -9,11 +9,13 @@ use Rattle.stage02_choice.specs.Comparison.{better-above, better-below, 
 use Rattle.stage02_choice.proofs.better.Statement.{statement}
 use Rattle.stage02_choice.proofs.better.Tie as tie
 
-read : (c : tie.Start) → ltZ (toZ w16 (ofZ w16 (c .args .held))) (toZ w16 (ofZ w16 (c .args .level))) ≡ ltZ (c .args .held) (c .args .level)
+read : (c : tie.Start) → ltZ (toZ w16 (ofZ w16 (c .args .held))) (toZ w16 (ofZ w16 (c .args .level)))
+    ≡ ltZ (c .args .held) (c .args .level)
 read c = ap₂ ltZ (toZ-ofZ w16 (c .args .held) (c .fits .held)) (toZ-ofZ w16 (c .args .level) (c .fits .level))
 
 same : (c : tie.Start) → ofZ w16 (c .args .level) ≡ ofZ w16 (c .args .held) → c .args .level ≡ c .args .held
-same c e = sym (toZ-ofZ w16 (c .args .level) (c .fits .level)) ∙ ap (toZ w16) e ∙ toZ-ofZ w16 (c .args .held) (c .fits .held)
+same c e = sym (toZ-ofZ w16 (c .args .level) (c .fits .level)) ∙ ap (toZ w16) e
+    ∙ toZ-ofZ w16 (c .args .held) (c .fits .held)
 
 returns : tie.Need-returns
 returns c =
@@ -30,7 +32,8 @@ returns-3 c =
     let s = c .before .before in
     let a = s .args in
     ne-eqb (ofZ w16 (a .level)) (ofZ w16 (a .held)) (c .if2 .left)
-    ∙ sym (better-below (a .level) (a .w) (a .held) (a .best) (sym (read s) ∙ c .before .if1 .left) (λ q. c .if2 .left (ap (ofZ w16) q)))
+    ∙ sym (better-below (a .level) (a .w) (a .held) (a .best) (sym (read s)
+    ∙ c .before .if1 .left) (λ q. c .if2 .left (ap (ofZ w16) q)))
 
 pub better-spec : {M : Type 1} → statement M
 better-spec = tie.close (tie.spec returns returns-2 returns-3)

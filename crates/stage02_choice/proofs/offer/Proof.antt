@@ -21,17 +21,20 @@ abbrev now : tie.After-takes → Neighbor
 now c = neighborAt (start c .args .held .now) (start c .args .best .now) (start c .args .v % 256)
 
 -- the test, of the levels as they were read
-told : (c : tie.After-takes) → c .takes .result ≡ (eqb (now c .unit) 65535 || better (start c .args .level) (start c .args .w) (now c .level) (now c .unit))
+told : (c : tie.After-takes) → c .takes .result
+    ≡ (eqb (now c .unit) 65535 || better (start c .args .level) (start c .args .w) (now c .level) (now c .unit))
 told c =
     c .takes .ensures
     ∙ ap₂ (λ (z y : ℤ). eqb (now c .unit) 65535 || better z (start c .args .w) y (now c .unit))
-    (toZ-ofZ w16 (start c .args .level) (start c .fits .level)) (toZ-ofZ w16 (now c .level) (record { sfits = c .before .before .old .given }))
+    (toZ-ofZ w16 (start c .args .level) (start c .fits .level))
+    (toZ-ofZ w16 (now c .level) (record { sfits = c .before .before .old .given }))
 
 returns : tie.Need-returns
 returns c =
     let s = start (c .before) in
     let new = prefer-new (now (c .before)) (s .args .level) (s .args .w) (sym (told (c .before)) ∙ c .if1 .taken) in (
-      ap (set (s .args .held .now) (s .args .v % 256)) (toZ-ofZ w16 (s .args .level) (s .fits .level) ∙ ap (λ (x : Neighbor). x .level) (sym new)),
+      ap (set (s .args .held .now) (s .args .v % 256)) (toZ-ofZ w16 (s .args .level) (s .fits .level)
+          ∙ ap (λ (x : Neighbor). x .level) (sym new)),
       ap (set (s .args .best .now) (s .args .v % 256)) (ap (λ (x : Neighbor). x .unit) (sym new)),
     )
 
@@ -39,8 +42,10 @@ returns-2 : tie.Need-returns-2
 returns-2 c =
     let s = start (c .before) in
     let old = prefer-old (now (c .before)) (s .args .level) (s .args .w) (sym (told (c .before)) ∙ c .if1 .left) in (
-      sym (ap (λ (x : Neighbor). set (s .args .held .now) (s .args .v % 256) (x .level)) old ∙ set-getD (s .args .held .now) (s .args .v % 256) (pos 0)),
-      sym (ap (λ (x : Neighbor). set (s .args .best .now) (s .args .v % 256) (x .unit)) old ∙ set-getD (s .args .best .now) (s .args .v % 256) 0),
+      sym (ap (λ (x : Neighbor). set (s .args .held .now) (s .args .v % 256) (x .level)) old
+          ∙ set-getD (s .args .held .now) (s .args .v % 256) (pos 0)),
+      sym (ap (λ (x : Neighbor). set (s .args .best .now) (s .args .v % 256) (x .unit)) old
+          ∙ set-getD (s .args .best .now) (s .args .v % 256) 0),
     )
 
 pub offer-spec : {M : Type 1} → statement M

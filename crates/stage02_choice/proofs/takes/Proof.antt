@@ -17,7 +17,8 @@ returns-2 c =
     let s = c .before .before in
     let a = s .args in
     rw (ne-eqb (a .best) 65535 (c .before .if1 .left))
-    (c .better .ensures ∙ ap₂ (λ (z y : ℤ). better z (a .w) y (a .best)) (toZ-ofZ w16 (a .level) (s .fits .level)) (toZ-ofZ w16 (a .held) (s .fits .held)))
+    (c .better .ensures ∙ ap₂ (λ (z y : ℤ). better z (a .w) y (a .best)) (toZ-ofZ w16 (a .level) (s .fits .level))
+    (toZ-ofZ w16 (a .held) (s .fits .held)))
 
 pub takes-spec : {M : Type 1} → statement M
 takes-spec =

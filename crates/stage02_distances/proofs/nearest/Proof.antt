@@ -17,15 +17,21 @@ use Rattle.stage02_distances.proofs.nearest.Statement.{statement}
 use Rattle.stage02_distances.proofs.nearest.Tie as tie
 
 abbrev Inv-loop : tie.InvT-loop
-Inv-loop links ends levels far held₀ best₀ wide₀ j₀ held best wide j = (j ≤ links) × Holds held best (λ (v : ℕ). bestNeighbor (oneNearer far v) j ends levels v) × (wide ≡ some j (apartAt ends far))
+Inv-loop links ends levels far held₀ best₀ wide₀ j₀ held best wide j =
+    (j ≤ links) × Holds held best (λ (v : ℕ). bestNeighbor (oneNearer far v) j ends levels v)
+    × (wide ≡ some j (apartAt ends far))
 
 abbrev μ-loop : tie.MeasureT-loop
 μ-loop links ends levels far held₀ best₀ wide₀ j₀ held best wide j = links - j
 
 loop-holds : tie.Need-loop-holds Inv-loop μ-loop
 loop-holds c =
-    let a = c .before .before .before .before .args in
-    (search needs, best-none (oneNearer (a .far .now)) (a .ends .now) (a .levels .now) (c .before .no-levels .result) (c .no-units .result) (search needs) (search needs) (c .before .no-levels .ensures) (c .no-units .ensures), search needs)
+    let a = c .before .before .before .before .args in (
+      search needs,
+      best-none (oneNearer (a .far .now)) (a .ends .now) (a .levels .now) (c .before .no-levels .result)
+          (c .no-units .result) (search needs) (search needs) (c .before .no-levels .ensures) (c .no-units .ensures),
+      search needs,
+    )
 
 offer-nearer-requires : tie.Need-offer-nearer-requires Inv-loop μ-loop
 offer-nearer-requires c κs =
@@ -45,8 +51,10 @@ loop-again c =
     let a = s .before .before .before .before .before .args in
     let level = toZ-ofZ w16 (getD (a .levels .now) (s .loop .j) (pos 0)) (record { sfits = l .level .given }) in (
       search needs,
-      best-more (oneNearer (a .far .now)) (a .ends .now) (a .levels .now) (s .loop .j) _ _ _ _ _ level (o .offer-nearer .ensures .0) (s .loop .inv .1),
-      some-more _ (apartAt (a .ends .now) (a .far .now)) _ _ _ (s .loop .inv .2) (o .offer-nearer .ensures .1) (c .either .ensures),
+      best-more (oneNearer (a .far .now)) (a .ends .now) (a .levels .now) (s .loop .j) _ _ _ _ _ level
+          (o .offer-nearer .ensures .0) (s .loop .inv .1),
+      some-more _ (apartAt (a .ends .now) (a .far .now)) _ _ _ (s .loop .inv .2) (o .offer-nearer .ensures .1)
+          (c .either .ensures),
     )
 
 returns : tie.Need-returns Inv-loop μ-loop
@@ -54,7 +62,8 @@ returns c =
     let s = c .before in
     let a = s .before .before .before .before .before .args in
     let end = c .loop-test .left in (
-      λ v h. nearest-all (a .links) (s .loop .j) (a .ends .now) (a .levels .now) (a .far .now) (s .loop .held) (s .loop .best) (s .loop .inv .1) (s .loop .inv .0) end v h,
+      λ v h. nearest-all (a .links) (s .loop .j) (a .ends .now) (a .levels .now) (a .far .now) (s .loop .held)
+          (s .loop .best) (s .loop .inv .1) (s .loop .inv .0) end v h,
       s .loop .inv .2 ∙ some-all _ _ (apartAt (a .ends .now) (a .far .now)) (s .loop .inv .0) end,
     )
 

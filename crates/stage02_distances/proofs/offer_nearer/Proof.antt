@@ -20,10 +20,12 @@ returns c =
     let start = o .before .before .before .before in
     let a = start .args in
     let level = toZ-ofZ w16 (a .level) (start .fits .level) in
-    let first : eqb (at (a .far .now) (a .a) + 1) (at (a .far .now) (a .b)) ≡ true = sym (o .one-more .ensures) ∙ t .if1 .taken in
+    let first : eqb (at (a .far .now) (a .a) + 1) (at (a .far .now) (a .b)) ≡ true =
+    sym (o .one-more .ensures) ∙ t .if1 .taken in
     let unit : a .b % 256 ≡ a .b = omega (arith, start .pre .1) in
     let put = rw (level, unit) at (c .offer .ensures) in (
-      first-linked (a .far .now) (a .level) (a .a) (a .b) _ _ _ _ (omega (arith, start .pre .1)) (eqb-true (at (a .far .now) (a .a) + 1) (at (a .far .now) (a .b)) first) (put .0) (put .1),
+      first-linked (a .far .now) (a .level) (a .a) (a .b) _ _ _ _ (omega (arith, start .pre .1))
+          (eqb-true (at (a .far .now) (a .a) + 1) (at (a .far .now) (a .b)) first) (put .0) (put .1),
       rw first refl,
     )
 
@@ -35,11 +37,14 @@ returns-2 c =
     let start = o .before .before .before .before in
     let a = start .args in
     let level = toZ-ofZ w16 (a .level) (start .fits .level) in
-    let first : eqb (at (a .far .now) (a .a) + 1) (at (a .far .now) (a .b)) ≡ false = sym (o .one-more .ensures) ∙ n .if1 .left in
-    let second : eqb (at (a .far .now) (a .b) + 1) (at (a .far .now) (a .a)) ≡ true = sym (t .before .one-more2 .ensures) ∙ t .if2 .taken in
+    let first : eqb (at (a .far .now) (a .a) + 1) (at (a .far .now) (a .b)) ≡ false =
+    sym (o .one-more .ensures) ∙ n .if1 .left in
+    let second : eqb (at (a .far .now) (a .b) + 1) (at (a .far .now) (a .a)) ≡ true =
+    sym (t .before .one-more2 .ensures) ∙ t .if2 .taken in
     let unit : a .a % 256 ≡ a .a = omega (arith, start .pre .0) in
     let put = rw (level, unit) at (c .offer2 .ensures) in (
-      second-linked (a .far .now) (a .level) (a .a) (a .b) _ _ _ _ (omega (arith, start .pre .0)) (eqb-true (at (a .far .now) (a .b) + 1) (at (a .far .now) (a .a)) second) (put .0) (put .1),
+      second-linked (a .far .now) (a .level) (a .a) (a .b) _ _ _ _ (omega (arith, start .pre .0))
+          (eqb-true (at (a .far .now) (a .b) + 1) (at (a .far .now) (a .a)) second) (put .0) (put .1),
       rw (first, second) refl,
     )
 
@@ -48,9 +53,13 @@ returns-3 c =
     let n = c .before .before in
     let o = n .before in
     let a = o .before .before .before .before .args in
-    let first : eqb (at (a .far .now) (a .a) + 1) (at (a .far .now) (a .b)) ≡ false = sym (o .one-more .ensures) ∙ n .if1 .left in
-    let second : eqb (at (a .far .now) (a .b) + 1) (at (a .far .now) (a .a)) ≡ false = sym (c .before .one-more2 .ensures) ∙ c .if2 .left in (
-      neither-linked (a .far .now) (a .level) (a .a) (a .b) _ _ (eqb-false (at (a .far .now) (a .a) + 1) (at (a .far .now) (a .b)) first) (eqb-false (at (a .far .now) (a .b) + 1) (at (a .far .now) (a .a)) second),
+    let first : eqb (at (a .far .now) (a .a) + 1) (at (a .far .now) (a .b)) ≡ false =
+    sym (o .one-more .ensures) ∙ n .if1 .left in
+    let second : eqb (at (a .far .now) (a .b) + 1) (at (a .far .now) (a .a)) ≡ false =
+    sym (c .before .one-more2 .ensures) ∙ c .if2 .left in (
+      neither-linked (a .far .now) (a .level) (a .a) (a .b) _ _
+          (eqb-false (at (a .far .now) (a .a) + 1) (at (a .far .now) (a .b)) first)
+          (eqb-false (at (a .far .now) (a .b) + 1) (at (a .far .now) (a .a)) second),
       rw (first, second) refl,
     )
 

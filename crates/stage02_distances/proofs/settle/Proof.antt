@@ -42,7 +42,8 @@ loop-again c =
       search needs,
       over-more _ _ _ _ _ _ (s .loop .inv .3) is-parent refl,
       over-more _ _ _ _ _ _ (s .loop .inv .4) refl refl,
-      some-more _ (straysAt (a .made) (a .last) (a .far .now) (a .cand .now) (a .t7)) _ _ _ (s .loop .inv .5) is-stray (c .either .ensures),
+      some-more _ (straysAt (a .made) (a .last) (a .far .now) (a .cand .now) (a .t7)) _ _ _ (s .loop .inv .5) is-stray
+          (c .either .ensures),
     )
 
 returns : tie.Need-returns Inv-loop μ-loop
@@ -50,10 +51,12 @@ returns c =
     let s = c .before in
     let a = s .before .before .before .args in
     let end = c .loop-test .left in (
-      s .loop .inv .3 ∙ over-all _ _ (parentFrom (a .made) (a .far .now) (a .cand .now) (a .t6)) (a .t6) (s .loop .inv .0) end,
+      s .loop .inv .3 ∙ over-all _ _ (parentFrom (a .made) (a .far .now) (a .cand .now) (a .t6)) (a .t6)
+          (s .loop .inv .0) end,
       (
         s .loop .inv .4 ∙ over-all _ _ (at (a .far .now)) (a .t7) (s .loop .inv .0) end,
-        s .loop .inv .5 ∙ some-all _ _ (straysAt (a .made) (a .last) (a .far .now) (a .cand .now) (a .t7)) (s .loop .inv .0) end,
+        s .loop .inv .5 ∙ some-all _ _ (straysAt (a .made) (a .last) (a .far .now) (a .cand .now) (a .t7))
+            (s .loop .inv .0) end,
       ),
     )
 

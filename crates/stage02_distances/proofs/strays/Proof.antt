@@ -5,7 +5,12 @@ use Rattle.stage02_distances.proofs.strays.Statement.{statement}
 use Rattle.stage02_distances.proofs.strays.Tie as tie
 
 returns : tie.Need-returns
-returns c = rw (c .pick .ensures, c .before .both2 .ensures, c .before .before .either .ensures, c .before .before .before .both .ensures) refl
+returns c = rw (
+  c .pick .ensures,
+  c .before .both2 .ensures,
+  c .before .before .either .ensures,
+  c .before .before .before .both .ensures,
+) refl
 
 pub strays-spec : {M : Type 1} → statement M
 strays-spec =

@@ -32,7 +32,9 @@ fine c =
     let top = ltb (b .before .before .word .result) (a .units) in
     let w = b .before .before in
     let f = w .before .before in
-    let all : ((few && fit) && (tip && top)) ≡ true = sym (rw (b .before .both2 .ensures, f .both .ensures, f .before .links-fit .ensures) at (b .both3 .ensures)) ∙ not-false _ (c .if1 .left) in
+    let all : ((few && fit) && (tip && top)) ≡ true =
+    sym (rw (b .before .both2 .ensures, f .both .ensures, f .before .links-fit .ensures) at (b .both3 .ensures))
+    ∙ not-false _ (c .if1 .left) in
     let fits = and-left (few && fit) (tip && top) all in
     let inside = and-right (few && fit) (tip && top) all in
     record {
@@ -54,7 +56,11 @@ nearest-requires c κs =
     (search needs, (f .within .0, λ i h. omega (arith, f .within .1 i h, f .few)), search needs, search needs)
 
 settle-requires : tie.Need-settle-requires
-settle-requires c κs = (fine (c .before .before .before .before .before .before .before .before) .few, search needs, search needs)
+settle-requires c κs = (
+  fine (c .before .before .before .before .before .before .before .before) .few,
+  search needs,
+  search needs,
+)
 
 returns-2 : tie.Need-returns-2
 returns-2 c =
@@ -64,9 +70,12 @@ returns-2 c =
     let ahead = near .before .before .before .before in
     let s = start ahead in
     let f = fine ahead in
-    λ t. leapt-tested (s .args .units) (s .args .links) (s .args .made) _ _ (s .args .ends .now) (s .args .levels .now) (s .args .parent) (s .args .dist) _ (near .nearest .result .best) _ _ _ _ _
-    (f .few) (omega (arith, s .good .1 .1 .1 .1 .1 .1 .1 .1)) (f .within) (f .tip) (f .top) (ahead .before .before .before .word .ensures)
-    (near .nearest .ensures .0) (near .nearest .ensures .1) (new .settle .ensures .0) (new .settle .ensures .1 .0) (new .settle .ensures .1 .1)
+    λ t. leapt-tested (s .args .units) (s .args .links) (s .args .made) _ _ (s .args .ends .now) (s .args .levels .now)
+    (s .args .parent) (s .args .dist) _ (near .nearest .result .best) _ _ _ _ _
+    (f .few) (omega (arith, s .good .1 .1 .1 .1 .1 .1 .1 .1)) (f .within) (f .tip) (f .top)
+    (ahead .before .before .before .word .ensures)
+    (near .nearest .ensures .0) (near .nearest .ensures .1) (new .settle .ensures .0) (new .settle .ensures .1 .0)
+    (new .settle .ensures .1 .1)
     (rw (e .before .both4 .ensures, e .either .ensures) at (c .both5 .ensures)) t
 
 pub tested-spec : {M : Type 1} → statement M

@@ -39,7 +39,8 @@ returns c =
     let a = s .before .before .before .args in
     let end = c .loop-test .left in (
       s .loop .inv .3 ∙ over-all _ _ (at (a .plan .now)) (a .parent) (s .loop .inv .0) end,
-      s .loop .inv .4 ∙ over-all _ _ (λ (w : ℕ). stepsTo (a .plan .now) (at (a .color .now) w) (a .units) w) (a .dist) (s .loop .inv .0) end,
+      s .loop .inv .4 ∙ over-all _ _ (λ (w : ℕ). stepsTo (a .plan .now) (at (a .color .now) w) (a .units) w) (a .dist)
+          (s .loop .inv .0) end,
     )
 
 pub unit-by-unit-spec : {M : Type 1} → statement M

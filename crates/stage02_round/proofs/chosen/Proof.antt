@@ -12,15 +12,20 @@ use Rattle.stage02_round.proofs.chosen.Statement.{statement}
 use Rattle.stage02_round.proofs.chosen.Tie as tie
 
 abbrev Inv-loop : tie.InvT-loop
-Inv-loop links made ends levels dist held₀ best₀ j₀ held best j = (j ≤ links) × Holds held best (bestNeighbor (visitedBefore made dist) j (wrapped ends) levels)
+Inv-loop links made ends levels dist held₀ best₀ j₀ held best j =
+    (j ≤ links) × Holds held best (bestNeighbor (visitedBefore made dist) j (wrapped ends) levels)
 
 abbrev μ-loop : tie.MeasureT-loop
 μ-loop links made ends levels dist held₀ best₀ j₀ held best j = links - j
 
 loop-holds : tie.Need-loop-holds Inv-loop μ-loop
 loop-holds c =
-    let a = c .before .before .before .before .args in
-    (search needs, best-none (λ (v : ℕ). visitedBefore (a .made) (a .dist .now)) (wrapped (a .ends .now)) (a .levels .now) (c .before .no-levels .result) (c .no-units .result) (search needs) (search needs) (c .before .no-levels .ensures) (c .no-units .ensures))
+    let a = c .before .before .before .before .args in (
+      search needs,
+      best-none (λ (v : ℕ). visitedBefore (a .made) (a .dist .now)) (wrapped (a .ends .now))
+          (a .levels .now) (c .before .no-levels .result) (c .no-units .result) (search needs) (search needs)
+          (c .before .no-levels .ensures) (c .no-units .ensures),
+    )
 
 loop-again : tie.Need-loop-again Inv-loop μ-loop
 loop-again c =
@@ -30,7 +35,8 @@ loop-again c =
     let e = a .ends .now in
     let level = toZ-ofZ w16 (getD (a .levels .now) (s .loop .j) (pos 0)) (record { sfits = l .level .given }) in (
       search needs,
-      best-more (λ (v : ℕ). visitedBefore (a .made) (a .dist .now)) (wrapped e) (a .levels .now) (s .loop .j) _ _ _ _ _ level
+      best-more (λ (v : ℕ). visitedBefore (a .made) (a .dist .now)) (wrapped e) (a .levels .now)
+          (s .loop .j) _ _ _ _ _ level
           (rw (first-wrapped e (s .loop .j), second-wrapped e (s .loop .j)) (c .offer-both .ensures)) (s .loop .inv .1),
     )
 
@@ -38,7 +44,8 @@ returns : tie.Need-returns Inv-loop μ-loop
 returns c =
     let s = c .before in
     let a = s .before .before .before .before .before .args in
-    λ v h. chosen-all (a .links) (s .loop .j) (a .made) (wrapped (a .ends .now)) (a .levels .now) (a .dist .now) (s .loop .held) (s .loop .best) (s .loop .inv .1) (s .loop .inv .0) (c .loop-test .left) v h
+    λ v h. chosen-all (a .links) (s .loop .j) (a .made) (wrapped (a .ends .now)) (a .levels .now) (a .dist .now)
+    (s .loop .held) (s .loop .best) (s .loop .inv .1) (s .loop .inv .0) (c .loop-test .left) v h
 
 pub chosen-spec : {M : Type 1} → statement M
 chosen-spec =

@@ -24,15 +24,19 @@ returns c =
     let second : a .b % 256 ≡ a .b = omega (arith, start .pre .1) in
     let to-a = rw (e .before .was-visited2 .ensures, level, first) at (one .offer-if .ensures) in
     let to-b = rw (e .before .before .was-visited .ensures, level, second) at (c .offer-if2 .ensures) in
-    linked (visitedBefore (a .made) (a .dist .now)) (a .level) (a .a) (a .b) _ _ _ _ _ _ (omega (arith, start .pre .0)) (omega (arith, start .pre .1)) (to-a .0) (to-a .1) (to-b .0) (to-b .1)
+    linked (visitedBefore (a .made) (a .dist .now)) (a .level) (a .a) (a .b) _ _ _ _ _ _ (omega (arith, start .pre .0))
+    (omega (arith, start .pre .1)) (to-a .0) (to-a .1) (to-b .0) (to-b .1)
 
 returns-2 : tie.Need-returns-2
 returns-2 c =
     let e = c .before in
     let a = e .before .before .before .before .args in
     let passes = visitedBefore (a .made) (a .dist .now) in
-    let none : (passes (a .a) || passes (a .b)) ≡ false = sym (rw (e .before .before .was-visited .ensures, e .before .was-visited2 .ensures) at (e .either .ensures)) ∙ c .if1 .left in
-    passed-over passes (a .level) (a .a) (a .b) _ _ (or-false-left (passes (a .a)) (passes (a .b)) none) (or-false-right (passes (a .a)) (passes (a .b)) none)
+    let none : (passes (a .a) || passes (a .b)) ≡ false =
+    sym (rw (e .before .before .was-visited .ensures, e .before .was-visited2 .ensures) at (e .either .ensures))
+    ∙ c .if1 .left in
+    passed-over passes (a .level) (a .a) (a .b) _ _ (or-false-left (passes (a .a)) (passes (a .b)) none)
+    (or-false-right (passes (a .a)) (passes (a .b)) none)
 
 pub offer-both-spec : {M : Type 1} → statement M
 offer-both-spec =

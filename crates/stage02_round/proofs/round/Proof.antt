@@ -23,10 +23,13 @@ returns c =
     let e = wrapped (a .ends .now) in
     rw (← one .least-of .ensures, ← two .least-of2 .ensures) (
       c .visit .ensures .0
-          ∙ parent-round _ (a .made) e (a .levels .now) (a .color .now) (a .t8) (k .result) full (k .ensures) _ (a .parent) small,
+          ∙ parent-round _ (a .made) e (a .levels .now) (a .color .now) (a .t8) (k .result) full (k .ensures) _
+          (a .parent) small,
       (
-        c .visit .ensures .1 .0 ∙ dist-round _ (a .made) e (a .levels .now) (a .color .now) (a .t8) (k .result) full (k .ensures) _,
-        c .visit .ensures .1 .1 ∙ tree-ends _ (a .made) e (a .levels .now) (a .color .now) (a .t8) (k .result) full (k .ensures) _,
+        c .visit .ensures .1 .0 ∙ dist-round _ (a .made) e (a .levels .now) (a .color .now) (a .t8) (k .result) full
+            (k .ensures) _,
+        c .visit .ensures .1 .1 ∙ tree-ends _ (a .made) e (a .levels .now) (a .color .now) (a .t8) (k .result) full
+            (k .ensures) _,
       ),
     )
 

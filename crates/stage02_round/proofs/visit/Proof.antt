@@ -42,7 +42,8 @@ loop-again c =
       search needs,
       over-more _ _ _ _ _ _ (s .loop .inv .3) is-parent refl,
       over-more _ _ _ _ _ _ (s .loop .inv .4) is-dist refl,
-      some-more _ (visitsBy (a .made) (a .color .now) (a .t6) (a .cand .now)) _ _ _ (s .loop .inv .5) (seen .visits .ensures) (c .either .ensures),
+      some-more _ (visitsBy (a .made) (a .color .now) (a .t6) (a .cand .now)) _ _ _ (s .loop .inv .5)
+          (seen .visits .ensures) (c .either .ensures),
     )
 
 returns : tie.Need-returns Inv-loop μ-loop
@@ -50,10 +51,13 @@ returns c =
     let s = c .before in
     let a = s .before .before .before .args in
     let end = c .loop-test .left in (
-      s .loop .inv .3 ∙ over-all _ _ (parentBy (a .made) (a .color .now) (a .t6) (a .cand .now) (a .t5)) (a .t5) (s .loop .inv .0) end,
+      s .loop .inv .3 ∙ over-all _ _ (parentBy (a .made) (a .color .now) (a .t6) (a .cand .now) (a .t5)) (a .t5)
+          (s .loop .inv .0) end,
       (
-        s .loop .inv .4 ∙ over-all _ _ (distBy (a .made) (a .color .now) (a .t6) (a .cand .now)) (a .t6) (s .loop .inv .0) end,
-        ap not (s .loop .inv .5 ∙ some-all _ _ (visitsBy (a .made) (a .color .now) (a .t6) (a .cand .now)) (s .loop .inv .0) end),
+        s .loop .inv .4 ∙ over-all _ _ (distBy (a .made) (a .color .now) (a .t6) (a .cand .now)) (a .t6)
+            (s .loop .inv .0) end,
+        ap not (s .loop .inv .5 ∙ some-all _ _ (visitsBy (a .made) (a .color .now) (a .t6) (a .cand .now))
+            (s .loop .inv .0) end),
       ),
     )
 

@@ -29,7 +29,8 @@ fine c =
     let r = found c .leap .result .right in
     let g = eqb (start c .args .given) 0 in
     let l = ltb (c .before .before .before .less .result) (start c .args .left) in
-    let all : (r && (g && l)) ≡ true = sym (rw (c .before .before .both .ensures) at (c .before .both2 .ensures)) ∙ not-false _ (c .if1 .left) in
+    let all : (r && (g && l)) ≡ true = sym (rw (c .before .before .both .ensures) at (c .before .both2 .ensures))
+    ∙ not-false _ (c .if1 .left) in
     let covered = and-right r (g && l) all in
     record {
       right = and-left r (g && l) all;
@@ -53,7 +54,13 @@ add-least-of : tie.Need-add-least-of
 add-least-of c = record { fits = omega (arith, few (c .before .before)) }
 
 add-least-of-2 : tie.Need-add-least-of-2
-add-least-of-2 c = record { fits = omega (arith, few (c .before .before .before), ready (start (c .before .before .before)) .rounds) }
+add-least-of-2 c = record {
+  fits = omega (
+    arith,
+    few (c .before .before .before),
+    ready (start (c .before .before .before)) .rounds,
+  );
+}
 
 add-t23 : tie.Need-add-t23
 add-t23 c = record { fits = omega (arith, few (c .before .before .before .before)) }
@@ -69,8 +76,10 @@ returns-2 c =
     let s = start e in
     let a = s .args in
     let l = found e .leap .ensures (fine e .right) in
-    λ t. leapt-run (a .units) (a .links) (a .left) (a .given) (found e .leap .result .last) _ _ (a .plan .now) (a .ends .now) (a .levels .now) (a .color .now)
-    (record { parent = a .parent; dist = a .dist; clock = a .clock; made = a .made }) _ _ (fine e .none) (s .pre .0) (s .pre .1) l (e .before .before .before .less .ensures) (fine e .covered)
+    λ t. leapt-run (a .units) (a .links) (a .left) (a .given) (found e .leap .result .last) _ _ (a .plan .now)
+    (a .ends .now) (a .levels .now) (a .color .now)
+    (record { parent = a .parent; dist = a .dist; clock = a .clock; made = a .made }) _ _ (fine e .none) (s .pre .0)
+    (s .pre .1) l (e .before .before .before .less .ensures) (fine e .covered)
     (c .least-of .ensures)
 
 pub remaining-spec : {M : Type 1} → statement M

@@ -25,7 +25,8 @@ returns c =
     let s = p .before .before in
     let a = s .args in
     let e = rw (units s) at (p .take-over .ensures) in
-    let l = after-plan (a .units) (a .links) (a .made) (a .given) (a .plan .now) (a .ends .now) (a .levels .now) (a .color .now) (a .dist) (a .parent) (p .before .if1 .taken) in
+    let l = after-plan (a .units) (a .links) (a .made) (a .given) (a .plan .now) (a .ends .now) (a .levels .now)
+    (a .color .now) (a .dist) (a .parent) (p .before .if1 .taken) in
     (e .0 ∙ l .0, (e .1 ∙ l .1 .0, l .1 .1))
 
 returns-2 : tie.Need-returns-2
@@ -33,12 +34,16 @@ returns-2 c =
     let s = c .before .before in
     let a = s .args in
     let e = rw (units s, links s) at (c .round .ensures) in
-    let l = after-search (a .units) (a .links) (a .made) (a .given) (a .plan .now) (a .ends .now) (a .levels .now) (a .color .now) (a .dist) (a .parent) (c .before .if1 .left) in
+    let l = after-search (a .units) (a .links) (a .made) (a .given) (a .plan .now) (a .ends .now) (a .levels .now)
+    (a .color .now) (a .dist) (a .parent) (c .before .if1 .left) in
     let w = within s in (
-      e .0 ∙ parents-wrapped (a .links) (a .made) (a .ends .now) (a .levels .now) (a .color .now) (a .dist) w (a .units) (a .parent) ∙ l .0,
+      e .0 ∙ parents-wrapped (a .links) (a .made) (a .ends .now) (a .levels .now) (a .color .now) (a .dist) w (a .units)
+          (a .parent) ∙ l .0,
       (
-        e .1 .0 ∙ dists-wrapped (a .links) (a .made) (a .ends .now) (a .levels .now) (a .color .now) (a .dist) w (a .units) ∙ l .1 .0,
-        e .1 .1 ∙ ends-wrapped (a .links) (a .made) (a .ends .now) (a .levels .now) (a .color .now) (a .dist) w (a .units) ∙ l .1 .1,
+        e .1 .0 ∙ dists-wrapped (a .links) (a .made) (a .ends .now) (a .levels .now) (a .color .now) (a .dist) w
+            (a .units) ∙ l .1 .0,
+        e .1 .1 ∙ ends-wrapped (a .links) (a .made) (a .ends .now) (a .levels .now) (a .color .now) (a .dist) w
+            (a .units) ∙ l .1 .1,
       ),
     )
 

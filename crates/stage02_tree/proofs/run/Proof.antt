@@ -12,16 +12,21 @@ use Rattle.stage02_tree.proofs.run.Tie as tie
 
 abbrev Inv-loop : tie.InvT-loop
 Inv-loop units links budget given plan ends levels color fits wait leap-at above₀ far₀ c₀ made₀ above far c made =
-    Turning (on units links ends) (one units links given plan ends levels color) budget (record { parent = above₀; dist = far₀; clock = c₀; made = 0 }) made
+    Turning (on units links ends) (one units links given plan ends levels color) budget
+    (record { parent = above₀; dist = far₀; clock = c₀; made = 0 }) made
     (record { parent = above; dist = far; clock = c; made = made })
 
 abbrev μ-loop : tie.MeasureT-loop
-μ-loop units links budget given plan ends levels color fits wait leap-at above₀ far₀ c₀ made₀ above far c made = budget - made
+μ-loop units links budget given plan ends levels color fits wait leap-at above₀ far₀ c₀ made₀ above far c made =
+    budget - made
 
 -- the stage goes on where a round is made
 go : (c : tie.Then1 Inv-loop μ-loop)
-    → (let a = c .before .before .before .before .before .before .before .before .args in Goes (a .units) 2 (c .before .before .loop .made) (a .budget) (linksFit (a .units) (a .links) (a .ends .now)) (c .before .before .loop .c))
-go c = goes _ _ _ _ _ _ (rw (c .before .before .before .before .before .before .links-fit .ensures) at (sym (c .before .goes-on .ensures) ∙ c .if1 .taken))
+    → (let a = c .before .before .before .before .before .before .before .before .args in Goes (a .units) 2
+    (c .before .before .loop .made) (a .budget) (linksFit (a .units) (a .links) (a .ends .now))
+    (c .before .before .loop .c))
+go c = goes _ _ _ _ _ _ (rw (c .before .before .before .before .before .before .links-fit .ensures) at
+    (sym (c .before .goes-on .ensures) ∙ c .if1 .taken))
 
 loop-holds : tie.Need-loop-holds Inv-loop μ-loop
 loop-holds c = turns-begin _ _ _ _
@@ -45,8 +50,11 @@ round-requires c κs =
     let at-links-fit-arg = c .before .before .before .before .before .before .before .before in
     let start = at-links-fit-arg .before in
     let g = go t in
-    let a = start .args in
-    (g .few, fit-few (a .units) (a .links) (a .ends .now) (g .fit), fit-within (a .units) (a .links) (a .ends .now) (at-links-fit-arg .links-fit-arg .given .0) (g .fit))
+    let a = start .args in (
+      g .few,
+      fit-few (a .units) (a .links) (a .ends .now) (g .fit),
+      fit-within (a .units) (a .links) (a .ends .now) (at-links-fit-arg .links-fit-arg .given .0) (g .fit),
+    )
 
 add-made : tie.Need-add-made Inv-loop μ-loop
 add-made c =
@@ -64,10 +72,13 @@ loop-again c =
     let r = k .before in
     let t = r .before .before in
     let g = go t in
-    turns-on _ _ _ _ _ _ _ (t .before .before .loop .inv) (g .test) (rw (k .ticked .ensures, g .inside, r .round .ensures .0, r .round .ensures .1 .0, r .round .ensures .1 .1))
+    turns-on _ _ _ _ _ _ _ (t .before .before .loop .inv) (g .test)
+    (rw (k .ticked .ensures, g .inside, r .round .ensures .0, r .round .ensures .1 .0, r .round .ensures .1 .1))
 
 returns-2 : tie.Need-returns-2 Inv-loop μ-loop
-returns-2 c = turns-over _ _ _ _ _ _ (c .before .before .loop .inv) (rw (c .before .before .before .before .before .before .links-fit .ensures) at (sym (c .before .goes-on .ensures) ∙ c .if1 .left))
+returns-2 c = turns-over _ _ _ _ _ _ (c .before .before .loop .inv)
+    (rw (c .before .before .before .before .before .before .links-fit .ensures) at (sym (c .before .goes-on .ensures)
+    ∙ c .if1 .left))
 
 pub run-spec : {M : Type 1} → statement M
 run-spec =

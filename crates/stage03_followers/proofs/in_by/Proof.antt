@@ -4,7 +4,12 @@ use Rattle.stage03_followers.proofs.in_by.Statement.{statement}
 use Rattle.stage03_followers.proofs.in_by.Tie as tie
 
 returns : tie.Need-returns
-returns c = rw (c .choose .ensures, c .before .arc-word .ensures, c .before .before .at .ensures, c .before .before .before .turn-to .ensures)
+returns c = rw (
+  c .choose .ensures,
+  c .before .arc-word .ensures,
+  c .before .before .at .ensures,
+  c .before .before .before .turn-to .ensures,
+)
 
 pub in-by-spec : {M : Type 1} → statement M
 in-by-spec =

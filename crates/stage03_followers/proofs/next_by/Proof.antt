@@ -30,13 +30,16 @@ loop-again c =
     let h = start .pre in
     let is-in : into .in-by .result ≡ storedNext (a .units) (a .parent .now) (2 * s .loop .v) =
     into .in-by .ensures
-    ∙ in-right (a .units) (a .parent .now) (a .eldest .now) (a .later .now) (a .past .now) (h .0) (h .1 .0 .1) (h .1 .1 .0 .1) (h .1 .1 .1 .1) (s .loop .v) (turn .loop-test .taken) in
+    ∙ in-right (a .units) (a .parent .now) (a .eldest .now) (a .later .now) (a .past .now) (h .0) (h .1 .0 .1)
+    (h .1 .1 .0 .1) (h .1 .1 .1 .1) (s .loop .v) (turn .loop-test .taken) in
     let is-out : out .out-by .result ≡ storedNext (a .units) (a .parent .now) (2 * s .loop .v + 1) =
     out .out-by .ensures
-    ∙ out-right (a .units) (a .parent .now) (a .eldest .now) (a .later .now) (a .past .now) (h .0) (h .1 .0 .1) (h .1 .1 .0 .1) (h .1 .1 .1 .1) (s .loop .v) (turn .loop-test .taken) in (
+    ∙ out-right (a .units) (a .parent .now) (a .eldest .now) (a .later .now) (a .past .now) (h .0) (h .1 .0 .1)
+    (h .1 .1 .0 .1) (h .1 .1 .1 .1) (s .loop .v) (turn .loop-test .taken) in (
       search needs,
       search needs,
-      over-pair (s .loop .v) (storedNext (a .units) (a .parent .now)) _ _ _ _ _ (s .loop .inv .2) (λ _. is-in) (λ _. is-out) refl,
+      over-pair (s .loop .v) (storedNext (a .units) (a .parent .now)) _ _ _ _ _ (s .loop .inv .2) (λ _. is-in)
+          (λ _. is-out) refl,
     )
 
 returns : tie.Need-returns Inv-loop μ-loop
@@ -46,7 +49,8 @@ returns c =
     let start = s .before .before .before .before .before in
     let a = start .args in
     let fit = start .pre .0 in
-    rw (le-antisymm (s .loop .inv .0) (c .loop-test .left)) at (s .loop .inv .2) ∙ next-exact (a .units) (a .parent .now) (fit .0) (fit .1 .1) _
+    rw (le-antisymm (s .loop .inv .0) (c .loop-test .left)) at (s .loop .inv .2)
+    ∙ next-exact (a .units) (a .parent .now) (fit .0) (fit .1 .1) _
 
 pub next-by-spec : {M : Type 1} → statement M
 next-by-spec =

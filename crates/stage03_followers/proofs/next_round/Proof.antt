@@ -13,10 +13,12 @@ passed : (c : tie.Else1) → (let a = c .before .before .before .before .args in
 passed c = rw (c .before .before .names-ok .ensures) at (sym (c .before .both .ensures) ∙ not-false _ (c .if1 .left))
 
 parents : (c : tie.Else1) → (let a = c .before .before .before .before .args in Parents (a .units) (a .parent .now))
-parents c = let a = c .before .before .before .before .args in fit-parents (a .units) (a .parent .now) (c .before .before .before .names-ok-arg .given .0) (passed c)
+parents c = let a = c .before .before .before .before .args in fit-parents (a .units) (a .parent .now)
+    (c .before .before .before .names-ok-arg .given .0) (passed c)
 
 returns : tie.Need-returns
-returns c = sym (cond-false _ _ _ (rw (c .before .before .names-ok .ensures) at (sym (c .before .both .ensures) ∙ not-true _ (c .if1 .taken))))
+returns c = sym (cond-false _ _ _ (rw (c .before .before .names-ok .ensures) at (sym (c .before .both .ensures)
+    ∙ not-true _ (c .if1 .taken))))
 
 scan-requires : tie.Need-scan-requires
 scan-requires c κs = let p = parents (c .before) in (p .0, p .1 .0)
@@ -25,8 +27,13 @@ next-by-requires : tie.Need-next-by-requires
 next-by-requires c κs =
     let at-scan = c .before .before .before .before .before .before .before .before in
     let start = at-scan .before .before in
-    let near = at-scan .scan in
-    (parents (start), ((search (near .ok, needs), near .ensures .0), ((search (near .ok, needs), near .ensures .1 .0), (search (near .ok, needs), near .ensures .1 .1))))
+    let near = at-scan .scan in (
+      parents (start),
+      (
+        (search (near .ok, needs), near .ensures .0),
+        ((search (near .ok, needs), near .ensures .1 .0), (search (near .ok, needs), near .ensures .1 .1)),
+      ),
+    )
 
 returns-2 : tie.Need-returns-2
 returns-2 c =

@@ -20,8 +20,12 @@ abbrev μ-loop : tie.MeasureT-loop
 
 loop-holds : tie.Need-loop-holds Inv-loop μ-loop
 loop-holds c =
-    let a = c .before .before .args in
-    (search needs, search needs, eldest-none (a .count) (a .key .now) BUCKETS (c .blank-arcs .result) (c .blank-arcs .ensures))
+    let a = c .before .before .args in (
+      search needs,
+      search needs,
+      eldest-none (a .count) (a .key .now) BUCKETS (c .blank-arcs .result)
+          (c .blank-arcs .ensures),
+    )
 
 loop-again : tie.Need-loop-again Inv-loop μ-loop
 loop-again c =
@@ -33,8 +37,12 @@ loop-again c =
     let j = s .loop .k - 1 in
     let down : s .loop .k ≡ j + 1 = omega (arith, turn .loop-test .taken) in
     let below : j < a .count = omega (arith, s .loop .inv .0, turn .loop-test .taken) in
-    let small : a .count ≤ ABSENT = omega (arith, start .fits .count) in
-    (search needs, search needs, eldest-turn (a .count) (a .key .now) (s .loop .k) j down below small BUCKETS (s .loop .first) (put .store .last .0) (s .loop .inv .1) (s .loop .inv .2) (put .store .ensures))
+    let small : a .count ≤ ABSENT = omega (arith, start .fits .count) in (
+      search needs,
+      search needs,
+      eldest-turn (a .count) (a .key .now) (s .loop .k) j down below small BUCKETS
+          (s .loop .first) (put .store .last .0) (s .loop .inv .1) (s .loop .inv .2) (put .store .ensures),
+    )
 
 returns : tie.Need-returns Inv-loop μ-loop
 returns c =

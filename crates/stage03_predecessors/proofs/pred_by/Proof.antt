@@ -37,17 +37,20 @@ loop-again c =
     let f = predecessor (a .units) (a .parent .now) (a .next .now) in
     let is-in : into .pred-in .result ≡ f (2 * s .loop .v) =
     into .pred-in .ensures
-    ∙ into-right (a .units) (a .parent .now) (a .next .now) (child .result) (first .result) (start .pre .0) (child .ensures) (first .ensures) (s .loop .v) (turn .loop-test .taken) in
+    ∙ into-right (a .units) (a .parent .now) (a .next .now) (child .result) (first .result) (start .pre .0)
+    (child .ensures) (first .ensures) (s .loop .v) (turn .loop-test .taken) in
     let is-out : out .pred-out .result ≡ f (2 * s .loop .v + 1) =
     out .pred-out .ensures
-    ∙ out-right (a .units) (a .parent .now) (a .next .now) (child .result) (first .result) (start .pre .0) (child .ensures) (first .ensures) (s .loop .v) (turn .loop-test .taken) in (
+    ∙ out-right (a .units) (a .parent .now) (a .next .now) (child .result) (first .result) (start .pre .0)
+    (child .ensures) (first .ensures) (s .loop .v) (turn .loop-test .taken) in (
       search needs,
       search needs,
       search needs,
       search needs,
       over-pair (s .loop .v) f _ _ _ _ _ (s .loop .inv .4) (λ _. is-in) (λ _. is-out) refl,
       over-pair (s .loop .v) f _ _ _ _ _ (s .loop .inv .5) (λ _. is-in) (λ _. is-out) refl,
-      over-pair (s .loop .v) (firstSum (a .parent .now)) _ _ _ _ _ (s .loop .inv .6) (λ _. c .choose .ensures ∙ sum-into (a .parent .now) (s .loop .v))
+      over-pair (s .loop .v) (firstSum (a .parent .now)) _ _ _ _ _ (s .loop .inv .6) (λ _. c .choose .ensures
+          ∙ sum-into (a .parent .now) (s .loop .v))
           (λ _. c .choose .ensures ∙ sum-out (a .parent .now) (s .loop .v)) refl,
     )
 

@@ -14,14 +14,17 @@ passed c = rw (c .before .before .names-ok .ensures) at (sym (c .before .both .e
 
 returns : tie.Need-returns
 returns c =
-    let off = rw (c .before .before .names-ok .ensures) at (sym (c .before .both .ensures) ∙ not-true _ (c .if1 .taken)) in
+    let off = rw (c .before .before .names-ok .ensures) at (sym (c .before .both .ensures)
+    ∙ not-true _ (c .if1 .taken)) in
     (sym (cond-false _ _ _ off), (sym (cond-false _ _ _ off), sym (cond-false _ _ _ off)))
 
 pred-by-requires : tie.Need-pred-by-requires
 pred-by-requires c κs =
     let e = c .before .before in
-    let a = e .before .before .before .before .args in
-    (fit-parents (a .units) (a .parent .now) (e .before .before .before .names-ok-arg .given .0) (passed e), c .pred-by-arg2 .given .0)
+    let a = e .before .before .before .before .args in (
+      fit-parents (a .units) (a .parent .now) (e .before .before .before .names-ok-arg .given .0) (passed e),
+      c .pred-by-arg2 .given .0,
+    )
 
 returns-2 : tie.Need-returns-2
 returns-2 c =

@@ -15,7 +15,8 @@ use Rattle.stage03_tour.proofs.run.Tie as tie
 
 abbrev Inv-loop : tie.InvT-loop
 Inv-loop units budget parent fits to₀ from₀ before₀ total₀ c₀ made₀ to from before total c made =
-    Turning (on units parent) (one units parent) budget (record { next = to₀; pred = from₀; jump = before₀; sum = total₀; clock = c₀; made = 0 }) made
+    Turning (on units parent) (one units parent) budget
+    (record { next = to₀; pred = from₀; jump = before₀; sum = total₀; clock = c₀; made = 0 }) made
     (record { next = to; pred = from; jump = before; sum = total; clock = c; made = made })
 
 abbrev μ-loop : tie.MeasureT-loop
@@ -23,8 +24,10 @@ abbrev μ-loop : tie.MeasureT-loop
 
 -- the stage goes on where a round is made
 go : (c : tie.Then1 Inv-loop μ-loop)
-    → (let a = c .before .before .before .before .before .args in Goes (a .units) 3 (c .before .before .loop .made) (a .budget) (every (nameOk (a .units)) (a .parent .now)) (c .before .before .loop .c))
-go c = goes _ _ _ _ _ _ (rw (c .before .before .before .names-ok .ensures) at (sym (c .before .goes-on .ensures) ∙ c .if1 .taken))
+    → (let a = c .before .before .before .before .before .args in Goes (a .units) 3 (c .before .before .loop .made)
+    (a .budget) (every (nameOk (a .units)) (a .parent .now)) (c .before .before .loop .c))
+go c = goes _ _ _ _ _ _ (rw (c .before .before .before .names-ok .ensures) at (sym (c .before .goes-on .ensures)
+    ∙ c .if1 .taken))
 
 loop-holds : tie.Need-loop-holds Inv-loop μ-loop
 loop-holds c = turns-begin _ _ _ _
@@ -46,7 +49,8 @@ loop-again c =
     let g = go t in
     let fit = and-true _ _ (le-leb _ _ (g .few)) (g .fit) in
     let new = c .next-round .ensures ∙ cond-true _ _ _ fit in
-    turns-on _ _ _ _ _ _ _ (t .before .before .loop .inv) (g .test) (rw (new, k .ticked .ensures, g .inside, eq-eqb (t .before .before .loop .c .made) 0 (here .if2 .taken)))
+    turns-on _ _ _ _ _ _ _ (t .before .before .loop .inv) (g .test)
+    (rw (new, k .ticked .ensures, g .inside, eq-eqb (t .before .before .loop .c .made) 0 (here .if2 .taken)))
 
 add-made-2 : tie.Need-add-made-2 Inv-loop μ-loop
 add-made-2 c =
@@ -66,10 +70,19 @@ loop-again-2 c =
     let g = go t in
     let fit = and-true _ _ (le-leb _ _ (g .few)) (g .fit) in
     let made = r .pred-round .ensures in
-    turns-on _ _ _ _ _ _ _ (t .before .before .loop .inv) (g .test) (rw (made .0 ∙ cond-true _ _ _ fit, made .1 .0 ∙ cond-true _ _ _ fit, made .1 .1 ∙ cond-true _ _ _ fit, k .ticked .ensures, g .inside, ne-eqb (t .before .before .loop .c .made) 0 (here .if2 .left)))
+    turns-on _ _ _ _ _ _ _ (t .before .before .loop .inv) (g .test)
+    (rw (
+      made .0 ∙ cond-true _ _ _ fit,
+      made .1 .0 ∙ cond-true _ _ _ fit,
+      made .1 .1 ∙ cond-true _ _ _ fit,
+      k .ticked .ensures,
+      g .inside,
+      ne-eqb (t .before .before .loop .c .made) 0 (here .if2 .left),
+    ))
 
 returns : tie.Need-returns Inv-loop μ-loop
-returns c = turns-over _ _ _ _ _ _ (c .before .before .loop .inv) (rw (c .before .before .before .names-ok .ensures) at (sym (c .before .goes-on .ensures) ∙ c .if1 .left))
+returns c = turns-over _ _ _ _ _ _ (c .before .before .loop .inv)
+    (rw (c .before .before .before .names-ok .ensures) at (sym (c .before .goes-on .ensures) ∙ c .if1 .left))
 
 pub run-spec : {M : Type 1} → statement M
 run-spec =

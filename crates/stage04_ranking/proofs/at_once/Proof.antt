@@ -14,7 +14,8 @@ returns-2 c =
     let l = e .before .before in
     let s = l .before in
     let a = s .args in
-    leapt-run ran (on (a .units)) (one (a .units)) (a .units) 4 unnumbered (ranks (a .units)) (a .budget) [] (a .jump) (a .sum) (a .clock) _ _ _ _
+    leapt-run ran (on (a .units)) (one (a .units)) (a .units) 4 unnumbered (ranks (a .units)) (a .budget) [] (a .jump)
+    (a .sum) (a .clock) _ _ _ _
     (l .leap .ensures (not-false _ (e .if1 .left))) (s .pre)
 
 pub at-once-spec : {M : Type 1} → statement M

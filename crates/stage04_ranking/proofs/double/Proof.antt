@@ -21,10 +21,12 @@ abbrev μ-loop : tie.MeasureT-loop
 μ-loop objects jump₀ sum₀ old-jump old-sum limit a₀ jump sum a = limit - a
 
 -- a table lent as a slice is known to be full
-full-jump : (c : tie.After-entries-of2 Inv-loop μ-loop) → length (c .before .before .before .before .before .before .before .before .args .jump .now) ≡ 512
+full-jump : (c : tie.After-entries-of2 Inv-loop μ-loop) →
+    length (c .before .before .before .before .before .before .before .before .args .jump .now) ≡ 512
 full-jump c = c .before .before .before .before .entries-of-arg2 .given .0
 
-full-sum : (c : tie.After-entries-of2 Inv-loop μ-loop) → length (c .before .before .before .before .before .before .before .before .args .sum .now) ≡ 512
+full-sum : (c : tie.After-entries-of2 Inv-loop μ-loop) →
+    length (c .before .before .before .before .before .before .before .before .args .sum .now) ≡ 512
 full-sum c = c .before .entries-of-arg4 .given .0
 
 loop-again : tie.Need-loop-again Inv-loop μ-loop
@@ -37,8 +39,10 @@ loop-again c =
     let a = at-loop .loop .a in
     let inv = at-loop .loop .inv in (
       search needs,
-      over-more a _ jump _ _ _ (inv .1) (jump-taken jump sum a (getD jump a 0) (getD sum a 0) refl refl _ refl (λ e. omega arith)) refl,
-      over-more a _ sum _ _ _ (inv .2) (sum-taken jump sum a (getD jump a 0) (getD sum a 0) refl refl _ (c .bounded-sum .ensures) (λ e. omega arith)) refl,
+      over-more a _ jump _ _ _ (inv .1) (jump-taken jump sum a (getD jump a 0) (getD sum a 0) refl refl _ refl
+          (λ e. omega arith)) refl,
+      over-more a _ sum _ _ _ (inv .2) (sum-taken jump sum a (getD jump a 0) (getD sum a 0) refl refl _
+          (c .bounded-sum .ensures) (λ e. omega arith)) refl,
     )
 
 loop-again-2 : tie.Need-loop-again-2 Inv-loop μ-loop
@@ -52,8 +56,10 @@ loop-again-2 c =
     let a = at-loop .loop .a in
     let inv = at-loop .loop .inv in (
       search needs,
-      over-more a _ jump _ _ _ (inv .1) (jump-past jump sum a (getD jump a 0) (getD sum a 0) refl refl (c .before .if2 .taken) (omega (arith, full-jump (start)))) refl,
-      over-more a _ sum _ _ _ (inv .2) (sum-past jump sum a (getD jump a 0) (getD sum a 0) refl refl (c .before .if2 .taken) (omega (arith, full-sum (start))) _ (c .bounded-sum2 .ensures)) refl,
+      over-more a _ jump _ _ _ (inv .1) (jump-past jump sum a (getD jump a 0) (getD sum a 0) refl refl
+          (c .before .if2 .taken) (omega (arith, full-jump (start)))) refl,
+      over-more a _ sum _ _ _ (inv .2) (sum-past jump sum a (getD jump a 0) (getD sum a 0) refl refl
+          (c .before .if2 .taken) (omega (arith, full-sum (start))) _ (c .bounded-sum2 .ensures)) refl,
     )
 
 loop-again-3 : tie.Need-loop-again-3 Inv-loop μ-loop
@@ -79,9 +85,19 @@ returns c =
     let jump = a .jump .now in
     let sum = a .sum .now in
     let ended : c .before .loop .a ≡ min (a .objects) 512
-    = omega (arith, c .before .loop .inv .0, c .loop-test .left, c .before .before .entries-of2 .ensures, at-entries-of .entries-of .ensures, full-jump (c .before .before), full-sum (c .before .before)) in (
-      over-least (a .objects) 512 (jumpAfter jump) jump _ (omega (arith, full-jump (c .before .before))) (rw ended at (c .before .loop .inv .1)),
-      over-least (a .objects) 512 (sumAfter jump sum) sum _ (omega (arith, full-sum (c .before .before))) (rw ended at (c .before .loop .inv .2)),
+    = omega (
+      arith,
+      c .before .loop .inv .0,
+      c .loop-test .left,
+      c .before .before .entries-of2 .ensures,
+      at-entries-of .entries-of .ensures,
+      full-jump (c .before .before),
+      full-sum (c .before .before),
+    ) in (
+      over-least (a .objects) 512 (jumpAfter jump) jump _ (omega (arith, full-jump (c .before .before)))
+          (rw ended at (c .before .loop .inv .1)),
+      over-least (a .objects) 512 (sumAfter jump sum) sum _ (omega (arith, full-sum (c .before .before)))
+          (rw ended at (c .before .loop .inv .2)),
     )
 
 pub double-spec : {M : Type 1} → statement M

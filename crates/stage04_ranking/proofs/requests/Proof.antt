@@ -17,7 +17,8 @@ abbrev μ-loop : tie.MeasureT-loop
 
 -- a turn adds at most one
 one : (c : tie.After-choose Inv-loop μ-loop) → c .choose .result ≤ 1
-one c = rw (c .choose .ensures) (cond-one (asks (c .before .before .before .before .before .args .jump .now) (c .before .before .before .loop .a)))
+one c = rw (c .choose .ensures) (cond-one
+    (asks (c .before .before .before .before .before .args .jump .now) (c .before .before .before .loop .a)))
 
 add-made : tie.Need-add-made Inv-loop μ-loop
 add-made c = omega (arith, one c)
@@ -33,7 +34,8 @@ unfolding requestsOf
 returns c =
     let s = c .before in
     let a = s .before .before .args in
-    let ended : s .loop .a ≡ min (a .objects) 512 = omega (arith, s .loop .inv .0, c .loop-test .left, s .before .with-entries .ensures) in
+    let ended : s .loop .a ≡ min (a .objects) 512 =
+    omega (arith, s .loop .inv .0, c .loop-test .left, s .before .with-entries .ensures) in
     rw (← ended) (s .loop .inv .2)
 
 pub requests-spec : {M : Type 1} → statement M

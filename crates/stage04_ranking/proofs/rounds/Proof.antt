@@ -13,13 +13,15 @@ use Rattle.stage04_ranking.proofs.rounds.Tie as tie
 
 abbrev Inv-loop : tie.InvT-loop
 Inv-loop units budget arcs before₀ total₀ c₀ made₀ before total c made =
-    Turning (on units) (one units) budget (record { jump = before₀; sum = total₀; clock = c₀; made = 0 }) made (record { jump = before; sum = total; clock = c; made = made })
+    Turning (on units) (one units) budget (record { jump = before₀; sum = total₀; clock = c₀; made = 0 }) made
+    (record { jump = before; sum = total; clock = c; made = made })
 
 abbrev μ-loop : tie.MeasureT-loop
 μ-loop units budget arcs before₀ total₀ c₀ made₀ before total c made = budget - made
 
 -- the stage goes on where a round is made
-go : (c : tie.Then1 Inv-loop μ-loop) → Goes (c .before .before .before .args .units) 4 (c .before .before .loop .made) (c .before .before .before .args .budget) true (c .before .before .loop .c)
+go : (c : tie.Then1 Inv-loop μ-loop) → Goes (c .before .before .before .args .units) 4 (c .before .before .loop .made)
+    (c .before .before .before .args .budget) true (c .before .before .loop .c)
 go c = goes _ _ _ _ _ _ (sym (c .before .goes-on .ensures) ∙ c .if1 .taken)
 
 loop-holds : tie.Need-loop-holds Inv-loop μ-loop
@@ -43,7 +45,15 @@ loop-again c =
     let start = at-loop .before in
     let g = go i in
     let all : min (2 * start .args .units) 512 ≡ 2 * start .args .units = omega (arith, g .few) in
-    turns-on _ _ _ _ _ _ _ (at-loop .loop .inv) (g .test) (rw (c .double .ensures .0, c .double .ensures .1, at-ticked .ticked .ensures, g .inside, at-requests .requests .ensures, all))
+    turns-on _ _ _ _ _ _ _ (at-loop .loop .inv) (g .test)
+    (rw (
+      c .double .ensures .0,
+      c .double .ensures .1,
+      at-ticked .ticked .ensures,
+      g .inside,
+      at-requests .requests .ensures,
+      all,
+    ))
 
 returns : tie.Need-returns Inv-loop μ-loop
 returns c = turns-over _ _ _ _ _ _ (c .before .before .loop .inv) (sym (c .before .goes-on .ensures) ∙ c .if1 .left)

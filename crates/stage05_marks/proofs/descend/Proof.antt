@@ -10,7 +10,8 @@ use Rattle.stage05_marks.proofs.descend.Statement.{statement}
 use Rattle.stage05_marks.proofs.descend.Tie as tie
 
 abbrev Inv-loop : tie.InvT-loop
-Inv-loop units color parent rank nd₀ bucket absent n v₀ nd v = (v ≤ units) × (nd ≡ over v (descendantsBy units color bucket absent parent rank) nd₀)
+Inv-loop units color parent rank nd₀ bucket absent n v₀ nd v =
+    (v ≤ units) × (nd ≡ over v (descendantsBy units color bucket absent parent rank) nd₀)
 
 abbrev μ-loop : tie.MeasureT-loop
 μ-loop units color parent rank nd₀ bucket absent n v₀ nd v = units - v
@@ -19,8 +20,11 @@ loop-again : tie.Need-loop-again Inv-loop μ-loop
 loop-again c =
     let span = c .before .before in
     let size = span .before .before .before in
-    let s = size .before .before .before .before .before in
-    (search needs, over-more _ _ _ _ _ _ (s .loop .inv .1) (rw (span .half-span .ensures, size .count-by .ensures) at (c .choose .ensures)) refl)
+    let s = size .before .before .before .before .before in (
+      search needs,
+      over-more _ _ _ _ _ _ (s .loop .inv .1)
+          (rw (span .half-span .ensures, size .count-by .ensures) at (c .choose .ensures)) refl,
+    )
 
 returns : tie.Need-returns Inv-loop μ-loop
 returns c =
@@ -29,7 +33,8 @@ returns c =
     let t = s .before .before .before .equal-table in
     let a = s .before .before .before .before .before .args in
     rw (le-antisymm (s .loop .inv .0) (c .loop-test .left)) at (s .loop .inv .1)
-    ∙ nd-round (a .units) (a .color .now) (t .result) (n .result) (t .ensures) (n .ensures) (a .parent .now) (a .rank .now) (a .nd .now)
+    ∙ nd-round (a .units) (a .color .now) (t .result) (n .result) (t .ensures) (n .ensures) (a .parent .now)
+    (a .rank .now) (a .nd .now)
 
 pub descend-spec : {M : Type 1} → statement M
 descend-spec =

@@ -11,7 +11,8 @@ use Rattle.stage05_marks.proofs.mark.Statement.{statement}
 use Rattle.stage05_marks.proofs.mark.Tie as tie
 
 abbrev Inv-loop : tie.InvT-loop
-Inv-loop units parent rank forward₀ n v₀ forward v = (v ≤ units) × (forward ≡ over (2 * v) (forwardMark parent rank) forward₀)
+Inv-loop units parent rank forward₀ n v₀ forward v =
+    (v ≤ units) × (forward ≡ over (2 * v) (forwardMark parent rank) forward₀)
 
 abbrev μ-loop : tie.MeasureT-loop
 μ-loop units parent rank forward₀ n v₀ forward v = units - v

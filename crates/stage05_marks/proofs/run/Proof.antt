@@ -13,14 +13,17 @@ use Rattle.stage05_marks.proofs.run.Tie as tie
 
 abbrev Inv-loop : tie.InvT-loop
 Inv-loop units budget color parent pred marks₀ below₀ before₀ total₀ c₀ made₀ marks below before total c made =
-    Turning (on units) (one units color parent pred) budget (record { forward = marks₀; nd = below₀; jump = before₀; sum = total₀; clock = c₀; made = 0 }) made
+    Turning (on units) (one units color parent pred) budget
+    (record { forward = marks₀; nd = below₀; jump = before₀; sum = total₀; clock = c₀; made = 0 }) made
     (record { forward = marks; nd = below; jump = before; sum = total; clock = c; made = made })
 
 abbrev μ-loop : tie.MeasureT-loop
-μ-loop units budget color parent pred marks₀ below₀ before₀ total₀ c₀ made₀ marks below before total c made = budget - made
+μ-loop units budget color parent pred marks₀ below₀ before₀ total₀ c₀ made₀ marks below before total c made =
+    budget - made
 
 -- the stage goes on where a round is made
-go : (c : tie.Then1 Inv-loop μ-loop) → Goes (c .before .before .before .args .units) 5 (c .before .before .loop .made) (c .before .before .before .args .budget) true (c .before .before .loop .c)
+go : (c : tie.Then1 Inv-loop μ-loop) → Goes (c .before .before .before .args .units) 5 (c .before .before .loop .made)
+    (c .before .before .before .args .budget) true (c .before .before .loop .c)
 go c = goes _ _ _ _ _ _ (sym (c .before .goes-on .ensures) ∙ c .if1 .taken)
 
 loop-holds : tie.Need-loop-holds Inv-loop μ-loop
@@ -46,7 +49,8 @@ loop-again c =
     let at-loop = at-ticked .before .before .before .before in
     let g = go i in
     let first = eq-eqb (at-loop .loop .c .made) 0 (at-if2 .if2 .taken) in
-    turns-on _ _ _ _ _ _ _ (at-loop .loop .inv) (g .test) (rw (c .mark .ensures, at-ticked .ticked .ensures, g .inside, first))
+    turns-on _ _ _ _ _ _ _ (at-loop .loop .inv) (g .test)
+    (rw (c .mark .ensures, at-ticked .ticked .ensures, g .inside, first))
 
 descend-requires : tie.Need-descend-requires Inv-loop μ-loop
 descend-requires c κs = go (c .before .before .before .before .before .before) .few
@@ -76,7 +80,15 @@ loop-again-2 c =
     let at-loop = at-ticked .before .before .before .before in
     let g = go i in
     let later = ne-eqb (at-loop .loop .c .made) 0 (at-if2 .if2 .left) in
-    turns-on _ _ _ _ _ _ _ (at-loop .loop .inv) (g .test) (rw (c .second .ensures .0, c .second .ensures .1, at-descend .descend .ensures, at-ticked .ticked .ensures, g .inside, later))
+    turns-on _ _ _ _ _ _ _ (at-loop .loop .inv) (g .test)
+    (rw (
+      c .second .ensures .0,
+      c .second .ensures .1,
+      at-descend .descend .ensures,
+      at-ticked .ticked .ensures,
+      g .inside,
+      later,
+    ))
 
 returns : tie.Need-returns Inv-loop μ-loop
 returns c = turns-over _ _ _ _ _ _ (c .before .before .loop .inv) (sym (c .before .goes-on .ensures) ∙ c .if1 .left)

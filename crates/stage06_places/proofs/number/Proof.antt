@@ -10,7 +10,8 @@ use Rattle.stage06_places.proofs.number.Statement.{statement}
 use Rattle.stage06_places.proofs.number.Tie as tie
 
 abbrev Inv-loop : tie.InvT-loop
-Inv-loop units color parent sum pre₀ bucket absent n v₀ pre v = (v ≤ units) × (pre ≡ over v (placeBy units color bucket absent parent sum) pre₀)
+Inv-loop units color parent sum pre₀ bucket absent n v₀ pre v =
+    (v ≤ units) × (pre ≡ over v (placeBy units color bucket absent parent sum) pre₀)
 
 abbrev μ-loop : tie.MeasureT-loop
 μ-loop units color parent sum pre₀ bucket absent n v₀ pre v = units - v
@@ -19,8 +20,11 @@ loop-again : tie.Need-loop-again Inv-loop μ-loop
 loop-again c =
     let own = c .before in
     let before = own .before .before .before in
-    let s = before .before .before .before .before .before in
-    (search needs, over-more _ _ _ _ _ _ (s .loop .inv .1) (rw (own .choose .ensures, before .count-by .ensures) at (c .bounded-sum .ensures)) refl)
+    let s = before .before .before .before .before .before in (
+      search needs,
+      over-more _ _ _ _ _ _ (s .loop .inv .1)
+          (rw (own .choose .ensures, before .count-by .ensures) at (c .bounded-sum .ensures)) refl,
+    )
 
 returns : tie.Need-returns Inv-loop μ-loop
 returns c =
@@ -29,7 +33,8 @@ returns c =
     let t = s .before .before .before .below-table in
     let a = s .before .before .before .before .before .args in
     rw (le-antisymm (s .loop .inv .0) (c .loop-test .left)) at (s .loop .inv .1)
-    ∙ pre-round (a .units) (a .color .now) (t .result) (n .result) (t .ensures) (n .ensures) (a .parent .now) (a .sum .now) (a .pre .now)
+    ∙ pre-round (a .units) (a .color .now) (t .result) (n .result) (t .ensures) (n .ensures) (a .parent .now)
+    (a .sum .now) (a .pre .now)
 
 pub number-spec : {M : Type 1} → statement M
 number-spec =

@@ -13,14 +13,16 @@ use Rattle.stage06_places.proofs.rounds.Tie as tie
 
 abbrev Inv-loop : tie.InvT-loop
 Inv-loop units budget color parent arcs place₀ before₀ total₀ c₀ made₀ place before total c made =
-    Turning (on units) (one units color parent) budget (record { pre = place₀; jump = before₀; sum = total₀; clock = c₀; made = 0 }) made
+    Turning (on units) (one units color parent) budget
+    (record { pre = place₀; jump = before₀; sum = total₀; clock = c₀; made = 0 }) made
     (record { pre = place; jump = before; sum = total; clock = c; made = made })
 
 abbrev μ-loop : tie.MeasureT-loop
 μ-loop units budget color parent arcs place₀ before₀ total₀ c₀ made₀ place before total c made = budget - made
 
 -- the stage goes on where a round is made
-go : (c : tie.Then1 Inv-loop μ-loop) → Goes (c .before .before .before .args .units) 6 (c .before .before .loop .made) (c .before .before .before .args .budget) true (c .before .before .loop .c)
+go : (c : tie.Then1 Inv-loop μ-loop) → Goes (c .before .before .before .args .units) 6 (c .before .before .loop .made)
+    (c .before .before .before .args .budget) true (c .before .before .loop .c)
 go c = goes _ _ _ _ _ _ (sym (c .before .goes-on .ensures) ∙ c .if1 .taken)
 
 loop-holds : tie.Need-loop-holds Inv-loop μ-loop
@@ -53,7 +55,17 @@ loop-again c =
     let few : min (start .args .units) 256 ≡ start .args .units = omega (arith, g .few) in
     let all : min (2 * start .args .units) 512 ≡ 2 * start .args .units = omega (arith, g .few) in
     let last = rw (few, at-requests .requests .ensures, all) at (at-is-last .is-last .ensures) in
-    turns-on _ _ _ _ _ _ _ (at-loop .loop .inv) (g .test) (rw (c .double .ensures .0, c .double .ensures .1, at-number-if .number-if .ensures, last, at-ticked .ticked .ensures, g .inside, at-requests .requests .ensures, all))
+    turns-on _ _ _ _ _ _ _ (at-loop .loop .inv) (g .test)
+    (rw (
+      c .double .ensures .0,
+      c .double .ensures .1,
+      at-number-if .number-if .ensures,
+      last,
+      at-ticked .ticked .ensures,
+      g .inside,
+      at-requests .requests .ensures,
+      all,
+    ))
 
 returns : tie.Need-returns Inv-loop μ-loop
 returns c = turns-over _ _ _ _ _ _ (c .before .before .loop .inv) (sym (c .before .goes-on .ensures) ∙ c .if1 .left)

@@ -12,7 +12,8 @@ at-once-requires c κs =
     let b = c .before in
     let g = b .before .before in
     let a = g .before .args in
-    goes (a .units) 6 0 (a .budget) true (a .clock) (sym (g .goes-on .ensures) ∙ and-right (b .before .tried .result) (g .goes-on .result) (sym (b .both .ensures) ∙ c .if1 .taken)) .inside
+    goes (a .units) 6 0 (a .budget) true (a .clock) (sym (g .goes-on .ensures)
+    ∙ and-right (b .before .tried .result) (g .goes-on .result) (sym (b .both .ensures) ∙ c .if1 .taken)) .inside
 
 pub run-spec : {M : Type 1} → statement M
 run-spec =

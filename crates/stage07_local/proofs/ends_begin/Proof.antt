@@ -11,7 +11,8 @@ use Rattle.stage07_local.proofs.ends_begin.Statement.{statement}
 use Rattle.stage07_local.proofs.ends_begin.Tie as tie
 
 abbrev Inv-loop : tie.InvT-loop
-Inv-loop n nd pre little₀ big₀ count v₀ little big v = (v ≤ n) × (little ≡ over v (at pre) little₀) × (big ≡ over v (bigBegin nd pre) big₀)
+Inv-loop n nd pre little₀ big₀ count v₀ little big v =
+    (v ≤ n) × (little ≡ over v (at pre) little₀) × (big ≡ over v (bigBegin nd pre) big₀)
 
 abbrev μ-loop : tie.MeasureT-loop
 μ-loop n nd pre little₀ big₀ count v₀ little big v = n - v

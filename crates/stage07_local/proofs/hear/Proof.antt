@@ -10,7 +10,12 @@ returns : tie.Need-returns
 unfolding hears takesIn
 returns c =
     let s = c .before .before .before .before .before .before in
-    rw (c .op-of2 .ensures, c .before .before .before .op-of .ensures, lt-ltb (s .args .a) 256 (s .pre .0), lt-ltb (s .args .b) 256 (s .pre .1))
+    rw (
+      c .op-of2 .ensures,
+      c .before .before .before .op-of .ensures,
+      lt-ltb (s .args .a) 256 (s .pre .0),
+      lt-ltb (s .args .b) 256 (s .pre .1),
+    )
 
 pub hear-spec : {M : Type 1} → statement M
 hear-spec =

@@ -11,14 +11,16 @@ returns : tie.Need-returns
 returns c =
     let s = c .before .before .before .before in
     let a = s .args in
-    let on : offTree (a .parent .now) (a .a) (a .b) ≡ false = sym (c .before .both .ensures) ∙ not-true _ (c .if1 .taken) in
+    let on : offTree (a .parent .now) (a .a) (a .b) ≡ false =
+    sym (c .before .both .ensures) ∙ not-true _ (c .if1 .taken) in
     rw on (refl, refl)
 
 returns-2 : tie.Need-returns-2
 returns-2 c =
     let e = c .before .before .before .before in
     let a = e .before .before .before .before .args in
-    let off : offTree (a .parent .now) (a .a) (a .b) ≡ true = sym (e .before .both .ensures) ∙ not-false _ (e .if1 .left) in
+    let off : offTree (a .parent .now) (a .a) (a .b) ≡ true =
+    sym (e .before .both .ensures) ∙ not-false _ (e .if1 .left) in
     rw off (c .before .before .hear .ensures, c .hear2 .ensures)
 
 pub hear-off-spec : {M : Type 1} → statement M

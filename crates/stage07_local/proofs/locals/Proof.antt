@@ -10,15 +10,19 @@ use Rattle.stage07_local.proofs.locals.Statement.{statement}
 use Rattle.stage07_local.proofs.locals.Tie as tie
 
 abbrev Inv-loop : tie.InvT-loop
-Inv-loop n links ends parent pre low₀ high₀ j₀ low high j = (j ≤ links) × (low ≡ localTable false j ends parent pre) × (high ≡ localTable true j ends parent pre)
+Inv-loop n links ends parent pre low₀ high₀ j₀ low high j =
+    (j ≤ links) × (low ≡ localTable false j ends parent pre) × (high ≡ localTable true j ends parent pre)
 
 abbrev μ-loop : tie.MeasureT-loop
 μ-loop n links ends parent pre low₀ high₀ j₀ low high j = links - j
 
 loop-holds : tie.Need-loop-holds Inv-loop μ-loop
 loop-holds c =
-    let a = c .before .before .before .args in
-    (search needs, local-none false (a .ends .now) (a .parent .now) (a .pre .now), local-none true (a .ends .now) (a .parent .now) (a .pre .now))
+    let a = c .before .before .before .args in (
+      search needs,
+      local-none false (a .ends .now) (a .parent .now) (a .pre .now),
+      local-none true (a .ends .now) (a .parent .now) (a .pre .now),
+    )
 
 hear-off-requires : tie.Need-hear-off-requires Inv-loop μ-loop
 hear-off-requires c κs =
@@ -34,8 +38,10 @@ loop-again c =
     let s = c .before .before .before .before .before .before in
     let a = s .before .before .before .before .args in (
       search needs,
-      local-more false (a .ends .now) (a .parent .now) (a .pre .now) (s .loop .j) _ _ (s .loop .inv .1) (c .hear-off .ensures .0),
-      local-more true (a .ends .now) (a .parent .now) (a .pre .now) (s .loop .j) _ _ (s .loop .inv .2) (c .hear-off .ensures .1),
+      local-more false (a .ends .now) (a .parent .now) (a .pre .now) (s .loop .j) _ _ (s .loop .inv .1)
+          (c .hear-off .ensures .0),
+      local-more true (a .ends .now) (a .parent .now) (a .pre .now) (s .loop .j) _ _ (s .loop .inv .2)
+          (c .hear-off .ensures .1),
     )
 
 returns : tie.Need-returns Inv-loop μ-loop

@@ -11,7 +11,8 @@ use Rattle.stage07_local.proofs.segments_begin.Statement.{statement}
 use Rattle.stage07_local.proofs.segments_begin.Tie as tie
 
 abbrev Inv-loop : tie.InvT-loop
-Inv-loop n first lows highs least₀ greatest₀ count q₀ least greatest q = (q ≤ n) × (least ≡ over q (localBy first lows) least₀) × (greatest ≡ over q (localBy first highs) greatest₀)
+Inv-loop n first lows highs least₀ greatest₀ count q₀ least greatest q =
+    (q ≤ n) × (least ≡ over q (localBy first lows) least₀) × (greatest ≡ over q (localBy first highs) greatest₀)
 
 abbrev μ-loop : tie.MeasureT-loop
 μ-loop n first lows highs least₀ greatest₀ count q₀ least greatest q = n - q
@@ -23,8 +24,11 @@ loop-again c =
     let a = s .before .args in
     let q = s .loop .q in (
       search needs,
-      over-more q _ _ _ _ _ (s .loop .inv .1) (local-value (a .lows .now) (t .before .at-arg .given .0) (a .first .now) q _ _ refl (t .at .ensures)) refl,
-      over-more q _ _ _ _ _ (s .loop .inv .2) (local-value (a .highs .now) (c .before .at-arg2 .given .0) (a .first .now) q _ _ refl (c .at2 .ensures)) refl,
+      over-more q _ _ _ _ _ (s .loop .inv .1)
+          (local-value (a .lows .now) (t .before .at-arg .given .0) (a .first .now) q _ _ refl (t .at .ensures)) refl,
+      over-more q _ _ _ _ _ (s .loop .inv .2)
+          (local-value (a .highs .now) (c .before .at-arg2 .given .0) (a .first .now) q _ _ refl (c .at2 .ensures))
+          refl,
     )
 
 returns : tie.Need-returns Inv-loop μ-loop

@@ -13,7 +13,8 @@ use Rattle.stage07_local.proofs.units_begin.Statement.{statement}
 use Rattle.stage07_local.proofs.units_begin.Tie as tie
 
 abbrev Inv-loop : tie.InvT-loop
-Inv-loop n first lows highs nd pre low₀ high₀ count v₀ low high v = (v ≤ n) × (low ≡ over v (beginBy n first lows nd pre) low₀) × (high ≡ over v (beginBy n first highs nd pre) high₀)
+Inv-loop n first lows highs nd pre low₀ high₀ count v₀ low high v =
+    (v ≤ n) × (low ≡ over v (beginBy n first lows nd pre) low₀) × (high ≡ over v (beginBy n first highs nd pre) high₀)
 
 abbrev μ-loop : tie.MeasureT-loop
 μ-loop n first lows highs nd pre low₀ high₀ count v₀ low high v = n - v
@@ -29,10 +30,12 @@ loop-again c =
     let few : a .n ≤ ABSENT = omega (arith, s .before .pre) in (
       search needs,
       over-more v _ _ _ _ _ (s .loop .inv .1)
-          (begin-value (a .lows .now) (t .before .at-arg .given .0) (a .n) _ (a .first .now) _ _ (a .nd .now) (a .pre .now) v few (e .end-place .ensures) (u .unit-before .ensures) (t .at .ensures))
+          (begin-value (a .lows .now) (t .before .at-arg .given .0) (a .n) _ (a .first .now) _ _ (a .nd .now)
+          (a .pre .now) v few (e .end-place .ensures) (u .unit-before .ensures) (t .at .ensures))
           refl,
       over-more v _ _ _ _ _ (s .loop .inv .2)
-          (begin-value (a .highs .now) (c .before .at-arg2 .given .0) (a .n) _ (a .first .now) _ _ (a .nd .now) (a .pre .now) v few (e .end-place .ensures) (u .unit-before .ensures) (c .at2 .ensures))
+          (begin-value (a .highs .now) (c .before .at-arg2 .given .0) (a .n) _ (a .first .now) _ _ (a .nd .now)
+          (a .pre .now) v few (e .end-place .ensures) (u .unit-before .ensures) (c .at2 .ensures))
           refl,
     )
 

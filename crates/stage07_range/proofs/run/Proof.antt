@@ -14,13 +14,33 @@ use Rattle.stage07_range.proofs.run.Statement.{statement}
 use Rattle.stage07_range.proofs.run.Tie as tie
 
 abbrev Inv-loop : tie.InvT-loop
-Inv-loop units links budget ends parent nd pre fits most bottom₀ top₀ from₀ to₀ lows₀ highs₀ c₀ made₀ bottom top from to lows highs c made =
+Inv-loop units links budget ends parent nd pre fits most bottom₀ top₀ from₀ to₀ lows₀ highs₀ c₀ made₀ bottom top from to
+    lows highs c made =
     Turning (on units links ends) (one units links ends parent nd pre) budget
-    (record { low = bottom₀; high = top₀; little = from₀; big = to₀; least = lows₀; greatest = highs₀; clock = c₀; made = 0 }) made
-    (record { low = bottom; high = top; little = from; big = to; least = lows; greatest = highs; clock = c; made = made })
+    (record {
+      low = bottom₀;
+      high = top₀;
+      little = from₀;
+      big = to₀;
+      least = lows₀;
+      greatest = highs₀;
+      clock = c₀;
+      made = 0;
+    }) made
+    (record {
+      low = bottom;
+      high = top;
+      little = from;
+      big = to;
+      least = lows;
+      greatest = highs;
+      clock = c;
+      made = made;
+    })
 
 abbrev μ-loop : tie.MeasureT-loop
-μ-loop units links budget ends parent nd pre fits most bottom₀ top₀ from₀ to₀ lows₀ highs₀ c₀ made₀ bottom top from to lows highs c made = budget - made
+μ-loop units links budget ends parent nd pre fits most bottom₀ top₀ from₀ to₀ lows₀ highs₀ c₀ made₀ bottom top from to
+    lows highs c made = budget - made
 
 -- the call and its test
 abbrev called : tie.Then1 Inv-loop μ-loop → tie.Start Inv-loop μ-loop
@@ -28,8 +48,10 @@ called c = c .before .before .before .before .before .before
 
 -- the stage goes on where a round is made
 go : (c : tie.Then1 Inv-loop μ-loop)
-    → (let a = called c .args in Goes (a .units) 7 (c .before .before .loop .made) (a .budget) (linksFit (a .units) (a .links) (a .ends .now)) (c .before .before .loop .c))
-go c = goes _ _ _ _ _ _ (rw (c .before .before .before .before .links-fit .ensures) at (sym (c .before .goes-on .ensures) ∙ c .if1 .taken))
+    → (let a = called c .args in Goes (a .units) 7 (c .before .before .loop .made) (a .budget)
+    (linksFit (a .units) (a .links) (a .ends .now)) (c .before .before .loop .c))
+go c = goes _ _ _ _ _ _ (rw (c .before .before .before .before .links-fit .ensures) at
+    (sym (c .before .goes-on .ensures) ∙ c .if1 .taken))
 
 loop-holds : tie.Need-loop-holds Inv-loop μ-loop
 loop-holds c = turns-begin _ _ _ _
@@ -56,8 +78,10 @@ loop-again c =
     let fit = and-true _ _ (le-leb _ _ (g .few)) (g .fit) in
     let clock = rw (g .inside, at-lg .lg .ensures) at (at-ticked .ticked .ensures) in
     turns-on _ _ _ _ _ _ _ (at-loop .loop .inv) (g .test)
-    (begun _ _ _ _ _ _ _ _ _ _ _ _ _ _ (at-if2 .if2 .taken) (made .0 ∙ cond-true _ _ _ fit) (made .1 .0 ∙ cond-true _ _ _ fit) (made .1 .1 .0 ∙ cond-true _ _ _ fit)
-    (made .1 .1 .1 .0 ∙ cond-true _ _ _ fit) (made .1 .1 .1 .1 .0 ∙ cond-true _ _ _ fit) (made .1 .1 .1 .1 .1 ∙ cond-true _ _ _ fit) clock)
+    (begun _ _ _ _ _ _ _ _ _ _ _ _ _ _ (at-if2 .if2 .taken) (made .0 ∙ cond-true _ _ _ fit) (made .1 .0
+    ∙ cond-true _ _ _ fit) (made .1 .1 .0 ∙ cond-true _ _ _ fit)
+    (made .1 .1 .1 .0 ∙ cond-true _ _ _ fit) (made .1 .1 .1 .1 .0 ∙ cond-true _ _ _ fit) (made .1 .1 .1 .1 .1
+    ∙ cond-true _ _ _ fit) clock)
 
 add-made-2 : tie.Need-add-made-2 Inv-loop μ-loop
 add-made-2 c =
@@ -81,11 +105,14 @@ loop-again-2 c =
     let few = le-leb _ _ (g .few) in
     let clock = rw (g .inside, at-lg .lg .ensures) at (at-ticked .ticked .ensures) in
     turns-on _ _ _ _ _ _ _ (at-loop .loop .inv) (g .test)
-    (turned _ _ _ _ _ _ _ _ _ _ _ _ _ _ (at-if2 .if2 .left) (moved .0 ∙ cond-true _ _ _ few) (moved .1 .0 ∙ cond-true _ _ _ few) (moved .1 .1 .0 ∙ cond-true _ _ _ few)
-    (moved .1 .1 .1 .0 ∙ cond-true _ _ _ few) (moved .1 .1 .1 .1 .0 ∙ cond-true _ _ _ few) (moved .1 .1 .1 .1 .1 ∙ cond-true _ _ _ few) clock)
+    (turned _ _ _ _ _ _ _ _ _ _ _ _ _ _ (at-if2 .if2 .left) (moved .0 ∙ cond-true _ _ _ few) (moved .1 .0
+    ∙ cond-true _ _ _ few) (moved .1 .1 .0 ∙ cond-true _ _ _ few)
+    (moved .1 .1 .1 .0 ∙ cond-true _ _ _ few) (moved .1 .1 .1 .1 .0 ∙ cond-true _ _ _ few) (moved .1 .1 .1 .1 .1
+    ∙ cond-true _ _ _ few) clock)
 
 returns : tie.Need-returns Inv-loop μ-loop
-returns c = turns-over _ _ _ _ _ _ (c .before .before .loop .inv) (rw (c .before .before .before .before .links-fit .ensures) at (sym (c .before .goes-on .ensures) ∙ c .if1 .left))
+returns c = turns-over _ _ _ _ _ _ (c .before .before .loop .inv)
+    (rw (c .before .before .before .before .links-fit .ensures) at (sym (c .before .goes-on .ensures) ∙ c .if1 .left))
 
 pub run-spec : {M : Type 1} → statement M
 run-spec =

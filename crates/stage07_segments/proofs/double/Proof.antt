@@ -8,8 +8,19 @@ use Rattle.stage07_segments.proofs.double.Tie as tie
 
 returns : tie.Need-returns
 returns c =
-    let many = lt-leb (c .before .args .n) 256 (c .if1 .taken) in
-    (sym (cond-false _ _ _ many), (sym (cond-false _ _ _ many), (sym (cond-false _ _ _ many), (sym (cond-false _ _ _ many), (sym (cond-false _ _ _ many), sym (cond-false _ _ _ many))))))
+    let many = lt-leb (c .before .args .n) 256 (c .if1 .taken) in (
+      sym (cond-false _ _ _ many),
+      (
+        sym (cond-false _ _ _ many),
+        (
+          sym (cond-false _ _ _ many),
+          (
+            sym (cond-false _ _ _ many),
+            (sym (cond-false _ _ _ many), sym (cond-false _ _ _ many)),
+          ),
+        ),
+      ),
+    )
 
 returns-2 : tie.Need-returns-2
 returns-2 c =

@@ -42,8 +42,10 @@ loop-again c =
     let wide : 1 ≤ 2 * span = omega (arith, span-of .ensures .0, pow-pos (min (a .i) 16)) in
     let next : suc (q + span) ≤ a .n = omega (arith, t .loop-test .taken, less .less-step .ensures) in (
       multiple-up (2 * span) q (inv .0),
-      stride min span (2 * span) (a .n) (a .low .now) q _ _ _ _ _ wide (inv .0) next (inv .1) refl refl (c .before .before .before .least-of .ensures) refl,
-      stride max span (2 * span) (a .n) (a .high .now) q _ _ _ _ _ wide (inv .0) next (inv .2) refl refl (c .greatest-of .ensures) refl,
+      stride min span (2 * span) (a .n) (a .low .now) q _ _ _ _ _ wide (inv .0) next (inv .1) refl refl
+          (c .before .before .before .least-of .ensures) refl,
+      stride max span (2 * span) (a .n) (a .high .now) q _ _ _ _ _ wide (inv .0) next (inv .2) refl refl
+          (c .greatest-of .ensures) refl,
     )
 
 returns : tie.Need-returns Inv-loop μ-loop
@@ -56,9 +58,11 @@ returns c =
     let twice : 2 * span .result ≡ 2 ^ suc (min (a .i) 16) = omega (arith, span .ensures .0) in
     let past : a .n - span .result ≤ q = omega (arith, c .loop-test .left, s .before .less-step .ensures) in (
       strides-end min (span .result) (2 * span .result) (a .n) (a .low .now) q _ past (inv .1)
-          ∙ global-later (min (a .i) 16) (span .result) (2 * span .result) (span .ensures .0) twice min (a .n) (a .low .now),
+          ∙ global-later (min (a .i) 16) (span .result) (2 * span .result) (span .ensures .0) twice min (a .n)
+          (a .low .now),
       strides-end max (span .result) (2 * span .result) (a .n) (a .high .now) q _ past (inv .2)
-          ∙ global-later (min (a .i) 16) (span .result) (2 * span .result) (span .ensures .0) twice max (a .n) (a .high .now),
+          ∙ global-later (min (a .i) 16) (span .result) (2 * span .result) (span .ensures .0) twice max (a .n)
+          (a .high .now),
     )
 
 pub segments-move-spec : {M : Type 1} → statement M

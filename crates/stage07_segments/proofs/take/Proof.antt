@@ -11,7 +11,9 @@ returns c =
     let y = b .before in
     let s = y .before in
     let a = s .args in
-    before-taken (opOf (a .greatest)) (a .left) (a .right) (a .span) (a .n) (a .global .now) (a .from) (a .to) (a .x) (y .with-segment .result) (b .place-before .result) (c .with-segment2 .result) (s .pre) (y .with-segment .ensures) (b .place-before .ensures) (c .with-segment2 .ensures)
+    before-taken (opOf (a .greatest)) (a .left) (a .right) (a .span) (a .n) (a .global .now) (a .from) (a .to) (a .x)
+    (y .with-segment .result) (b .place-before .result) (c .with-segment2 .result) (s .pre)
+    (y .with-segment .ensures) (b .place-before .ensures) (c .with-segment2 .ensures)
 
 pub take-spec : {M : Type 1} → statement M
 take-spec =

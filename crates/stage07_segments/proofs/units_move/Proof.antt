@@ -10,7 +10,8 @@ use Rattle.base_lists.specs.Tables.{over}
 use Rattle.base_lists.specs.Rounds.{over-more}
 use Rattle.spec_rules.specs.MoveLaws.{oddBy, littleBy, bigBy, rangeBy, range-later, little-later, big-later}
 use Rattle.table_values.specs.Passes.{read-past, over-kept}
-use Rattle.stage07_segments.specs.Turns.{odd-by, range-stays, little-stays, big-stays, range-moves, little-moves, big-moves}
+use Rattle.stage07_segments.specs.Turns.{odd-by, range-stays, little-stays, big-stays, range-moves, little-moves}
+use Rattle.stage07_segments.specs.Turns.{big-moves}
 use Rattle.stage07_segments.proofs.units_move.Statement.{statement}
 use Rattle.stage07_segments.proofs.units_move.Tie as tie
 
@@ -40,7 +41,10 @@ loop-again c =
     let v = s .loop .v in
     let inv = s .loop .inv in
     let met : getD big v 0 ≤ getD little v 0
-    = rw (read-past v _ big _ (inv .4) v (le-refl v), read-past v _ little _ (inv .3) v (le-refl v)) at (c .if1 .taken) in (
+    = rw (
+      read-past v _ big _ (inv .4) v (le-refl v),
+      read-past v _ little _ (inv .3) v (le-refl v),
+    ) at (c .if1 .taken) in (
       search needs,
       over-kept v _ low _ (inv .1) (range-stays span (2 * span) (a .n) little big v met min (a .least .now) low),
       over-kept v _ high _ (inv .2) (range-stays span (2 * span) (a .n) little big v met max (a .greatest .now) high),
@@ -78,13 +82,18 @@ loop-again-2 c =
     = odd-to .is-odd2 .ensures ∙ odd-by (min (a .i) 16) span (2 * span - 1) (span-of .ensures .0) refl to in (
       search needs,
       over-more v _ low _ _ _ (inv .1)
-          (range-moves span (2 * span) (a .n) little big v from to is-from is-to (e .if1 .left) min (a .least .now) low left right _ _ odd-left odd-right is-low (on .before .before .before .take .ensures))
+          (range-moves span (2 * span) (a .n) little big v from to is-from is-to (e .if1 .left) min
+          (a .least .now) low left right _ _ odd-left odd-right is-low (on .before .before .before .take .ensures))
           refl,
       over-more v _ high _ _ _ (inv .2)
-          (range-moves span (2 * span) (a .n) little big v from to is-from is-to (e .if1 .left) max (a .greatest .now) high left right _ _ odd-left odd-right is-high (on .before .take2 .ensures))
+          (range-moves span (2 * span) (a .n) little big v from to is-from is-to (e .if1 .left) max
+          (a .greatest .now) high left right _ _ odd-left odd-right is-high (on .before .take2 .ensures))
           refl,
-      over-more v _ little _ _ _ (inv .3) (little-moves span (2 * span) (a .n) little big v from to is-from is-to (e .if1 .left) left _ odd-left (on .step-on .ensures)) refl,
-      over-more v _ big _ _ _ (inv .4) (big-moves span (2 * span) (a .n) little big v from to is-from is-to (e .if1 .left) right _ odd-right (c .step-back .ensures)) refl,
+      over-more v _ little _ _ _ (inv .3)
+          (little-moves span (2 * span) (a .n) little big v from to is-from is-to (e .if1 .left) left _ odd-left
+          (on .step-on .ensures)) refl,
+      over-more v _ big _ _ _ (inv .4) (big-moves span (2 * span) (a .n) little big v from to is-from is-to
+          (e .if1 .left) right _ odd-right (c .step-back .ensures)) refl,
     )
 
 returns : tie.Need-returns Inv-loop μ-loop
@@ -100,12 +109,16 @@ returns c =
     let i = min (a .i) 16 in
     let twice : 2 * span .result ≡ 2 ^ suc (min (a .i) 16) = omega (arith, span .ensures .0) in
     let ended = le-antisymm (inv .0) (c .loop-test .left) in (
-      rw ended at (inv .1) ∙ range-later i (span .result) (2 * span .result) (span .ensures .0) twice min (a .n) (a .least .now) little big low,
+      rw ended at (inv .1) ∙ range-later i (span .result) (2 * span .result) (span .ensures .0) twice min (a .n)
+          (a .least .now) little big low,
       (
-        rw ended at (inv .2) ∙ range-later i (span .result) (2 * span .result) (span .ensures .0) twice max (a .n) (a .greatest .now) little big high,
+        rw ended at (inv .2) ∙ range-later i (span .result) (2 * span .result) (span .ensures .0) twice max (a .n)
+            (a .greatest .now) little big high,
         (
-          rw ended at (inv .3) ∙ little-later i (span .result) (2 * span .result) (span .ensures .0) twice (a .n) big little,
-          rw ended at (inv .4) ∙ big-later i (span .result) (2 * span .result) (span .ensures .0) twice (a .n) little big,
+          rw ended at (inv .3) ∙ little-later i (span .result) (2 * span .result) (span .ensures .0) twice
+              (a .n) big little,
+          rw ended at (inv .4) ∙ big-later i (span .result) (2 * span .result) (span .ensures .0) twice
+              (a .n) little big,
         ),
       ),
     )

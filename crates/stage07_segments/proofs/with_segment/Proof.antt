@@ -8,7 +8,11 @@ returns : tie.Need-returns
 returns c = rw (not-true (c .before .args .moves) (c .if1 .taken))
 
 returns-2 : tie.Need-returns-2
-returns-2 c = rw (c .op-of .ensures, c .before .segment-at .ensures, not-false (c .before .before .before .args .moves) (c .before .before .if1 .left))
+returns-2 c = rw (
+  c .op-of .ensures,
+  c .before .segment-at .ensures,
+  not-false (c .before .before .before .args .moves) (c .before .before .if1 .left),
+)
 
 pub with-segment-spec : {M : Type 1} → statement M
 with-segment-spec =

@@ -6,7 +6,14 @@ use Rattle.stage08_joins.proofs.link_join.Tie as tie
 returns : tie.Need-returns
 returns c =
     let b = c .before .before .before .before .before in
-    rw (c .choose .ensures, c .before .both3 .ensures, c .before .before .both2 .ensures, c .before .before .before .within2 .ensures, b .within .ensures, b .before .before .before .before .both .ensures)
+    rw (
+      c .choose .ensures,
+      c .before .both3 .ensures,
+      c .before .before .both2 .ensures,
+      c .before .before .before .within2 .ensures,
+      b .within .ensures,
+      b .before .before .before .before .both .ensures,
+    )
 
 pub link-join-spec : {M : Type 1} → statement M
 link-join-spec =

@@ -11,7 +11,8 @@ use Rattle.stage08_joins.proofs.link_joins.Statement.{statement}
 use Rattle.stage08_joins.proofs.link_joins.Tie as tie
 
 abbrev Inv-loop : tie.InvT-loop
-Inv-loop units links ends parent nd pre new₀ j₀ new j = (j ≤ links) × (length new ≡ 1024) × (new ≡ over j (linkJoin ends parent nd pre) new₀)
+Inv-loop units links ends parent nd pre new₀ j₀ new j =
+    (j ≤ links) × (length new ≡ 1024) × (new ≡ over j (linkJoin ends parent nd pre) new₀)
 
 abbrev μ-loop : tie.MeasureT-loop
 μ-loop units links ends parent nd pre new₀ j₀ new j = links - j
@@ -25,7 +26,11 @@ link-join-requires c κs =
     (omega (arith, one, p .0), omega (arith, two, p .0))
 
 loop-again : tie.Need-loop-again Inv-loop μ-loop
-loop-again c = (search needs, search needs, over-more _ _ _ _ _ _ (c .before .before .before .before .loop .inv .2) (c .link-join .ensures) refl)
+loop-again c = (
+  search needs,
+  search needs,
+  over-more _ _ _ _ _ _ (c .before .before .before .before .loop .inv .2) (c .link-join .ensures) refl,
+)
 
 returns : tie.Need-returns Inv-loop μ-loop
 unfolding linkJoinsRound

@@ -10,7 +10,8 @@ use Rattle.stage08_joins.proofs.parent_joins.Statement.{statement}
 use Rattle.stage08_joins.proofs.parent_joins.Tie as tie
 
 abbrev Inv-loop : tie.InvT-loop
-Inv-loop units parent nd pre low high new₀ u₀ new u = (u ≤ units) × (length new ≡ 256) × (new ≡ over u (parentJoin parent nd pre low high) new₀)
+Inv-loop units parent nd pre low high new₀ u₀ new u =
+    (u ≤ units) × (length new ≡ 256) × (new ≡ over u (parentJoin parent nd pre low high) new₀)
 
 abbrev μ-loop : tie.MeasureT-loop
 μ-loop units parent nd pre low high new₀ u₀ new u = units - u
@@ -19,7 +20,8 @@ loop-again : tie.Need-loop-again Inv-loop μ-loop
 loop-again c =
     let s = c .before .before .before in
     let a = s .before .args in
-    let is : c .choose .result ≡ parentJoin (a .parent .now) (a .nd .now) (a .pre .now) (a .low .now) (a .high .now) (s .loop .u) = cc in
+    let is : c .choose .result ≡ parentJoin (a .parent .now) (a .nd .now) (a .pre .now) (a .low .now) (a .high .now)
+    (s .loop .u) = cc in
     (search needs, search needs, over-more _ _ _ _ _ _ (s .loop .inv .2) is refl)
 
 returns : tie.Need-returns Inv-loop μ-loop

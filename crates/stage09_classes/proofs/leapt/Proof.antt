@@ -14,10 +14,12 @@ both c = sym (c .before .both .ensures) ∙ not-false _ (c .if1 .left)
 
 -- the stage makes a round
 go : (c : tie.Else1)
-    → (let a = c .before .before .before .before .args in Goes (a .units) 9 0 (a .budget) (fits (a .units) (a .links) (a .ends .now) (a .parent .now)) (a .clock))
+    → (let a = c .before .before .before .before .args in Goes (a .units) 9 0 (a .budget)
+    (fits (a .units) (a .links) (a .ends .now) (a .parent .now)) (a .clock))
 go c =
     let g = c .before .before .before in
-    goes _ _ _ _ _ _ (rw (g .before .pre) at (sym (g .goes-on .ensures) ∙ and-right (c .before .before .pays .result) (g .goes-on .result) (both c)))
+    goes _ _ _ _ _ _ (rw (g .before .pre) at (sym (g .goes-on .ensures)
+    ∙ and-right (c .before .before .pays .result) (g .goes-on .result) (both c)))
 
 returns : tie.Need-returns
 returns c = λ e. absurd (false≢true e)

@@ -21,12 +21,15 @@ returns c =
     let p = c .before .before .before .propagate2 in
     let h = p .ensures in
     let long : length (sd .result) ≡ 256 = search (sd .ok, needs) in
-    let words : (i : ℕ) → at (sd .result) i ≤ 65535 = λ i. let f : Fits w16 (at (sd .result) i) = search (sd .ok, needs) in omega (arith, f .fits) in
+    let words : (i : ℕ) → at (sd .result) i ≤ 65535 = λ i. let f : Fits w16 (at (sd .result) i) =
+    search (sd .ok, needs) in omega (arith, f .fits) in
     let units : min (a .units) 256 ≡ a .units = omega (arith, s .pre .0) in
     λ marks by.
     rw units at (c .least .ensures)
-    ∙ heads-round (a .units) (a .links) (a .made) (a .ends .now) (a .parent .now) (a .linked .now) marks (a .color) (sd .result) (a .heads .now)
-    (w .without-roots .result) (p .result) _ (sd .ensures) (omega (arith, long, s .pre .0)) (s .pre .2) by words (rw units at (w .without-roots .ensures))
+    ∙ heads-round (a .units) (a .links) (a .made) (a .ends .now) (a .parent .now) (a .linked .now) marks (a .color)
+    (sd .result) (a .heads .now)
+    (w .without-roots .result) (p .result) _ (sd .ensures) (omega (arith, long, s .pre .0)) (s .pre .2) by words
+    (rw units at (w .without-roots .ensures))
     (rw l at (h .0)) (h .1)
 
 pub round-spec : {M : Type 1} → statement M

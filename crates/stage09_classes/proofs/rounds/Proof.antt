@@ -20,24 +20,32 @@ use Rattle.stage09_classes.proofs.rounds.Statement.{statement}
 use Rattle.stage09_classes.proofs.rounds.Tie as tie
 
 abbrev Inv-loop : tie.InvT-loop
-Inv-loop fit units links budget ends parent linked parents heads value₀ c₀ made₀ value c made = (length value ≡ 256) × Turning (on units links ends parent) (one units links ends parent linked parents) budget (record { color = value₀; clock = c₀; made = 0 }) made (record { color = value; clock = c; made = made })
+Inv-loop fit units links budget ends parent linked parents heads value₀ c₀ made₀ value c made =
+    (length value ≡ 256) × Turning (on units links ends parent) (one units links ends parent linked parents) budget
+    (record { color = value₀; clock = c₀; made = 0 }) made (record { color = value; clock = c; made = made })
 
 abbrev μ-loop : tie.MeasureT-loop
 μ-loop fit units links budget ends parent linked parents heads value₀ c₀ made₀ value c made = budget - made
 
 -- the stage goes on where a round is made
 go : (c : tie.Then1 Inv-loop μ-loop)
-    → (let a = c .before .before .before .before .args in Goes (a .units) 9 (c .before .before .loop .made) (a .budget) (fits (a .units) (a .links) (a .ends .now) (a .parent .now)) (c .before .before .loop .c))
-go c = goes _ _ _ _ _ _ (rw (c .before .before .before .before .pre .0) at (sym (c .before .goes-on .ensures) ∙ c .if1 .taken))
+    → (let a = c .before .before .before .before .args in Goes (a .units) 9 (c .before .before .loop .made) (a .budget)
+    (fits (a .units) (a .links) (a .ends .now) (a .parent .now)) (c .before .before .loop .c))
+go c = goes _ _ _ _ _ _ (rw (c .before .before .before .before .pre .0) at (sym (c .before .goes-on .ensures)
+    ∙ c .if1 .taken))
 
 -- all heads exist then
 by : (c : tie.Then1 Inv-loop μ-loop)
-    → (let h = c .before .before .before in let a = h .before .args in Heads (a .units) (a .parent .now) (a .parents .now) (h .of .result))
+    → (let h = c .before .before .before in let a = h .before .args in Heads (a .units) (a .parent .now)
+    (a .parents .now) (h .of .result))
 by c =
     let h = c .before .before .before in
     let a = h .before .args in
-    heads-exist (a .units) (a .parent .now) (a .parents .now) (h .of .result) (and-right (linksFit (a .units) (a .links) (a .ends .now)) (every (nameOk (a .units)) (a .parent .now)) (go c .fit))
-    (λ u l. rw (lt-ltb u (min (a .units) 256) (omega (arith, l, go c .few))) at (h .of .ensures u (omega (arith, l, go c .few))))
+    heads-exist (a .units) (a .parent .now) (a .parents .now) (h .of .result)
+    (and-right (linksFit (a .units) (a .links) (a .ends .now)) (every (nameOk (a .units)) (a .parent .now))
+    (go c .fit))
+    (λ u l. rw (lt-ltb u (min (a .units) 256) (omega (arith, l, go c .few))) at
+    (h .of .ensures u (omega (arith, l, go c .few))))
 
 loop-holds : tie.Need-loop-holds Inv-loop μ-loop
 loop-holds c = (search needs, turns-begin _ _ _ _)
@@ -47,8 +55,13 @@ round-requires c κs =
     let t = c .before in
     let a = t .before .before .before .before .args in
     let g = go t in
-    let links = and-left (linksFit (a .units) (a .links) (a .ends .now)) (every (nameOk (a .units)) (a .parent .now)) (g .fit) in
-    (g .few, fit-few (a .units) (a .links) (a .ends .now) links, fit-within (a .units) (a .links) (a .ends .now) (t .before .before .before .before .pre .1) links, by t .exist)
+    let links = and-left (linksFit (a .units) (a .links) (a .ends .now)) (every (nameOk (a .units)) (a .parent .now))
+    (g .fit) in (
+      g .few,
+      fit-few (a .units) (a .links) (a .ends .now) links,
+      fit-within (a .units) (a .links) (a .ends .now) (t .before .before .before .before .pre .1) links,
+      by t .exist,
+    )
 
 add-made : tie.Need-add-made Inv-loop μ-loop
 add-made c =
@@ -65,11 +78,13 @@ loop-again c =
     let t = r .before .before in
     let g = go t in (
       search (r .round .ok, needs),
-      turns-on _ _ _ _ _ _ _ (t .before .before .loop .inv .1) (g .test) (rw (c .ticked .ensures, g .inside, c .before .ends .ensures, r .round .ensures _ (by t))),
+      turns-on _ _ _ _ _ _ _ (t .before .before .loop .inv .1) (g .test)
+          (rw (c .ticked .ensures, g .inside, c .before .ends .ensures, r .round .ensures _ (by t))),
     )
 
 returns : tie.Need-returns Inv-loop μ-loop
-returns c = turns-over _ _ _ _ _ _ (c .before .before .loop .inv .1) (rw (c .before .before .before .before .pre .0) at (sym (c .before .goes-on .ensures) ∙ c .if1 .left))
+returns c = turns-over _ _ _ _ _ _ (c .before .before .loop .inv .1)
+    (rw (c .before .before .before .before .pre .0) at (sym (c .before .goes-on .ensures) ∙ c .if1 .left))
 
 pub rounds-spec : {M : Type 1} → statement M
 rounds-spec =

@@ -5,7 +5,11 @@ use Rattle.stage09_classes.proofs.run.Statement.{statement}
 use Rattle.stage09_classes.proofs.run.Tie as tie
 
 leapt-requires : tie.Need-leapt-requires
-leapt-requires c κs = rw (c .both .ensures, c .before .before .before .links-fit .ensures, c .before .names-ok .ensures) refl
+leapt-requires c κs = rw (
+  c .both .ensures,
+  c .before .before .before .links-fit .ensures,
+  c .before .names-ok .ensures,
+) refl
 
 returns : tie.Need-returns
 returns c =
@@ -15,8 +19,10 @@ returns c =
 rounds-requires : tie.Need-rounds-requires
 rounds-requires c κs =
     let b = c .before .before in
-    let f = b .before .before .before in
-    (rw (b .both .ensures, f .links-fit .ensures, b .before .names-ok .ensures) refl, search (f .before .links-fit-arg .given, needs))
+    let f = b .before .before .before in (
+      rw (b .both .ensures, f .links-fit .ensures, b .before .names-ok .ensures) refl,
+      search (f .before .links-fit-arg .given, needs),
+    )
 
 returns-2 : tie.Need-returns-2
 returns-2 c = c .rounds .ensures

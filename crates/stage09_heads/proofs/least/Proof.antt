@@ -10,7 +10,8 @@ use Rattle.stage09_heads.proofs.least.Statement.{statement}
 use Rattle.stage09_heads.proofs.least.Tie as tie
 
 abbrev Inv-loop : tie.InvT-loop
-Inv-loop units parent told t count new₀ v₀ new v = (v ≤ count) × (length new ≡ 256) × (new ≡ over v (leastOf parent told t) new₀)
+Inv-loop units parent told t count new₀ v₀ new v =
+    (v ≤ count) × (length new ≡ 256) × (new ≡ over v (leastOf parent told t) new₀)
 
 abbrev μ-loop : tie.MeasureT-loop
 μ-loop units parent told t count new₀ v₀ new v = count - v
@@ -23,7 +24,8 @@ loop-again c =
     (search needs, search needs, over-more _ _ _ _ _ _ (s .loop .inv .2) is refl)
 
 returns : tie.Need-returns Inv-loop μ-loop
-returns c = rw (← c .before .before .least-of .ensures) (c .before .loop .inv .2 ∙ over-all _ _ _ _ (c .before .loop .inv .0) (c .loop-test .left))
+returns c = rw (← c .before .before .least-of .ensures) (c .before .loop .inv .2
+    ∙ over-all _ _ _ _ (c .before .loop .inv .0) (c .loop-test .left))
 
 pub least-spec : {M : Type 1} → statement M
 least-spec =

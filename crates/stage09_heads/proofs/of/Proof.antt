@@ -17,13 +17,16 @@ use Rattle.stage09_heads.proofs.of.Statement.{statement}
 use Rattle.stage09_heads.proofs.of.Tie as tie
 
 -- a head, or what was there
-head-at : (n : ℕ) (f : ℕ → ℕ) (old new : List ℕ) (u : ℕ) → length old ≡ 256 → new ≡ over n f old → u < 256 → getD old u 0 ≡ ABSENT → Dec (u < n)
+head-at : (n : ℕ) (f : ℕ → ℕ) (old new : List ℕ) (u : ℕ) → length old ≡ 256 → new ≡ over n f old → u < 256 →
+    getD old u 0 ≡ ABSENT → Dec (u < n)
     → getD new u 0 ≡ cond (ltb u n) (f u) ABSENT
 head-at n f old new u full is h was (yes l) = rw (is, lt-ltb u n l) (getD-over n f old u 0 l (omega (arith, h, full)))
-head-at n f old new u full is h was (no l) = rw (is, le-ltb u n (omega (arith, l))) (getD-over-past n f old u 0 (omega (arith, l)) ∙ was)
+head-at n f old new u full is h was (no l) =
+    rw (is, le-ltb u n (omega (arith, l))) (getD-over-past n f old u 0 (omega (arith, l)) ∙ was)
 
 abbrev Inv-loop : tie.InvT-loop
-Inv-loop units parent parents count new₀ u₀ new u = (u ≤ count) × (length new₀ ≡ 256) × (length new ≡ 256) × (new ≡ over u (headOf parent parents) new₀)
+Inv-loop units parent parents count new₀ u₀ new u =
+    (u ≤ count) × (length new₀ ≡ 256) × (length new ≡ 256) × (new ≡ over u (headOf parent parents) new₀)
 
 abbrev μ-loop : tie.MeasureT-loop
 μ-loop units parent parents count new₀ u₀ new u = count - u
@@ -41,8 +44,11 @@ returns c =
     let blank = s .before in
     let few = blank .before in
     let a = few .before .args in
-    let all : s .loop .u ≡ min (a .units) 256 = omega (arith, s .loop .inv .0, c .loop-test .left, few .least-of .ensures) in
-    λ u h. head-at (min (a .units) 256) (headOf (a .parent .now) (a .parents .now)) (blank .blank .result) (s .loop .new) u (s .loop .inv .1) (rw all at (s .loop .inv .3)) h (blank .blank .ensures u h) (decLt u (min (a .units) 256))
+    let all : s .loop .u ≡ min (a .units) 256 =
+    omega (arith, s .loop .inv .0, c .loop-test .left, few .least-of .ensures) in
+    λ u h. head-at (min (a .units) 256) (headOf (a .parent .now) (a .parents .now)) (blank .blank .result)
+    (s .loop .new) u (s .loop .inv .1) (rw all at (s .loop .inv .3)) h (blank .blank .ensures u h)
+    (decLt u (min (a .units) 256))
 
 pub of-spec : {M : Type 1} → statement M
 of-spec =

@@ -9,8 +9,11 @@ returns c =
     let l = c .before .before in
     let two = l .before .before in
     let one = two .before in
-    let a = one .before .args in
-    (rw (← two .least-of2 .ensures, ← one .least-of .ensures) (c .of-parents .ensures (one .least-of .result) (a .ends .now) (a .linked .now) (l .of-links .ensures .1)), omega (arith, c .of-parents .kept, c .before .of-parents-arg .given .0))
+    let a = one .before .args in (
+      rw (← two .least-of2 .ensures, ← one .least-of .ensures)
+          (c .of-parents .ensures (one .least-of .result) (a .ends .now) (a .linked .now) (l .of-links .ensures .1)),
+      omega (arith, c .of-parents .kept, c .before .of-parents-arg .given .0),
+    )
 
 pub joins-spec : {M : Type 1} → statement M
 joins-spec =

@@ -8,21 +8,27 @@ use lib.ListN.{length}
 use borrow.Author.Tests.{ne-eqb}
 use Rattle.table.specs.Table.{endA, endB}
 use Rattle.spec_rules.specs.Basics.{at}
-use Rattle.stage09_pairs.specs.Pairs.{Hears, linksHeard, links-begin, links-next, pairs-skip, pairs-push, counted-few}
+use Rattle.stage09_pairs.specs.Pairs.{Hears, linksHeard, links-begin, links-next, pairs-skip, pairs-push}
+use Rattle.stage09_pairs.specs.Pairs.{counted-few}
 use borrow.Author.Needs.{needs}
 use Rattle.stage09_pairs.proofs.of_links.Statement.{statement}
 use Rattle.stage09_pairs.proofs.of_links.Tie as tie
 
 abbrev Inv-loop : tie.InvT-loop
-Inv-loop links ends parent linked pairs₀ count₀ j₀ pairs count j = (j ≤ links) × (count ≤ j) × (length pairs ≡ 2560) × Hears count pairs (linksHeard j ends parent linked)
+Inv-loop links ends parent linked pairs₀ count₀ j₀ pairs count j =
+    (j ≤ links) × (count ≤ j) × (length pairs ≡ 2560) × Hears count pairs (linksHeard j ends parent linked)
 
 abbrev μ-loop : tie.MeasureT-loop
 μ-loop links ends parent linked pairs₀ count₀ j₀ pairs count j = links - j
 
 loop-holds : tie.Need-loop-holds Inv-loop μ-loop
 loop-holds c =
-    let a = c .before .args in
-    (search needs, search needs, search needs, links-begin (a .ends .now) (a .parent .now) (a .linked .now) (a .pairs .now))
+    let a = c .before .args in (
+      search needs,
+      search needs,
+      search needs,
+      links-begin (a .ends .now) (a .parent .now) (a .linked .now) (a .pairs .now),
+    )
 
 loop-again : tie.Need-loop-again Inv-loop μ-loop
 loop-again c =
@@ -32,13 +38,18 @@ loop-again c =
       omega (arith, s .loop .inv .1),
       s .loop .inv .2,
       links-next (s .loop .count) (s .loop .j) (a .ends .now) (a .parent .now) (a .linked .now) (s .loop .pairs)
-          (pairs-skip (a .parent .now) (s .loop .count) (at (a .linked .now) (s .loop .j)) (endA (a .ends .now) (s .loop .j)) (endB (a .ends .now) (s .loop .j)) (s .loop .pairs) (s .loop .pairs) (linksHeard (s .loop .j) (a .ends .now) (a .parent .now) (a .linked .now)) (s .loop .inv .3) (c .if1 .taken)),
+          (pairs-skip (a .parent .now) (s .loop .count) (at (a .linked .now) (s .loop .j))
+          (endA (a .ends .now) (s .loop .j)) (endB (a .ends .now) (s .loop .j)) (s .loop .pairs) (s .loop .pairs)
+          (linksHeard (s .loop .j) (a .ends .now) (a .parent .now) (a .linked .now)) (s .loop .inv .3)
+          (c .if1 .taken)),
     )
 
 push-requires : tie.Need-push-requires Inv-loop μ-loop
 push-requires c κs =
-    let s = c .before .before .before .before .before .before in
-    (omega (arith, s .before .loop .inv .1, s .loop-test .taken, s .before .before .before .pre .0), s .before .loop .inv .2)
+    let s = c .before .before .before .before .before .before in (
+      omega (arith, s .before .loop .inv .1, s .loop-test .taken, s .before .before .before .pre .0),
+      s .before .loop .inv .2,
+    )
 
 loop-again-2 : tie.Need-loop-again-2 Inv-loop μ-loop
 loop-again-2 c =
@@ -52,9 +63,18 @@ loop-again-2 c =
       omega (arith, s .loop .inv .1, counted-few (r .no-roots .result) (s .loop .count) (p .push .result) count),
       search needs,
       links-next (p .push .result) (s .loop .j) (a .ends .now) (a .parent .now) (a .linked .now) _
-          (pairs-push (a .parent .now) (s .loop .count) (at (a .linked .now) (s .loop .j)) (endA (a .ends .now) (s .loop .j)) (endB (a .ends .now) (s .loop .j)) (s .loop .pairs) _ (linksHeard (s .loop .j) (a .ends .now) (a .parent .now) (a .linked .now)) (s .loop .inv .3)
-          (p .push .ensures .0) (omega (arith, s .loop .inv .2, s .loop .inv .1, e .before .before .loop-test .taken, s .before .before .pre .0)) (p .push .result)
-          (rw (ne-eqb (at (a .linked .now) (s .loop .j)) 0 (e .if1 .left)) (count ∙ ap (λ (t : Bool). cond t (s .loop .count + 1) (s .loop .count)) (r .no-roots .ensures)))),
+          (pairs-push (a .parent .now) (s .loop .count) (at (a .linked .now) (s .loop .j))
+          (endA (a .ends .now) (s .loop .j)) (endB (a .ends .now) (s .loop .j)) (s .loop .pairs) _
+          (linksHeard (s .loop .j) (a .ends .now) (a .parent .now) (a .linked .now)) (s .loop .inv .3)
+          (p .push .ensures .0) (omega (
+            arith,
+            s .loop .inv .2,
+            s .loop .inv .1,
+            e .before .before .loop-test .taken,
+            s .before .before .pre .0,
+          )) (p .push .result)
+          (rw (ne-eqb (at (a .linked .now) (s .loop .j)) 0 (e .if1 .left)) (count
+          ∙ ap (λ (t : Bool). cond t (s .loop .count + 1) (s .loop .count)) (r .no-roots .ensures)))),
     )
 
 returns : tie.Need-returns Inv-loop μ-loop

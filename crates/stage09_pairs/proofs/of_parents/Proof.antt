@@ -8,21 +8,29 @@ use native.Mathlib.Omega.{arith}
 use lib.ListN.{length}
 use borrow.Author.Tests.{ne-eqb}
 use Rattle.spec_rules.specs.Basics.{at}
-use Rattle.stage09_pairs.specs.Pairs.{Hears, linksHeard, joinsHeard, joins-begin, joins-next, pairs-skip, pairs-push, counted-few}
+use Rattle.stage09_pairs.specs.Pairs.{Hears, linksHeard, joinsHeard, joins-begin, joins-next, pairs-skip}
+use Rattle.stage09_pairs.specs.Pairs.{pairs-push, counted-few}
 use borrow.Author.Needs.{needs}
 use Rattle.stage09_pairs.proofs.of_parents.Statement.{statement}
 use Rattle.stage09_pairs.proofs.of_parents.Tie as tie
 
 abbrev Inv-loop : tie.InvT-loop
-Inv-loop units parent parents pairs₀ had count₀ u₀ pairs count u = (u ≤ units) × (count ≤ had + u) × (length pairs ≡ 2560) × ((m : ℕ) (ends linked : List ℕ) → Hears had pairs₀ (linksHeard m ends parent linked) → Hears count pairs (joinsHeard u m ends parent linked parents))
+Inv-loop units parent parents pairs₀ had count₀ u₀ pairs count u =
+    (u ≤ units) × (count ≤ had + u) × (length pairs ≡ 2560)
+    × ((m : ℕ) (ends linked : List ℕ) → Hears had pairs₀ (linksHeard m ends parent linked) →
+    Hears count pairs (joinsHeard u m ends parent linked parents))
 
 abbrev μ-loop : tie.MeasureT-loop
 μ-loop units parent parents pairs₀ had count₀ u₀ pairs count u = units - u
 
 loop-holds : tie.Need-loop-holds Inv-loop μ-loop
 loop-holds c =
-    let a = c .before .args in
-    (search needs, search needs, search needs, λ m ends linked h. joins-begin (a .had) m ends (a .parent .now) linked (a .parents .now) (a .pairs .now) h)
+    let a = c .before .args in (
+      search needs,
+      search needs,
+      search needs,
+      λ m ends linked h. joins-begin (a .had) m ends (a .parent .now) linked (a .parents .now) (a .pairs .now) h,
+    )
 
 loop-again : tie.Need-loop-again Inv-loop μ-loop
 loop-again c =
@@ -33,13 +41,24 @@ loop-again c =
       s .loop .inv .2,
       λ m ends linked h.
           joins-next (s .loop .count) (s .loop .u) m ends (a .parent .now) linked (a .parents .now) (s .loop .pairs)
-          (pairs-skip (a .parent .now) (s .loop .count) (at (a .parents .now) (s .loop .u)) (s .loop .u) (at (a .parent .now) (s .loop .u)) (s .loop .pairs) (s .loop .pairs) (joinsHeard (s .loop .u) m ends (a .parent .now) linked (a .parents .now)) (s .loop .inv .3 m ends linked h) (c .if1 .taken)),
+          (pairs-skip (a .parent .now) (s .loop .count) (at (a .parents .now) (s .loop .u)) (s .loop .u)
+          (at (a .parent .now) (s .loop .u)) (s .loop .pairs) (s .loop .pairs)
+          (joinsHeard (s .loop .u) m ends (a .parent .now) linked (a .parents .now))
+          (s .loop .inv .3 m ends linked h) (c .if1 .taken)),
     )
 
 push-requires : tie.Need-push-requires Inv-loop μ-loop
 push-requires c κs =
-    let s = c .before .before .before .before .before in
-    (omega (arith, s .before .loop .inv .1, s .loop-test .taken, s .before .before .before .pre .0, s .before .before .before .pre .1), s .before .loop .inv .2)
+    let s = c .before .before .before .before .before in (
+      omega (
+        arith,
+        s .before .loop .inv .1,
+        s .loop-test .taken,
+        s .before .before .before .pre .0,
+        s .before .before .before .pre .1,
+      ),
+      s .before .loop .inv .2,
+    )
 
 loop-again-2 : tie.Need-loop-again-2 Inv-loop μ-loop
 loop-again-2 c =
@@ -54,13 +73,25 @@ loop-again-2 c =
       search needs,
       λ m ends linked h.
           joins-next (p .push .result) (s .loop .u) m ends (a .parent .now) linked (a .parents .now) _
-          (pairs-push (a .parent .now) (s .loop .count) (at (a .parents .now) (s .loop .u)) (s .loop .u) (at (a .parent .now) (s .loop .u)) (s .loop .pairs) _ (joinsHeard (s .loop .u) m ends (a .parent .now) linked (a .parents .now)) (s .loop .inv .3 m ends linked h)
-          (p .push .ensures .0) (omega (arith, s .loop .inv .2, s .loop .inv .1, e .before .before .loop-test .taken, s .before .before .pre .0, s .before .before .pre .1)) (p .push .result)
-          (rw (ne-eqb (at (a .parents .now) (s .loop .u)) 0 (e .if1 .left)) (count ∙ ap (λ (t : Bool). cond t (s .loop .count + 1) (s .loop .count)) (r .no-roots .ensures)))),
+          (pairs-push (a .parent .now) (s .loop .count) (at (a .parents .now) (s .loop .u)) (s .loop .u)
+          (at (a .parent .now) (s .loop .u)) (s .loop .pairs) _
+          (joinsHeard (s .loop .u) m ends (a .parent .now) linked (a .parents .now))
+          (s .loop .inv .3 m ends linked h)
+          (p .push .ensures .0) (omega (
+            arith,
+            s .loop .inv .2,
+            s .loop .inv .1,
+            e .before .before .loop-test .taken,
+            s .before .before .pre .0,
+            s .before .before .pre .1,
+          )) (p .push .result)
+          (rw (ne-eqb (at (a .parents .now) (s .loop .u)) 0 (e .if1 .left)) (count
+          ∙ ap (λ (t : Bool). cond t (s .loop .count + 1) (s .loop .count)) (r .no-roots .ensures)))),
     )
 
 returns : tie.Need-returns Inv-loop μ-loop
-returns c = λ m ends linked h. rw (le-antisymm (c .before .loop .inv .0) (c .loop-test .left)) at (c .before .loop .inv .3 m ends linked h)
+returns c = λ m ends linked h. rw (le-antisymm (c .before .loop .inv .0) (c .loop-test .left)) at
+    (c .before .loop .inv .3 m ends linked h)
 
 pub of-parents-spec : {M : Type 1} → statement M
 of-parents-spec =

@@ -11,7 +11,8 @@ use Rattle.stage10_labels.proofs.class_round.Statement.{statement}
 use Rattle.stage10_labels.proofs.class_round.Tie as tie
 
 abbrev Inv-loop : tie.InvT-loop
-Inv-loop units links ends parent pre color new₀ j₀ new j = (j ≤ links) × (length new ≡ 1024) × (new ≡ over j (classOf ends parent pre color) new₀)
+Inv-loop units links ends parent pre color new₀ j₀ new j =
+    (j ≤ links) × (length new ≡ 1024) × (new ≡ over j (classOf ends parent pre color) new₀)
 
 abbrev μ-loop : tie.MeasureT-loop
 μ-loop units links ends parent pre color new₀ j₀ new j = links - j
@@ -25,7 +26,12 @@ naming-requires c κs =
     (omega (arith, one, p .0), omega (arith, two, p .0))
 
 loop-again : tie.Need-loop-again Inv-loop μ-loop
-loop-again c = (search needs, search needs, over-more _ _ _ _ _ _ (c .before .before .before .before .before .loop .inv .2) (rw (c .before .naming .ensures .0)) refl)
+loop-again c = (
+  search needs,
+  search needs,
+  over-more _ _ _ _ _ _ (c .before .before .before .before .before .loop .inv .2)
+      (rw (c .before .naming .ensures .0)) refl,
+)
 
 returns : tie.Need-returns Inv-loop μ-loop
 unfolding classRound

@@ -10,13 +10,18 @@ use Rattle.stage10_labels.proofs.label_round.Statement.{statement}
 use Rattle.stage10_labels.proofs.label_round.Tie as tie
 
 abbrev Inv-loop : tie.InvT-loop
-Inv-loop links class first absent new₀ j₀ new j = (j ≤ links) × (length new ≡ 1024) × (new ≡ over j (labelBy links class first absent) new₀)
+Inv-loop links class first absent new₀ j₀ new j =
+    (j ≤ links) × (length new ≡ 1024) × (new ≡ over j (labelBy links class first absent) new₀)
 
 abbrev μ-loop : tie.MeasureT-loop
 μ-loop links class first absent new₀ j₀ new j = links - j
 
 loop-again : tie.Need-loop-again Inv-loop μ-loop
-loop-again c = (search needs, search needs, over-more _ _ _ _ _ _ (c .before .before .before .before .before .loop .inv .2) (c .first-by .ensures) refl)
+loop-again c = (
+  search needs,
+  search needs,
+  over-more _ _ _ _ _ _ (c .before .before .before .before .before .loop .inv .2) (c .first-by .ensures) refl,
+)
 
 returns : tie.Need-returns Inv-loop μ-loop
 returns c =
@@ -24,7 +29,8 @@ returns c =
     let g = s .before .first-at in
     let f = s .before .before .before .firsts in
     let a = s .before .before .before .before .before .args in
-    s .loop .inv .2 ∙ over-all _ _ _ _ (s .loop .inv .0) (c .loop-test .left) ∙ label-round (a .links) (a .class .now) (f .result) (g .result) (a .label) (f .ensures) (g .ensures)
+    s .loop .inv .2 ∙ over-all _ _ _ _ (s .loop .inv .0) (c .loop-test .left)
+    ∙ label-round (a .links) (a .class .now) (f .result) (g .result) (a .label) (f .ensures) (g .ensures)
 
 pub label-round-spec : {M : Type 1} → statement M
 label-round-spec =

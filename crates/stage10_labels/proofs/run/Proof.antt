@@ -12,15 +12,20 @@ use Rattle.stage10_labels.proofs.run.Statement.{statement}
 use Rattle.stage10_labels.proofs.run.Tie as tie
 
 abbrev Inv-loop : tie.InvT-loop
-Inv-loop units links budget ends parent pre color fits named₀ said₀ c₀ made₀ named said c made = Turning (on units links ends) (one units links ends parent pre color) budget (record { class = named₀; label = said₀; clock = c₀; made = 0 }) made (record { class = named; label = said; clock = c; made = made })
+Inv-loop units links budget ends parent pre color fits named₀ said₀ c₀ made₀ named said c made =
+    Turning (on units links ends) (one units links ends parent pre color) budget
+    (record { class = named₀; label = said₀; clock = c₀; made = 0 }) made
+    (record { class = named; label = said; clock = c; made = made })
 
 abbrev μ-loop : tie.MeasureT-loop
 μ-loop units links budget ends parent pre color fits named₀ said₀ c₀ made₀ named said c made = budget - made
 
 -- the stage goes on where a round is made
 go : (c : tie.Then1 Inv-loop μ-loop)
-    → (let a = c .before .before .before .before .before .args in Goes (a .units) 10 (c .before .before .loop .made) (a .budget) (linksFit (a .units) (a .links) (a .ends .now)) (c .before .before .loop .c))
-go c = goes _ _ _ _ _ _ (rw (c .before .before .before .links-fit .ensures) at (sym (c .before .goes-on .ensures) ∙ c .if1 .taken))
+    → (let a = c .before .before .before .before .before .args in Goes (a .units) 10 (c .before .before .loop .made)
+    (a .budget) (linksFit (a .units) (a .links) (a .ends .now)) (c .before .before .loop .c))
+go c = goes _ _ _ _ _ _ (rw (c .before .before .before .links-fit .ensures) at (sym (c .before .goes-on .ensures)
+    ∙ c .if1 .taken))
 
 loop-holds : tie.Need-loop-holds Inv-loop μ-loop
 loop-holds c = turns-begin _ _ _ _
@@ -29,8 +34,11 @@ class-round-requires : tie.Need-class-round-requires Inv-loop μ-loop
 class-round-requires c κs =
     let t = c .before .before .before .before in
     let a = t .before .before .before .before .before .args in
-    let g = go t in
-    (g .few, fit-few (a .units) (a .links) (a .ends .now) (g .fit), fit-within (a .units) (a .links) (a .ends .now) (search needs) (g .fit))
+    let g = go t in (
+      g .few,
+      fit-few (a .units) (a .links) (a .ends .now) (g .fit),
+      fit-within (a .units) (a .links) (a .ends .now) (search needs) (g .fit),
+    )
 
 add-made : tie.Need-add-made Inv-loop μ-loop
 add-made c =
@@ -47,7 +55,13 @@ loop-again c =
     let t = k .before .before in
     let l = t .before .before in
     let g = go t in
-    turns-on _ _ _ _ _ _ _ (l .loop .inv) (g .test) (rw (c .class-round .ensures, k .ticked .ensures, g .inside, eq-eqb (l .loop .c .made) 0 (c .before .if2 .taken)))
+    turns-on _ _ _ _ _ _ _ (l .loop .inv) (g .test)
+    (rw (
+      c .class-round .ensures,
+      k .ticked .ensures,
+      g .inside,
+      eq-eqb (l .loop .c .made) 0 (c .before .if2 .taken),
+    ))
 
 label-round-requires : tie.Need-label-round-requires Inv-loop μ-loop
 label-round-requires c κs =
@@ -70,10 +84,17 @@ loop-again-2 c =
     let t = k .before .before in
     let l = t .before .before in
     let g = go t in
-    turns-on _ _ _ _ _ _ _ (l .loop .inv) (g .test) (rw (c .label-round .ensures, k .ticked .ensures, g .inside, ne-eqb (l .loop .c .made) 0 (c .before .before .if2 .left)))
+    turns-on _ _ _ _ _ _ _ (l .loop .inv) (g .test)
+    (rw (
+      c .label-round .ensures,
+      k .ticked .ensures,
+      g .inside,
+      ne-eqb (l .loop .c .made) 0 (c .before .before .if2 .left),
+    ))
 
 returns : tie.Need-returns Inv-loop μ-loop
-returns c = turns-over _ _ _ _ _ _ (c .before .before .loop .inv) (rw (c .before .before .before .links-fit .ensures) at (sym (c .before .goes-on .ensures) ∙ c .if1 .left))
+returns c = turns-over _ _ _ _ _ _ (c .before .before .loop .inv)
+    (rw (c .before .before .before .links-fit .ensures) at (sym (c .before .goes-on .ensures) ∙ c .if1 .left))
 
 pub run-spec : {M : Type 1} → statement M
 run-spec =

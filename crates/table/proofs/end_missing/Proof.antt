@@ -10,7 +10,8 @@ use Rattle.table.proofs.end_missing.Statement.{statement}
 use Rattle.table.proofs.end_missing.Tie as tie
 
 abbrev Inv-loop : tie.InvT-loop
-Inv-loop units table missing₀ i₀ missing i = (i ≤ length table) × (endMissing units table ≡ (missing || endMissing units (drop i table)))
+Inv-loop units table missing₀ i₀ missing i =
+    (i ≤ length table) × (endMissing units table ≡ (missing || endMissing units (drop i table)))
 
 abbrev μ-loop : tie.MeasureT-loop
 μ-loop units table missing₀ i₀ missing i = length table - i
@@ -21,8 +22,11 @@ loop-holds c = (search needs, refl)
 loop-again : tie.Need-loop-again Inv-loop μ-loop
 loop-again c =
     let s = c .before .before .before in
-    let a = s .before .before .args in
-    (search needs, s .loop .inv .1 ∙ endMissing-next (a .units) (a .table .now) (s .loop .i) (s .loop .missing) (search needs) ∙ cc)
+    let a = s .before .before .args in (
+      search needs,
+      s .loop .inv .1 ∙ endMissing-next (a .units) (a .table .now) (s .loop .i) (s .loop .missing)
+          (search needs) ∙ cc,
+    )
 
 returns : tie.Need-returns Inv-loop μ-loop
 returns c =
@@ -30,7 +34,8 @@ returns c =
     let a = s .before .before .args in
     sym
     (s .loop .inv .1
-    ∙ ap (λ (x : _). s .loop .missing || x) (endMissing-end (a .units) (a .table .now) (s .loop .i) (c .loop-test .left))
+    ∙ ap (λ (x : _). s .loop .missing || x)
+    (endMissing-end (a .units) (a .table .now) (s .loop .i) (c .loop-test .left))
     ∙ or-false (s .loop .missing))
 
 pub end-missing-spec : {M : Type 1} → statement M

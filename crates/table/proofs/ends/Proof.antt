@@ -1,5 +1,5 @@
--- Each return is the first check that fails. Every end is below the unit count when repeats are looked for, and so below 256, where the search by marks is
--- exact.
+-- Each return is the first check that fails. Every end is below the unit count when repeats are looked for, and so
+-- below 256, where the search by marks is exact.
 use mathlib.Core.Path.{_≡_, sym, _∙_}
 use mathlib.Core.Bool.{Bool, false}
 use mathlib.Core.List.{List}
@@ -44,14 +44,16 @@ returns-3 c =
     let f = c .before .before in
     let e = f .before .before in
     let s = e .before .before in
-    refused-9 (units s) (table s) (repeated s) (p7 e) (p8 f) (sym (c .before .repeated .ensures (small e)) ∙ c .if3 .taken)
+    refused-9 (units s) (table s) (repeated s) (p7 e) (p8 f) (sym (c .before .repeated .ensures (small e))
+    ∙ c .if3 .taken)
 
 returns-4 : tie.Need-returns-4
 returns-4 c =
     let f = c .before .before in
     let e = f .before .before in
     let s = e .before .before in
-    ends-passed (units s) (table s) (repeated s) (p7 e) (p8 f) (sym (c .before .repeated .ensures (small e)) ∙ c .if3 .left)
+    ends-passed (units s) (table s) (repeated s) (p7 e) (p8 f) (sym (c .before .repeated .ensures (small e))
+    ∙ c .if3 .left)
 
 pub ends-spec : {M : Type 1} → statement M
 ends-spec =

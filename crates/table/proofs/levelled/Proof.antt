@@ -10,13 +10,16 @@ use Rattle.table.specs.TableLaws.{refused-15, refused-16, levels-passed}
 use Rattle.table.proofs.levelled.Statement.{statement}
 use Rattle.table.proofs.levelled.Tie as tie
 
-p15 : (s : tie.Else1) → levelsDiffer (s .before .before .args .table .now) (s .before .before .args .levels .now) ≡ false
-p15 s = let a = s .before .before .args in rw (eq-eqb (length (a .levels .now)) (length (a .table .now) / 2) (s .if1 .left)) refl
+p15 : (s : tie.Else1) → levelsDiffer (s .before .before .args .table .now) (s .before .before .args .levels .now)
+    ≡ false
+p15 s = let a = s .before .before .args in rw
+    (eq-eqb (length (a .levels .now)) (length (a .table .now) / 2) (s .if1 .left)) refl
 
 returns : tie.Need-returns
 returns c =
     let a = c .before .before .args in
-    refused-15 (a .table .now) (a .levels .now) (rw (ne-eqb (length (a .levels .now)) (length (a .table .now) / 2) (c .if1 .taken)) refl)
+    refused-15 (a .table .now) (a .levels .now)
+    (rw (ne-eqb (length (a .levels .now)) (length (a .table .now) / 2) (c .if1 .taken)) refl)
 
 returns-2 : tie.Need-returns-2
 returns-2 c =

@@ -8,7 +8,8 @@ use borrow.Author.Needs.{needs}
 use Rattle.table.proofs.refusal.Statement.{statement}
 use Rattle.table.proofs.refusal.Tie as tie
 
-none : (c : tie.Else1) → storedRefusal (c .before .before .before .args .units) (c .before .before .before .args .table .now) (c .before .before .before .args .levels .now) ≡ 0
+none : (c : tie.Else1) → storedRefusal (c .before .before .before .args .units)
+    (c .before .before .before .args .table .now) (c .before .before .before .args .levels .now) ≡ 0
 none c = sym (c .before .stored-refusal .ensures) ∙ c .if1 .left
 
 returns : tie.Need-returns
@@ -34,14 +35,16 @@ returns-3 c =
     let f = c .before .before in
     let e = f .before in
     let a = e .before .before .before .args in
-    as-unlinked (a .fresh) (a .units) (a .table .now) (a .levels .now) (not-false (a .fresh) (f .if2 .left)) (none e) (sym (c .before .unlinked .ensures) ∙ c .if3 .taken)
+    as-unlinked (a .fresh) (a .units) (a .table .now) (a .levels .now) (not-false (a .fresh) (f .if2 .left)) (none e)
+    (sym (c .before .unlinked .ensures) ∙ c .if3 .taken)
 
 returns-4 : tie.Need-returns-4
 returns-4 c =
     let f = c .before .before in
     let e = f .before in
     let a = e .before .before .before .args in
-    as-linked (a .fresh) (a .units) (a .table .now) (a .levels .now) (not-false (a .fresh) (f .if2 .left)) (none e) (sym (c .before .unlinked .ensures) ∙ c .if3 .left)
+    as-linked (a .fresh) (a .units) (a .table .now) (a .levels .now) (not-false (a .fresh) (f .if2 .left)) (none e)
+    (sym (c .before .unlinked .ensures) ∙ c .if3 .left)
 
 pub refusal-spec : {M : Type 1} → statement M
 refusal-spec =

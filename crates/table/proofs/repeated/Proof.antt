@@ -6,7 +6,8 @@ use Rattle.table.proofs.repeated.Statement.{statement}
 use Rattle.table.proofs.repeated.Tie as tie
 
 returns : tie.Need-returns
-returns c h = c .before .found .ensures ∙ (let a = c .before .before .before .before .args in found-blank (a .ordered) 8192 refl (a .table .now) h)
+returns c h = c .before .found .ensures ∙ (let a = c .before .before .before .before .args in found-blank
+    (a .ordered) 8192 refl (a .table .now) h)
 
 pub repeated-spec : {M : Type 1} → statement M
 repeated-spec =

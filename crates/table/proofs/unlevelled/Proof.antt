@@ -6,7 +6,8 @@ use Rattle.table.specs.TableLaws.{unlevelled-counts, unlevelled-ends, co
 use Rattle.table.proofs.unlevelled.Statement.{statement}
 use Rattle.table.proofs.unlevelled.Tie as tie
 
-counted : (s : tie.Else1) → countRefusal (s .before .before .before .args .units) (s .before .before .before .args .table .now) ≡ 0
+counted : (s : tie.Else1) → countRefusal (s .before .before .before .args .units)
+    (s .before .before .before .args .table .now) ≡ 0
 counted s = sym (s .before .counts .ensures) ∙ s .if1 .left
 
 returns : tie.Need-returns

@@ -13,7 +13,8 @@ returns-2 c =
     let m = c .before .before .before in
     let e = m .before .before in
     let a = e .before .before .args in
-    c .some-blank .ensures ∙ (rw (m .mark-ends .ensures) (blank-unlinked (a .units) 256 (a .table .now) (e .before .before .pre) (e .if1 .left)))
+    c .some-blank .ensures ∙ (rw (m .mark-ends .ensures)
+    (blank-unlinked (a .units) 256 (a .table .now) (e .before .before .pre) (e .if1 .left)))
 
 pub unlinked-spec : {M : Type 1} → statement M
 unlinked-spec =

@@ -27,9 +27,13 @@ loop-again c =
     let s = c .before .before .before .before in
     let ls = s .before .args .levels .now in
     let x = getD ls (s .loop .i) (pos 0) in
-    let e = c .before .in-range .ensures ∙ ap inRange (toZ-ofZ w16 x (record { sfits = c .before .before .level .given })) in
-    let b = c .both .ensures ∙ ap (λ (y : Bool). s .loop .ok && y) e in
-    (search needs, s .loop .inv .1 ∙ range-next ls (s .loop .i) (s .loop .ok) (search needs) ∙ ap (λ (y : Bool). y && every inRange (drop (s .loop .i + 1) ls)) (sym b))
+    let e = c .before .in-range .ensures
+    ∙ ap inRange (toZ-ofZ w16 x (record { sfits = c .before .before .level .given })) in
+    let b = c .both .ensures ∙ ap (λ (y : Bool). s .loop .ok && y) e in (
+      search needs,
+      s .loop .inv .1 ∙ range-next ls (s .loop .i) (s .loop .ok) (search needs)
+          ∙ ap (λ (y : Bool). y && every inRange (drop (s .loop .i + 1) ls)) (sym b),
+    )
 
 returns : tie.Need-returns Inv-loop μ-loop
 returns c =

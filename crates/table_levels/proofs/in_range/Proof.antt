@@ -16,7 +16,8 @@ read c = toZ-ofZ w16 (c .args .level) (c .fits .level)
 returns : tie.Need-returns
 returns c =
     let s = c .before in
-    ap (λ (z : ℤ). leZ z HIGHEST) (read s) ∙ sym (range-high (s .args .level) (ap (leZ LOWEST) (sym (read s)) ∙ c .if1 .taken))
+    ap (λ (z : ℤ). leZ z HIGHEST) (read s)
+    ∙ sym (range-high (s .args .level) (ap (leZ LOWEST) (sym (read s)) ∙ c .if1 .taken))
 
 returns-2 : tie.Need-returns-2
 returns-2 c =

@@ -50,7 +50,8 @@ returns c =
     let ls = s .args .levels .now in
     let e : l .loop .i ≡ length ls = omega (arith, l .loop .inv .0, c .loop-test .left) in
     let none = drop-of-length-le (s .args .words .now) {i = length ls} (omega (arith, s .pre)) in
-    let all : l .loop .words ≡ toWords ls = rw (e, take-length ls, none, append-nil (toWords ls)) at (l .loop .inv .2) in
+    let all : l .loop .words ≡ toWords ls =
+    rw (e, take-length ls, none, append-nil (toWords ls)) at (l .loop .inv .2) in
     (all, ap fromWords all ∙ (rw (e, take-length ls) at (l .loop .inv .3)))
 
 pub lay-spec : {M : Type 1} → statement M

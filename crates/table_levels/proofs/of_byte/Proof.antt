@@ -23,7 +23,8 @@ difference c =
 
 sub-result : tie.Need-sub-result
 sub-result c =
-    subst (λ (z : ℤ). SFits w16 z) (sym (difference c)) (record { sfits = omega (arith, signed-fits 256 (c .before .args .b) (c .before .fits .b .fits)) })
+    subst (λ (z : ℤ). SFits w16 z) (sym (difference c))
+    (record { sfits = omega (arith, signed-fits 256 (c .before .args .b) (c .before .fits .b .fits)) })
 
 returns : tie.Need-returns
 returns c = read (c .before) ∙ sym (signed-few 256 (c .before .args .b) (omega (arith, c .if1 .taken)))

@@ -14,19 +14,26 @@ use Rattle.table_levels.proofs.of_word.Tie as tie
 
 difference : (c : tie.Else1) → toZ w32 (c .before .args .w) -ℤ pos 65536 ≡ signed 65536 (c .before .args .w)
 difference c =
-    ap (λ (z : ℤ). z -ℤ pos 65536) (toZ-ofZ w32 (pos (c .before .args .w)) (record { sfits = omega (arith, c .before .fits .w .fits) }))
+    ap (λ (z : ℤ). z -ℤ pos 65536) (toZ-ofZ w32 (pos (c .before .args .w))
+    (record { sfits = omega (arith, c .before .fits .w .fits) }))
     ∙ lower-sum 65536 (c .before .args .w) (omega arith) (c .before .fits .w .fits) (omega (arith, c .if1 .left))
 
 sub-result : tie.Need-sub-result
 sub-result c =
-    subst (λ (z : ℤ). SFits w32 z) (sym (difference c)) (record { sfits = omega (arith, signed-fits 65536 (c .before .args .w) (c .before .fits .w .fits)) })
+    subst (λ (z : ℤ). SFits w32 z) (sym (difference c))
+    (record { sfits = omega (arith, signed-fits 65536 (c .before .args .w) (c .before .fits .w .fits)) })
 
-back : (c : tie.Else1) → toZ w32 (ofZ w32 (toZ w32 (c .before .args .w) -ℤ pos 65536)) ≡ signed 65536 (c .before .args .w)
+back : (c : tie.Else1) → toZ w32 (ofZ w32 (toZ w32 (c .before .args .w) -ℤ pos 65536))
+    ≡ signed 65536 (c .before .args .w)
 back c = toZ-ofZ w32 _ (sub-result c) ∙ difference c
 
 cast-result-3 : tie.Need-cast-result-3
 cast-result-3 c =
-    subst (λ (z : ℤ). SFits w16 z) (sym (back c)) (record { sfits = signed-low 65536 (c .before .args .w) (c .before .fits .w .fits) (omega (arith, c .if1 .left)) })
+    subst (λ (z : ℤ). SFits w16 z) (sym (back c))
+    (record {
+      sfits = signed-low 65536 (c .before .args .w) (c .before .fits .w .fits)
+          (omega (arith, c .if1 .left));
+    })
 
 returns : tie.Need-returns
 returns c =

@@ -22,24 +22,29 @@ wide c = record { sfits = omega (arith, few c) }
 read : (c : tie.Start) → toZ w16 (ofZ w16 (c .args .level)) ≡ c .args .level
 read c = toZ-ofZ w16 (c .args .level) (c .fits .level)
 
-sum : (c : tie.Start) → toZ w32 (ofZ w32 (toZ w16 (ofZ w16 (c .args .level)))) +ℤ pos 65536 ≡ pos (raisedOf (c .args .level))
+sum : (c : tie.Start) → toZ w32 (ofZ w32 (toZ w16 (ofZ w16 (c .args .level)))) +ℤ pos 65536
+    ≡ pos (raisedOf (c .args .level))
 sum c =
-    ap (λ (z : ℤ). z +ℤ pos 65536) (ap (λ (z : ℤ). toZ w32 (ofZ w32 z)) (read c) ∙ toZ-ofZ w32 (c .args .level) (wide c))
+    ap (λ (z : ℤ). z +ℤ pos 65536) (ap (λ (z : ℤ). toZ w32 (ofZ w32 z)) (read c)
+    ∙ toZ-ofZ w32 (c .args .level) (wide c))
     ∙ raise-sum (c .args .level) (few c)
 
 cast-result : tie.Need-cast-result
 cast-result c = subst (λ (z : ℤ). SFits w32 z) (sym (read c)) (wide c)
 
 add-result : tie.Need-add-result
-add-result c = subst (λ (z : ℤ). SFits w32 z) (sym (sum c)) (record { sfits = omega (arith, raised-few (c .args .level) (few c)) })
+add-result c = subst (λ (z : ℤ). SFits w32 z) (sym (sum c))
+    (record { sfits = omega (arith, raised-few (c .args .level) (few c)) })
 
-back : (c : tie.Start) → toZ w32 (ofZ w32 (toZ w32 (ofZ w32 (toZ w16 (ofZ w16 (c .args .level)))) +ℤ pos 65536)) ≡ pos (raisedOf (c .args .level))
+back : (c : tie.Start) → toZ w32 (ofZ w32 (toZ w32 (ofZ w32 (toZ w16 (ofZ w16 (c .args .level)))) +ℤ pos 65536))
+    ≡ pos (raisedOf (c .args .level))
 back c = toZ-ofZ w32 _ (add-result c) ∙ sum c
 
 cast-result-2 : tie.Need-cast-result-2
 cast-result-2 c = (
   subst (λ (z : ℤ). T (nonNeg z)) (sym (back c)) tt,
-  subst (λ (z : ℤ). Fits w32 (natAbs z)) (sym (back c)) (record { fits = omega (arith, raised-few (c .args .level) (few c)) }),
+  subst (λ (z : ℤ). Fits w32 (natAbs z)) (sym (back c))
+      (record { fits = omega (arith, raised-few (c .args .level) (few c)) }),
 )
 
 returns : tie.Need-returns

@@ -15,8 +15,11 @@ returns c =
     let r = c .before .before .before .before in
     let a = r .before .before .before .before .before .args in
     let s = of (a .survey) in
-    let e = r .read .ensures in
-    (reading-told s (r .read .result) (c .read-reply .ensures) ∙ ap (readingAnswer s) (e .0) ∙ read-answer (a .file .now) (length (a .words .now)) (length (a .levels .now)) s, (e .1 .0, e .1 .1 .0))
+    let e = r .read .ensures in (
+      reading-told s (r .read .result) (c .read-reply .ensures) ∙ ap (readingAnswer s) (e .0)
+          ∙ read-answer (a .file .now) (length (a .words .now)) (length (a .levels .now)) s,
+      (e .1 .0, e .1 .1 .0),
+    )
 
 pub read-spec : {M : Type 1} → statement M
 read-spec =

@@ -14,8 +14,12 @@ returns : tie.Need-returns
 returns c =
     let w = c .before .before .before in
     let a = w .before .before .before .before .args in
-    let s = of (a .survey) in
-    (writing-told s (w .write .result) (c .write-reply .ensures) ∙ ap (writingAnswer s) (w .write .ensures .0) ∙ write-answer (record { units = a .units; words = a .words .now; levels = a .levels .now }) (length (a .out .now)) s, w .write .ensures .1 .0)
+    let s = of (a .survey) in (
+      writing-told s (w .write .result) (c .write-reply .ensures) ∙ ap (writingAnswer s) (w .write .ensures .0)
+          ∙ write-answer (record { units = a .units; words = a .words .now; levels = a .levels .now })
+          (length (a .out .now)) s,
+      w .write .ensures .1 .0,
+    )
 
 pub write-spec : {M : Type 1} → statement M
 write-spec =

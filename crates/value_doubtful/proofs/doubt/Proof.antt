@@ -13,15 +13,19 @@ unfolding doubtRefusal
 returns c =
     let t = c .before in
     let a = t .before .before .before .args in
-    doubt-refused (a .first) (a .second) (a .marks .now) (of (a .t1)) (t .two-links .result) (rw (t .before .well-formed .ensures) at (t .two-links .ensures)) (c .if1 .taken)
+    doubt-refused (a .first) (a .second) (a .marks .now) (of (a .t1)) (t .two-links .result)
+    (rw (t .before .well-formed .ensures) at (t .two-links .ensures)) (c .if1 .taken)
 
 returns-2 : tie.Need-returns-2
 unfolding doubtRefusal
 returns-2 c =
     let i = c .before .before .before .before in
     let a = i .before .before .before .before .args in
-    let long : length (a .t1 .table .ends) ≡ 2048 = search (c .before .judged-arg2 .given, c .before .before .judged-arg .given, needs) in
-    doubt-told (a .first) (a .second) (a .marks .now) (of (a .t1)) (c .judged .result) (sym (rw (i .before .before .well-formed .ensures) at (i .before .two-links .ensures)) ∙ i .if1 .left) long (c .judged .ensures .0) (c .judged .ensures .1)
+    let long : length (a .t1 .table .ends) ≡ 2048 =
+    search (c .before .judged-arg2 .given, c .before .before .judged-arg .given, needs) in
+    doubt-told (a .first) (a .second) (a .marks .now) (of (a .t1)) (c .judged .result)
+    (sym (rw (i .before .before .well-formed .ensures) at (i .before .two-links .ensures))
+    ∙ i .if1 .left) long (c .judged .ensures .0) (c .judged .ensures .1)
 
 pub doubt-spec : {M : Type 1} → statement M
 doubt-spec =

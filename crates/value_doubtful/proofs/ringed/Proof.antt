@@ -10,7 +10,8 @@ returns c =
     let x = c .before in
     let z = x .before .before in
     let a = z .before .before .before .args in
-    ringed-told (a .units) (a .links) (a .ends .now) (a .first) (a .second) (sure (a .marks .now)) (z .zeros .result) (x .ring .last .1 .1 .1 .1 .1 .1 .0) (x .ring .result) (search (z .zeros .ok, needs)) (x .ring .ensures)
+    ringed-told (a .units) (a .links) (a .ends .now) (a .first) (a .second) (sure (a .marks .now)) (z .zeros .result)
+    (x .ring .last .1 .1 .1 .1 .1 .1 .0) (x .ring .result) (search (z .zeros .ok, needs)) (x .ring .ensures)
 
 pub ringed-spec : {M : Type 1} → statement M
 ringed-spec =

@@ -12,7 +12,8 @@ returns : tie.Need-returns
 returns c =
     let w = c .before in
     let a = w .before .before .args in
-    told-malformed (lineNeeded (a .service)) (of (a .survey)) (lineIn (a .service) (of (a .survey))) (a .out .now) (sym (w .well-formed .ensures) ∙ not-true _ (c .if1 .taken))
+    told-malformed (lineNeeded (a .service)) (of (a .survey)) (lineIn (a .service) (of (a .survey))) (a .out .now)
+    (sym (w .well-formed .ensures) ∙ not-true _ (c .if1 .taken))
 
 status-of-requires : tie.Need-status-of-requires
 status-of-requires c κs = sym (c .before .well-formed .ensures) ∙ not-false _ (c .if1 .left)
@@ -24,7 +25,9 @@ returns-2 c =
     let w = t .before .before in
     let a = w .before .before .args in
     let well = sym (w .well-formed .ensures) ∙ not-false _ (t .before .if1 .left) in
-    told-refused (lineNeeded (a .service)) (of (a .survey)) (lineIn (a .service) (of (a .survey))) (a .out .now) (r .write .result) _ well (r .write .ensures .0) (rw (t .status-of .ensures, line-in (a .service) (of (a .survey))) at (r .write .ensures .1)) (c .if2 .taken)
+    told-refused (lineNeeded (a .service)) (of (a .survey)) (lineIn (a .service) (of (a .survey))) (a .out .now)
+    (r .write .result) _ well (r .write .ensures .0)
+    (rw (t .status-of .ensures, line-in (a .service) (of (a .survey))) at (r .write .ensures .1)) (c .if2 .taken)
 
 length-requires : tie.Need-length-requires
 length-requires c κs = tt
@@ -36,7 +39,10 @@ returns-3 c =
     let w = t .before .before in
     let a = w .before .before .args in
     let well = sym (w .well-formed .ensures) ∙ not-false _ (t .before .if1 .left) in
-    rw (c .length .ensures) (told-written (lineNeeded (a .service)) (of (a .survey)) (lineIn (a .service) (of (a .survey))) (a .out .now) (r .write .result) _ well (r .write .ensures .0) (rw (t .status-of .ensures, line-in (a .service) (of (a .survey))) at (r .write .ensures .1)) (c .before .if2 .left))
+    rw (c .length .ensures) (told-written (lineNeeded (a .service)) (of (a .survey))
+    (lineIn (a .service) (of (a .survey))) (a .out .now) (r .write .result) _ well (r .write .ensures .0)
+    (rw (t .status-of .ensures, line-in (a .service) (of (a .survey))) at (r .write .ensures .1))
+    (c .before .if2 .left))
 
 pub shown-spec : {M : Type 1} → statement M
 shown-spec =

@@ -5,7 +5,11 @@ use Rattle.value_kept.proofs.four_ok.Statement.{statement}
 use Rattle.value_kept.proofs.four_ok.Tie as tie
 
 returns : tie.Need-returns
-returns c = λ p tells. rw (c .both .ensures, c .before .before .within .ensures p tells, c .before .three-ok .ensures p tells) refl
+returns c = λ p tells. rw (
+  c .both .ensures,
+  c .before .before .within .ensures p tells,
+  c .before .three-ok .ensures p tells,
+) refl
 
 pub four-ok-spec : {M : Type 1} → statement M
 four-ok-spec =

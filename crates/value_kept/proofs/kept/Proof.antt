@@ -12,10 +12,24 @@ use Rattle.value_kept.proofs.kept.Tie as tie
 abbrev the : tie.Start → State
 the s =
     let a = s .args in
-    record { table = record { units = a .units; links = a .links; ends = a .ends .now; levels = a .levels .now }; clock = a .clock; components = record { color = a .color .now }; plan = record { given = a .given; parent = a .plan .now }; tree = record { parent = a .parent .now; dist = a .dist .now }; tour = record { next = a .next .now; pred = a .pred .now }; ranking = record { jump = a .jump .now; sum = a .sum .now }; order = record { forward = a .forward .now; nd = a .nd .now; pre = a .pre .now }; range = record { low = a .low .now; high = a .high .now; little = a .little .now; big = a .big .now }; global = record { low = a .least .now; high = a .greatest .now }; aux = record { parents = a .parents .now; links = a .linked .now; color = a .classes .now }; labels = record { class = a .class .now; label = a .label .now } }
+    record {
+      table = record { units = a .units; links = a .links; ends = a .ends .now; levels = a .levels .now };
+      clock = a .clock;
+      components = record { color = a .color .now };
+      plan = record { given = a .given; parent = a .plan .now };
+      tree = record { parent = a .parent .now; dist = a .dist .now };
+      tour = record { next = a .next .now; pred = a .pred .now };
+      ranking = record { jump = a .jump .now; sum = a .sum .now };
+      order = record { forward = a .forward .now; nd = a .nd .now; pre = a .pre .now };
+      range = record { low = a .low .now; high = a .high .now; little = a .little .now; big = a .big .now };
+      global = record { low = a .least .now; high = a .greatest .now };
+      aux = record { parents = a .parents .now; links = a .linked .now; color = a .classes .now };
+      labels = record { class = a .class .now; label = a .label .now };
+    }
 
 returns : tie.Need-returns
-returns c = sym (kept-front (the (c .before .before .before)) (sym (c .before .front-ok .ensures) ∙ not-true _ (c .if1 .taken)))
+returns c = sym (kept-front (the (c .before .before .before)) (sym (c .before .front-ok .ensures)
+    ∙ not-true _ (c .if1 .taken)))
 
 returns-2 : tie.Need-returns-2
 returns-2 c =
@@ -46,11 +60,15 @@ returns-2 c =
     let unit = at-names .names .ensures in
     kept-parts (the (start)) _ _ _ _ _ _ _ _ _ _ _ _ _ _ _ _ _ _ _
     (sym (at-front-ok .front-ok .ensures) ∙ not-false _ (at-if1 .if1 .left))
-    (at-within .within .ensures _ unit) (at-both .both .ensures ∙ ap₂ _&&_ (at-within2 .within2 .ensures _ unit) (at-four-ok .four-ok .ensures _ unit))
-    (at-three-ok .three-ok .ensures _ (at-names2 .names2 .ensures)) (at-names-ok .names-ok .ensures) (at-dists-ok .dists-ok .ensures)
-    (at-four-ok2 .four-ok2 .ensures _ number) (at-four-ok3 .four-ok3 .ensures _ number) (at-four-ok4 .four-ok4 .ensures _ number) (at-all-in-range .all-in-range .ensures) refl
+    (at-within .within .ensures _ unit) (at-both .both .ensures
+    ∙ ap₂ _&&_ (at-within2 .within2 .ensures _ unit) (at-four-ok .four-ok .ensures _ unit))
+    (at-three-ok .three-ok .ensures _ (at-names2 .names2 .ensures)) (at-names-ok .names-ok .ensures)
+    (at-dists-ok .dists-ok .ensures)
+    (at-four-ok2 .four-ok2 .ensures _ number) (at-four-ok3 .four-ok3 .ensures _ number)
+    (at-four-ok4 .four-ok4 .ensures _ number) (at-all-in-range .all-in-range .ensures) refl
     (at-both2 .both2 .ensures) (at-both3 .both3 .ensures) (at-both4 .both4 .ensures) (at-both5 .both5 .ensures)
-    (at-both6 .both6 .ensures) (at-both7 .both7 .ensures) (c .before .before .both8 .ensures) (c .before .both9 .ensures) (c .both10 .ensures)
+    (at-both6 .both6 .ensures) (at-both7 .both7 .ensures) (c .before .before .both8 .ensures)
+    (c .before .both9 .ensures) (c .both10 .ensures)
 
 pub kept-spec : {M : Type 1} → statement M
 kept-spec =

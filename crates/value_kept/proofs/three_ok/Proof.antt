@@ -10,7 +10,14 @@ returns : tie.Need-returns
 returns c =
     let n = c .before .before in
     let a = n .before .before .before .before .before .before .args in
-    λ p tells. rw (c .both2 .ensures, c .before .both .ensures, n .within3 .ensures p tells, n .before .within2 .ensures p tells, n .before .before .within .ensures p tells, and-true (every p (a .c .now))) refl
+    λ p tells. rw (
+      c .both2 .ensures,
+      c .before .both .ensures,
+      n .within3 .ensures p tells,
+      n .before .within2 .ensures p tells,
+      n .before .before .within .ensures p tells,
+      and-true (every p (a .c .now)),
+    ) refl
 
 pub three-ok-spec : {M : Type 1} → statement M
 three-ok-spec =

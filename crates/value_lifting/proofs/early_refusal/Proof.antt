@@ -15,12 +15,14 @@ returns c =
 returns-2 : tie.Need-returns-2
 returns-2 c =
     let w = c .before .before .before in
-    early-running (of (w .before .args .s)) (sym (w .well-formed .ensures) ∙ not-false _ (c .before .before .if1 .left)) (c .if2 .taken)
+    early-running (of (w .before .args .s)) (sym (w .well-formed .ensures)
+    ∙ not-false _ (c .before .before .if1 .left)) (c .if2 .taken)
 
 returns-3 : tie.Need-returns-3
 returns-3 c =
     let w = c .before .before .before in
-    early-none (of (w .before .args .s)) (sym (w .well-formed .ensures) ∙ not-false _ (c .before .before .if1 .left)) (c .if2 .left)
+    early-none (of (w .before .args .s)) (sym (w .well-formed .ensures)
+    ∙ not-false _ (c .before .before .if1 .left)) (c .if2 .left)
 
 pub early-refusal-spec : {M : Type 1} → statement M
 early-refusal-spec =

@@ -24,8 +24,16 @@ returns-2 c =
     let start = at-early-refusal .before .before .before in
     let a = start .args in
     let w = at-write .write in
-    let long : length (a .t1 .table .ends) ≡ 2048 = search (at-write-arg3 .write-arg3 .given, at-write-arg2 .write-arg2 .given, at-write-arg .write-arg .given, needs) in
-    told-refused (of (a .t1)) (a .pairs .now) (a .out .now) (w .result) _ (sym (at-early-refusal .early-refusal .ensures) ∙ at-if1 .if1 .left) long (w .ensures .0) (w .ensures .1) (c .if2 .taken)
+    let long : length (a .t1 .table .ends) ≡ 2048 =
+    search (
+      at-write-arg3 .write-arg3 .given,
+      at-write-arg2 .write-arg2 .given,
+      at-write-arg .write-arg .given,
+      needs,
+    ) in
+    told-refused (of (a .t1)) (a .pairs .now) (a .out .now) (w .result) _
+    (sym (at-early-refusal .early-refusal .ensures)
+    ∙ at-if1 .if1 .left) long (w .ensures .0) (w .ensures .1) (c .if2 .taken)
 
 returns-3 : tie.Need-returns-3
 returns-3 c =
@@ -38,8 +46,15 @@ returns-3 c =
     let start = at-early-refusal .before .before .before in
     let a = start .args in
     let w = at-write .write in
-    let long : length (a .t1 .table .ends) ≡ 2048 = search (at-write-arg3 .write-arg3 .given, at-write-arg2 .write-arg2 .given, at-write-arg .write-arg .given, needs) in
-    told-lifted (of (a .t1)) (a .pairs .now) (a .out .now) (w .result) _ (sym (at-early-refusal .early-refusal .ensures) ∙ at-if1 .if1 .left) long (w .ensures .0) (w .ensures .1) (c .if2 .left)
+    let long : length (a .t1 .table .ends) ≡ 2048 =
+    search (
+      at-write-arg3 .write-arg3 .given,
+      at-write-arg2 .write-arg2 .given,
+      at-write-arg .write-arg .given,
+      needs,
+    ) in
+    told-lifted (of (a .t1)) (a .pairs .now) (a .out .now) (w .result) _ (sym (at-early-refusal .early-refusal .ensures)
+    ∙ at-if1 .if1 .left) long (w .ensures .0) (w .ensures .1) (c .if2 .left)
 
 pub lift-spec : {M : Type 1} → statement M
 lift-spec =

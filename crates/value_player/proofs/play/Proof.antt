@@ -40,7 +40,9 @@ loop-again c =
     let m = at-call .call in
     let t = c .before .before .store in
     let made =
-    call-made (drop (3 * (w .i + 1)) (a .calls .now)) (w .i) _ _ _ (of (w .s)) (w .replies) (w .out) _ _ _ (answerOf (m .result)) _ _ (at-word .word .ensures) (at-word2 .word2 .ensures) (at-word3 .word3 .ensures) (m .ensures .0) (t .ensures) (m .ensures .1) in
+    call-made (drop (3 * (w .i + 1)) (a .calls .now)) (w .i) _ _ _ (of (w .s)) (w .replies) (w .out) _ _ _
+    (answerOf (m .result)) _ _ (at-word .word .ensures) (at-word2 .word2 .ensures) (at-word3 .word3 .ensures)
+    (m .ensures .0) (t .ensures) (m .ensures .1) in
     (w .inv .0, search needs, search needs, search needs, w .inv .4 ∙ next ∙ made)
 
 returns : tie.Need-returns Inv-loop μ-loop

@@ -15,17 +15,20 @@ returns c =
 returns-2 : tie.Need-returns-2
 returns-2 c =
     let w = c .before .before .before in
-    question-early (of (w .before .args .s)) _ (sym (w .well-formed .ensures) ∙ not-false _ (c .before .before .if1 .left)) (c .if2 .taken)
+    question-early (of (w .before .args .s)) _ (sym (w .well-formed .ensures)
+    ∙ not-false _ (c .before .before .if1 .left)) (c .if2 .taken)
 
 returns-3 : tie.Need-returns-3
 returns-3 c =
     let w = c .before .before .before .before in
-    question-none (of (w .before .args .s)) _ (sym (w .well-formed .ensures) ∙ not-false _ (c .before .before .before .if1 .left)) (c .before .if2 .left) (c .if3 .taken)
+    question-none (of (w .before .args .s)) _ (sym (w .well-formed .ensures)
+    ∙ not-false _ (c .before .before .before .if1 .left)) (c .before .if2 .left) (c .if3 .taken)
 
 returns-4 : tie.Need-returns-4
 returns-4 c =
     let w = c .before .before .before .before in
-    question-missing (of (w .before .args .s)) _ (sym (w .well-formed .ensures) ∙ not-false _ (c .before .before .before .if1 .left)) (c .before .if2 .left) (c .if3 .left)
+    question-missing (of (w .before .args .s)) _ (sym (w .well-formed .ensures)
+    ∙ not-false _ (c .before .before .before .if1 .left)) (c .before .if2 .left) (c .if3 .left)
 
 pub question-refusal-spec : {M : Type 1} → statement M
 question-refusal-spec =

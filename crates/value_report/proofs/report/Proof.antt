@@ -18,7 +18,8 @@ unfolding printed
 returns c =
     let r = c .before .before .surveyed in
     let t = c .before .before .before .before .before .before .before .before .taken .ensures in
-    rw (sym (taken-table _ WORDS LEVELS _ _ _ _ _ _ _ (t .0) (t .1 .0) (t .1 .1 .0) (t .1 .1 .1 .1 .0) (t .1 .1 .1 .1 .1))) (r .ensures .0, (r .ensures .1, rw (r .ensures .0) (laid-fits _ _)))
+    rw (sym (taken-table _ WORDS LEVELS _ _ _ _ _ _ _ (t .0) (t .1 .0) (t .1 .1 .0) (t .1 .1 .1 .1 .0)
+    (t .1 .1 .1 .1 .1))) (r .ensures .0, (r .ensures .1, rw (r .ensures .0) (laid-fits _ _)))
 
 pub report-spec : {M : Type 1} → statement M
 report-spec =

@@ -7,7 +7,8 @@ use Rattle.spec_machine.specs.Calls.{Answer, numberOf, storedLoadAnswer}
 use Rattle.survey.specs.View.{of}
 use Rattle.spec_machine.specs.AnswerLaws.{answered-number}
 use Rattle.report_program.specs.Printed.{countOf, surveyed}
-use Rattle.report_program.specs.LaidLaws.{table-refused, survey-left, report-laid, report-count, read-refused, read-taken}
+use Rattle.report_program.specs.LaidLaws.{table-refused, survey-left, report-laid, report-count, read-refused}
+use Rattle.report_program.specs.LaidLaws.{read-taken}
 use borrow.Author.Needs.{needs}
 use Rattle.value_report.proofs.surveyed.Statement.{statement}
 use Rattle.value_report.proofs.surveyed.Tie as tie
@@ -21,7 +22,8 @@ taken n =
 -- the number of the load
 told : (n : tie.After-number-of) → n .number-of .result ≡ storedLoadRefusal (taken n)
 unfolding storedLoadAnswer
-told n = n .number-of .ensures ∙ (ap (λ (a : Answer). numberOf (a .reply)) (n .before .load-stored .ensures) ∙ answered-number (storedLoadRefusal (taken n)) _ (loaded (taken n)) Done refl)
+told n = n .number-of .ensures ∙ (ap (λ (a : Answer). numberOf (a .reply)) (n .before .load-stored .ensures)
+    ∙ answered-number (storedLoadRefusal (taken n)) _ (loaded (taken n)) Done refl)
 
 accepted : (e : tie.Else2) → storedLoadRefusal (taken (e .before)) ≡ 0
 accepted e = sym (told (e .before)) ∙ e .if2 .left
@@ -42,7 +44,11 @@ returns-2 : tie.Need-returns-2
 returns-2 c =
     let n = c .before .before .before .before .before in
     let r = c .before .before .refusal2 in
-    rw (read-taken _ (taken n) (n .before .before .before .if1 .left), table-refused (taken n) (λ z. c .before .before .before .before .if2 .taken (told n ∙ z)), sym (told n)) (r .ensures .0, r .ensures .1)
+    rw (
+      read-taken _ (taken n) (n .before .before .before .if1 .left),
+      table-refused (taken n) (λ z. c .before .before .before .before .if2 .taken (told n ∙ z)),
+      sym (told n),
+    ) (r .ensures .0, r .ensures .1)
 
 returns-3 : tie.Need-returns-3
 returns-3 c =
@@ -50,8 +56,12 @@ returns-3 c =
     let r = c .before .before .before .report in
     let out = e .before .before .before .before .before .before .before .args .out .now in
     let said = rw (ended (c .before .before .before .before .before .before)) at (r .ensures .0) in
-    rw (read-taken _ (taken (e .before)) (e .before .before .before .before .if1 .left))
-    (c .count-of .ensures ∙ (ap (λ (a : Answer). countOf (a .reply)) said ∙ report-count (taken (e .before)) (accepted e) (length out)), rw (ended (c .before .before .before .before .before .before)) at (r .ensures .1) ∙ report-laid (taken (e .before)) (accepted e) out)
+    rw (read-taken _ (taken (e .before)) (e .before .before .before .before .if1 .left)) (
+      c .count-of .ensures ∙ (ap (λ (a : Answer). countOf (a .reply)) said
+          ∙ report-count (taken (e .before)) (accepted e) (length out)),
+      rw (ended (c .before .before .before .before .before .before)) at (r .ensures .1)
+          ∙ report-laid (taken (e .before)) (accepted e) out,
+    )
 
 pub surveyed-spec : {M : Type 1} → statement M
 surveyed-spec =

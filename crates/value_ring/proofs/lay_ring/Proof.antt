@@ -10,8 +10,12 @@ returns c =
     let k = l .before .before .before .before in
     let b = k .before .before .before in
     let u = b .before in
-    let a = u .before .before .before .args in
-    (ring-laid (a .units) (a .links) (a .ends .now) (a .first) (a .second) (a .out .now) (u .unmarked .result) (b .zeros .result) (k .ring .last .1 .1 .1 .1 .1 .1 .0) (k .ring .result) (u .unmarked .ensures) (search (b .zeros .ok, needs)) (k .ring .ensures) _ (l .lay-first .ensures), over-past (k .ring .result) (k .ring .last .1 .1 .1 .1 .1 .1 .0) (a .out .now) _ (l .lay-first .ensures))
+    let a = u .before .before .before .args in (
+      ring-laid (a .units) (a .links) (a .ends .now) (a .first) (a .second) (a .out .now) (u .unmarked .result)
+          (b .zeros .result) (k .ring .last .1 .1 .1 .1 .1 .1 .0) (k .ring .result) (u .unmarked .ensures)
+          (search (b .zeros .ok, needs)) (k .ring .ensures) _ (l .lay-first .ensures),
+      over-past (k .ring .result) (k .ring .last .1 .1 .1 .1 .1 .1 .0) (a .out .now) _ (l .lay-first .ensures),
+    )
 
 pub lay-ring-spec : {M : Type 1} → statement M
 lay-ring-spec =

@@ -15,8 +15,10 @@ returns c =
     let a = c .before .before .before .before .args in
     let input : Input = record { units = a .units; words = a .table .now; levels = a .levels .now } in
     let s = stateOf (a .state .now) in (
-      c .load-planned .ensures .0 ∙ sym (answered-number (plannedLoadRefusal input (a .parents .now)) s (plannedLoaded input (a .parents .now)) Done refl),
-      c .load-planned .ensures .1 ∙ sym (answered-state (plannedLoadRefusal input (a .parents .now)) s (plannedLoaded input (a .parents .now)) Done),
+      c .load-planned .ensures .0 ∙ sym (answered-number (plannedLoadRefusal input (a .parents .now)) s
+          (plannedLoaded input (a .parents .now)) Done refl),
+      c .load-planned .ensures .1 ∙ sym (answered-state (plannedLoadRefusal input (a .parents .now)) s
+          (plannedLoaded input (a .parents .now)) Done),
     )
 
 pub load-planned-spec : {M : Type 1} → statement M

@@ -13,22 +13,29 @@ use Rattle.words_calls.proofs.report.Tie as tie
 
 -- the refusal is the report's
 told : (r : tie.After-report-refusal)
-    → r .report-refusal .result ≡ reportRefusal (stateOf (r .before .before .before .before .before .args .state .now)) (length (r .before .before .before .before .before .args .out .now))
+    → r .report-refusal .result ≡ reportRefusal (stateOf (r .before .before .before .before .before .args .state .now))
+    (length (r .before .before .before .before .before .args .out .now))
 told r =
     report-told (stateOf (r .before .before .before .before .before .args .state .now)) _ _ _ (r .before .kept .ensures)
-    (rw (r .before .before .clock-at .ensures, r .before .before .before .table-at .ensures) at (r .report-refusal .ensures))
+    (rw (
+      r .before .before .clock-at .ensures,
+      r .before .before .before .table-at .ensures,
+    ) at (r .report-refusal .ensures))
 
 returns : tie.Need-returns
 unfolding reportAnswer reported
 returns c =
     let r = c .before .report-refusal in
-    let a = c .before .before .before .before .before .before .args in
-    (rw (sym (told (c .before)), ne-eqb (r .result) 0 (c .if1 .taken)) refl, written-refused _ (report (stateOf (a .state .now))) (a .out .now) (λ z. c .if1 .taken (told (c .before) ∙ z)))
+    let a = c .before .before .before .before .before .before .args in (
+      rw (sym (told (c .before)), ne-eqb (r .result) 0 (c .if1 .taken)) refl,
+      written-refused _ (report (stateOf (a .state .now))) (a .out .now) (λ z. c .if1 .taken (told (c .before) ∙ z)),
+    )
 
 returns-2 : tie.Need-returns-2
 unfolding reportAnswer
 returns-2 c =
-    let at-order-at = c .before .before .before .before .before .before .before .before .before .before .before .before .before .before .before .before .before .before .before in
+    let at-order-at = c .before .before .before .before .before .before .before .before .before .before
+    .before .before .before .before .before .before .before .before .before in
     let at-tree-at = at-order-at .before in
     let at-components-at = at-tree-at .before in
     let at-labels-at = at-components-at .before in
@@ -37,8 +44,18 @@ returns-2 c =
     let at-table-at = at-clock-at .before in
     let start = at-table-at .before .before in
     let a = start .args in
-    let none = sym (told r) ∙ at-if1 .if1 .left in
-    (rw none refl, rw (at-order-at .order-at .ensures, at-tree-at .tree-at .ensures, at-components-at .components-at .ensures, at-labels-at .labels-at .ensures, at-clock-at .clock-at .ensures, at-table-at .table-at .ensures) at (c .before .before .report-lines .ensures) ∙ reported-parts (stateOf (a .state .now)) (a .out .now) none)
+    let none = sym (told r) ∙ at-if1 .if1 .left in (
+      rw none refl,
+      rw (
+        at-order-at .order-at .ensures,
+        at-tree-at .tree-at .ensures,
+        at-components-at .components-at .ensures,
+        at-labels-at .labels-at .ensures,
+        at-clock-at .clock-at .ensures,
+        at-table-at .table-at .ensures,
+      ) at (c .before .before .report-lines .ensures)
+          ∙ reported-parts (stateOf (a .state .now)) (a .out .now) none,
+    )
 
 pub report-spec : {M : Type 1} → statement M
 report-spec =

@@ -13,7 +13,8 @@ returns c =
     let r = c .before .status in
     let a = c .before .before .before .before .args in
     let s = stateOf (a .state .now) in
-    told-status s (lineNeeded (a .service)) (lineIn (a .service) s) (a .out .now) (r .result) (r .ensures .0) (c .if1 .taken)
+    told-status s (lineNeeded (a .service)) (lineIn (a .service) s) (a .out .now) (r .result) (r .ensures .0)
+    (c .if1 .taken)
 
 returns-2 : tie.Need-returns-2
 returns-2 c =
@@ -23,8 +24,10 @@ returns-2 c =
     let a = r .before .before .before .args in
     let s = stateOf (a .state .now) in
     let well = status-kept s (sym (r .status .ensures .0) ∙ t .before .if1 .left) in
-    let same : t .record-of .result ≡ statusOf s = t .record-of .ensures ∙ (ap recordOf (r .status .ensures .1) ∙ status-record s _ well) in
-    told-line s (lineNeeded (a .service)) (lineIn (a .service) s) (a .out .now) well (w .write .result) _ (w .write .ensures .0) (rw (same, line-in (a .service) s) at (w .write .ensures .1))
+    let same : t .record-of .result ≡ statusOf s =
+    t .record-of .ensures ∙ (ap recordOf (r .status .ensures .1) ∙ status-record s _ well) in
+    told-line s (lineNeeded (a .service)) (lineIn (a .service) s) (a .out .now) well (w .write .result) _
+    (w .write .ensures .0) (rw (same, line-in (a .service) s) at (w .write .ensures .1))
 
 pub shown-spec : {M : Type 1} → statement M
 shown-spec =

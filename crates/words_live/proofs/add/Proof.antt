@@ -17,8 +17,10 @@ returns c =
     let g = m .before in
     let s = g .before .before in
     let a = s .args in
-    let told = m .add .ensures ∙ ap (λ (z : ℤ). addAnswer (a .a) (a .b) z (of (g .live-at .result))) (toZ-ofZ w16 (a .level) (s .fits .level)) in
-    let p = left-by (answerOf (m .add .result)) _ (a .live .now) _ _ (told ∙ ap (addAnswer (a .a) (a .b) (a .level)) (g .live-at .ensures)) (c .put .ensures) in
+    let told = m .add .ensures ∙ ap (λ (z : ℤ). addAnswer (a .a) (a .b) z (of (g .live-at .result)))
+    (toZ-ofZ w16 (a .level) (s .fits .level)) in
+    let p = left-by (answerOf (m .add .result)) _ (a .live .now) _ _ (told
+    ∙ ap (addAnswer (a .a) (a .b) (a .level)) (g .live-at .ensures)) (c .put .ensures) in
     (p .0, (p .1 .0, p .1 .1 ∙ add-left (a .a) (a .b) (a .level) (liveIn (a .live .now))))
 
 pub add-spec : {M : Type 1} → statement M

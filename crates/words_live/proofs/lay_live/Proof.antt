@@ -25,7 +25,13 @@ returns c =
     let two = w .before .before .before in
     let one = two .before .before .before .before .before in
     let a = one .before .before .before .args in
-    laid-live (of (a .t1)) (w .words-of .result) (w .words-of .ensures .0) (w .words-of .ensures .1) (search needs) (search needs) (search needs) (a .words .now) _ (search needs) (rw (laid-in _ _ _ (three .lay3 .ensures) (search needs), laid-in _ _ _ (two .lay2 .ensures) (search needs), laid-in _ _ _ (one .lay .ensures) (search needs)) at (laid-in _ _ _ (c .lay4 .ensures) (search needs)))
+    laid-live (of (a .t1)) (w .words-of .result) (w .words-of .ensures .0) (w .words-of .ensures .1) (search needs)
+    (search needs) (search needs) (a .words .now) _ (search needs)
+    (rw (
+      laid-in _ _ _ (three .lay3 .ensures) (search needs),
+      laid-in _ _ _ (two .lay2 .ensures) (search needs),
+      laid-in _ _ _ (one .lay .ensures) (search needs),
+    ) at (laid-in _ _ _ (c .lay4 .ensures) (search needs)))
 
 pub lay-live-spec : {M : Type 1} → statement M
 lay-live-spec =

@@ -23,7 +23,13 @@ returns c =
     let l = u .before .before in
     let e = l .before .before in
     let ws = e .before .before .args .words .now in
-    rw (number-in 0 2 0 ws (lit< tt), number-in 0 2 1 ws (lit< tt), e .ends-at .ensures .0 (search needs), l .levels-at .ensures .0 (search needs), u .units-at .ensures .0 (search needs)) refl
+    rw (
+      number-in 0 2 0 ws (lit< tt),
+      number-in 0 2 1 ws (lit< tt),
+      e .ends-at .ensures .0 (search needs),
+      l .levels-at .ensures .0 (search needs),
+      u .units-at .ensures .0 (search needs),
+    ) refl
 
 pub live-at-spec : {M : Type 1} → statement M
 live-at-spec =

@@ -13,7 +13,8 @@ returns c =
     let m = c .before .before in
     let g = m .before in
     let a = g .before .before .args in
-    let p = left-by (answerOf (m .withdraw .result)) _ (a .live .now) _ _ (m .withdraw .ensures ∙ ap (withdrawAnswer (a .a) (a .b)) (g .live-at .ensures)) (c .put .ensures) in
+    let p = left-by (answerOf (m .withdraw .result)) _ (a .live .now) _ _ (m .withdraw .ensures
+    ∙ ap (withdrawAnswer (a .a) (a .b)) (g .live-at .ensures)) (c .put .ensures) in
     (p .0, (p .1 .0, p .1 .1 ∙ withdraw-left (a .a) (a .b) (liveIn (a .live .now))))
 
 pub withdraw-spec : {M : Type 1} → statement M

@@ -13,7 +13,16 @@ returns c =
     let at-global = at-lay-global .before .before .before .before .before in
     let at-lay-range = at-global .before in
     let at-range = at-lay-range .before .before .before .before .before .before .before in
-    rw (c .lay-labels .ensures, at-labels .labels .ensures, at-lay-aux .lay-aux .ensures, at-aux .aux .ensures, at-lay-global .lay-global .ensures, at-global .global .ensures, at-lay-range .lay-range .ensures, at-range .range .ensures) refl
+    rw (
+      c .lay-labels .ensures,
+      at-labels .labels .ensures,
+      at-lay-aux .lay-aux .ensures,
+      at-aux .aux .ensures,
+      at-lay-global .lay-global .ensures,
+      at-global .global .ensures,
+      at-lay-range .lay-range .ensures,
+      at-range .range .ensures,
+    ) refl
 
 pub back-spec : {M : Type 1} → statement M
 back-spec =

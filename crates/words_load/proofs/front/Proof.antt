@@ -17,7 +17,20 @@ returns c =
     let at-tree = at-lay-tree .before .before .before .before .before in
     let at-lay-components = at-tree .before in
     let at-components = at-lay-components .before .before .before .before in
-    rw (c .lay-plan .ensures, at-unplanned .unplanned .ensures, at-lay-order .lay-order .ensures, at-order .order .ensures, at-lay-ranking .lay-ranking .ensures, at-ranking .ranking .ensures, at-lay-tour .lay-tour .ensures, at-tour .tour .ensures, at-lay-tree .lay-tree .ensures, at-tree .tree .ensures, at-lay-components .lay-components .ensures, at-components .components .ensures) refl
+    rw (
+      c .lay-plan .ensures,
+      at-unplanned .unplanned .ensures,
+      at-lay-order .lay-order .ensures,
+      at-order .order .ensures,
+      at-lay-ranking .lay-ranking .ensures,
+      at-ranking .ranking .ensures,
+      at-lay-tour .lay-tour .ensures,
+      at-tour .tour .ensures,
+      at-lay-tree .lay-tree .ensures,
+      at-tree .tree .ensures,
+      at-lay-components .lay-components .ensures,
+      at-components .components .ensures,
+    ) refl
 
 pub front-spec : {M : Type 1} → statement M
 front-spec =

@@ -13,7 +13,15 @@ returns c =
     let s = c .before .before .before .before .before .before .before .before .before .before in
     let a = s .args in
     let fits = passed-fits (a .units) (a .table .now) (a .levels .now) (s .pre) in
-    rw (c .back .ensures, c .before .before .front .ensures, c .before .before .before .before .lay-clock .ensures, c .before .before .before .before .before .before .clock .ensures, c .before .before .before .before .before .before .before .lay-table .ensures, take-all 2048 (a .table .now) (fits .0), take-all 1024 (a .levels .now) (fits .1)) refl
+    rw (
+      c .back .ensures,
+      c .before .before .front .ensures,
+      c .before .before .before .before .lay-clock .ensures,
+      c .before .before .before .before .before .before .clock .ensures,
+      c .before .before .before .before .before .before .before .lay-table .ensures,
+      take-all 2048 (a .table .now) (fits .0),
+      take-all 1024 (a .levels .now) (fits .1),
+    ) refl
 
 pub lay-loaded-spec : {M : Type 1} → statement M
 lay-loaded-spec =

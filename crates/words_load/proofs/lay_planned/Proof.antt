@@ -20,7 +20,12 @@ accepted s = plan-accepted (input s) (s .args .parents .now) (s .pre)
 few : (s : tie.Start) → length (s .args .parents .now) ≤ 256
 few s =
     let a = accepted s in
-    omega (arith, a .long, passes (input s .units) (input s .words) (table-alone (input s .units) (input s .words) (input s .levels) (a .stored)) .fewUnits)
+    omega (
+      arith,
+      a .long,
+      passes (input s .units) (input s .words)
+          (table-alone (input s .units) (input s .words) (input s .levels) (a .stored)) .fewUnits,
+    )
 
 lay-loaded-requires : tie.Need-lay-loaded-requires
 lay-loaded-requires c κs = accepted (c .before .before .before) .stored
@@ -31,7 +36,12 @@ returns c =
     let p = c .before .before .before .before in
     let l = p .before in
     let s = l .before .before .before .before in
-    rw (c .lay-plan .ensures, p .plan .ensures, l .lay-loaded .ensures, take-all 256 (s .args .parents .now) (few s)) refl
+    rw (
+      c .lay-plan .ensures,
+      p .plan .ensures,
+      l .lay-loaded .ensures,
+      take-all 256 (s .args .parents .now) (few s),
+    ) refl
 
 pub lay-planned-spec : {M : Type 1} → statement M
 lay-planned-spec =

@@ -14,7 +14,8 @@ returns c =
 lay-loaded-requires : tie.Need-lay-loaded-requires
 lay-loaded-requires c κs =
     let a = c .before .before .before .before .args in
-    as-accepted (a .fresh) (a .units) (a .table .now) (a .levels .now) (sym (c .before .before .refusal .ensures) ∙ c .before .if1 .left)
+    as-accepted (a .fresh) (a .units) (a .table .now) (a .levels .now) (sym (c .before .before .refusal .ensures)
+    ∙ c .before .if1 .left)
 
 returns-2 : tie.Need-returns-2
 returns-2 c =

@@ -10,7 +10,8 @@ use Rattle.spec_machine.specs.Calls.{storedLoadAnswer}
 use Rattle.words_layout.specs.Layout.{stateOf}
 use Rattle.spec_machine.specs.AnswerLaws.{answered-number}
 use Rattle.report_program.specs.Printed.{surveyed, printedTable, laidOver}
-use Rattle.report_program.specs.LaidLaws.{number-byte, table-refused, survey-left, report-laid, report-none, report-all, read-refused, read-taken}
+use Rattle.report_program.specs.LaidLaws.{number-byte, table-refused, survey-left, report-laid, report-none, report-all}
+use Rattle.report_program.specs.LaidLaws.{read-refused, read-taken}
 use borrow.Author.Needs.{needs}
 use Rattle.words_report.proofs.surveyed.Statement.{statement}
 use Rattle.words_report.proofs.surveyed.Tie as tie
@@ -29,7 +30,8 @@ told l = l .load-stored .ensures .0 ∙ answered-number (storedLoadRefusal (take
 accepted : (e : tie.Else2) → storedLoadRefusal (taken (e .before)) ≡ 0
 accepted e = sym (told (e .before)) ∙ e .if2 .left
 
-fits-in : (c : tie.Else3) → length (taken (c .before .before .before .before .before .before .before .before .before .before) .words) ≤ 2048
+fits-in : (c : tie.Else3) → length (taken
+    (c .before .before .before .before .before .before .before .before .before .before) .words) ≤ 2048
 fits-in c =
     let start = c .before .before .before .before .before .before .before .before .before in
     let start-10 = start .before in
@@ -37,11 +39,16 @@ fits-in c =
 
 -- the words after the run are the survey
 ended : (r : tie.After-run) → stateOf (r .run .last .0) ≡ surveyed (taken (r .before .before .before .before))
-ended r = survey-left (taken (r .before .before .before .before)) (accepted (r .before .before .before)) _ _ _ (r .before .before .before .before .load-stored .ensures .1) (r .run .ensures .1 .0)
+ended r = survey-left (taken (r .before .before .before .before)) (accepted (r .before .before .before)) _ _ _
+    (r .before .before .before .before .load-stored .ensures .1) (r .run .ensures .1 .0)
 
 -- and their report is laid down
-laid : (r : tie.After-report) → r .report .last .1 .0 ≡ laidOver (printedTable (taken (r .before .before .before .before .before .before .before))) (r .before .before .before .before .before .before .before .before .before .before .before .before .args .out .now)
-laid r = rw (ended (r .before .before .before)) at (r .report .ensures .1) ∙ report-laid (taken (r .before .before .before .before .before .before .before)) (accepted (r .before .before .before .before .before .before)) _
+laid : (r : tie.After-report) → r .report .last .1 .0
+    ≡ laidOver (printedTable (taken (r .before .before .before .before .before .before .before)))
+    (r .before .before .before .before .before .before .before .before .before .before .before .before .args .out .now)
+laid r = rw (ended (r .before .before .before)) at (r .report .ensures .1)
+    ∙ report-laid (taken (r .before .before .before .before .before .before .before))
+    (accepted (r .before .before .before .before .before .before)) _
 
 returns : tie.Need-returns
 returns c =
@@ -55,7 +62,11 @@ returns-2 : tie.Need-returns-2
 returns-2 c =
     let l = c .before .before .before .before .before in
     let r = c .before .before .refusal2 in
-    rw (read-taken _ (taken l) (l .before .before .if1 .left), table-refused (taken l) (λ z. c .before .before .before .before .if2 .taken (told l ∙ z)), sym (told l)) (r .ensures .0, r .ensures .1)
+    rw (
+      read-taken _ (taken l) (l .before .before .if1 .left),
+      table-refused (taken l) (λ z. c .before .before .before .before .if2 .taken (told l ∙ z)),
+      sym (told l),
+    ) (r .ensures .0, r .ensures .1)
 
 returns-3 : tie.Need-returns-3
 returns-3 c =

@@ -13,7 +13,8 @@ unfolding doubtRefusal
 returns c =
     let r = c .before in
     let a = r .before .before .before .args in
-    doubt-not-asked (a .first) (a .second) (a .marks .now) (stateOf (a .state .now)) (a .verdict .now) (r .two-links .result) (rw (r .before .table-at .ensures) at (r .two-links .ensures)) (c .if1 .taken)
+    doubt-not-asked (a .first) (a .second) (a .marks .now) (stateOf (a .state .now)) (a .verdict .now)
+    (r .two-links .result) (rw (r .before .table-at .ensures) at (r .two-links .ensures)) (c .if1 .taken)
 
 returns-2 : tie.Need-returns-2
 unfolding doubtRefusal
@@ -22,9 +23,12 @@ returns-2 c =
     let i = j .before .before .before .before in
     let t = i .before .before in
     let a = t .before .before .args in
-    let known : length (t .table-at .result .ends) ≡ 2048 = search (j .before .judged-arg2 .given, j .before .before .judged-arg .given, needs) in
-    doubt-said (a .first) (a .second) (a .marks .now) (stateOf (a .state .now)) (a .verdict .now) (j .judged .result) _ (sym (rw (t .table-at .ensures) at (i .before .two-links .ensures)) ∙ i .if1 .left)
-    (rw (t .table-at .ensures) at known) (j .judged .ensures .0) (rw (t .table-at .ensures) at (j .judged .ensures .1)) (c .word-of .ensures)
+    let known : length (t .table-at .result .ends) ≡ 2048 =
+    search (j .before .judged-arg2 .given, j .before .before .judged-arg .given, needs) in
+    doubt-said (a .first) (a .second) (a .marks .now) (stateOf (a .state .now)) (a .verdict .now) (j .judged .result) _
+    (sym (rw (t .table-at .ensures) at (i .before .two-links .ensures)) ∙ i .if1 .left)
+    (rw (t .table-at .ensures) at known) (j .judged .ensures .0) (rw (t .table-at .ensures) at (j .judged .ensures .1))
+    (c .word-of .ensures)
 
 pub doubt-spec : {M : Type 1} → statement M
 doubt-spec =

@@ -19,9 +19,16 @@ returns-2 c =
     let t = w .before .before .before .before .before in
     let r = t .before .before in
     let a = r .before .before .before .args in
-    let known : length (t .table-at .result .ends) ≡ 2048 = search (w .before .write-arg3 .given, w .before .before .write-arg2 .given, w .before .before .before .write-arg .given, needs) in
+    let known : length (t .table-at .result .ends) ≡ 2048 =
+    search (
+      w .before .write-arg3 .given,
+      w .before .before .write-arg2 .given,
+      w .before .before .before .write-arg .given,
+      needs,
+    ) in
     let told = rw (t .table-at .ensures) at (w .write .ensures) in
-    lifting-late (stateOf (a .state .now)) (a .pairs .now) (a .out .now) (r .refusal .result) (w .write .result) _ (r .refusal .ensures) (t .before .if1 .left)
+    lifting-late (stateOf (a .state .now)) (a .pairs .now) (a .out .now) (r .refusal .result) (w .write .result) _
+    (r .refusal .ensures) (t .before .if1 .left)
     (rw (t .table-at .ensures) at known) (told .0) (told .1)
 
 pub lift-spec : {M : Type 1} → statement M

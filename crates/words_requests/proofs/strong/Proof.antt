@@ -8,13 +8,15 @@ returns : tie.Need-returns
 returns c =
     let a = c .before .before .before .before .before .before .before .before .before .args in
     let r = c .before .before .before .before .before .strong in
-    strong-said (a .units) (a .links .now) (a .numbers .now) (a .passes .now) (r .result) _ _ (c .before .told .given .1) (r .ensures .0) (r .ensures .1 .0) (r .ensures .1 .1 .0)
+    strong-said (a .units) (a .links .now) (a .numbers .now) (a .passes .now) (r .result) _ _
+    (c .before .told .given .1) (r .ensures .0) (r .ensures .1 .0) (r .ensures .1 .1 .0)
 
 returns-2 : tie.Need-returns-2
 returns-2 c =
     let a = c .before .before .before .before .before .before .before .before .before .args in
     let r = c .before .before .before .before .before .strong in
-    strong-said (a .units) (a .links .now) (a .numbers .now) (a .passes .now) (r .result) _ _ (c .before .told2 .given .1) (r .ensures .0) (r .ensures .1 .0) (r .ensures .1 .1 .0)
+    strong-said (a .units) (a .links .now) (a .numbers .now) (a .passes .now) (r .result) _ _
+    (c .before .told2 .given .1) (r .ensures .0) (r .ensures .1 .0) (r .ensures .1 .1 .0)
 
 pub strong-spec : {M : Type 1} → statement M
 strong-spec =

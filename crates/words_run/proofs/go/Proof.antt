@@ -17,20 +17,24 @@ abbrev μ-loop : tie.MeasureT-loop
 μ-loop words₀ budget made₀ words made = budget - made
 
 -- the stage that the clock shows, where it is looked at
-shown : (k : tie.After-clock-at Inv-loop μ-loop) → stateOf (k .before .before .before .loop .words) .clock .stage ≡ k .clock-at .result .stage
+shown : (k : tie.After-clock-at Inv-loop μ-loop) →
+    stateOf (k .before .before .before .loop .words) .clock .stage ≡ k .clock-at .result .stage
 shown k = sym (ap (λ (x : Clock). x .stage) (k .clock-at .ensures))
 
 -- the run goes on by the rounds of a stage: of 1, of 2, of 9, of 3 to 6, of 7, 8 and 10
 components : (c : tie.After-components-stage Inv-loop μ-loop)
     → (let l = c .before .before .before .before .before .before .before in
-    Going (l .before .args .budget) (stateOf (l .before .args .words .now)) (l .loop .made + c .components-stage .result) (stateOf (c .components-stage .last .0)) × (1 ≤ c .components-stage .result))
+    Going (l .before .args .budget) (stateOf (l .before .args .words .now))
+    (l .loop .made + c .components-stage .result) (stateOf (c .components-stage .last .0))
+    × (1 ≤ c .components-stage .result))
 components c =
     let i = c .before .before .before .before .before .before in
     c .components-stage .ensures _ _ _ (i .before .loop .inv) (i .loop-test .taken) refl
 
 tree : (c : tie.After-tree-stage Inv-loop μ-loop)
     → (let l = c .before .before .before .before .before .before .before .before in
-    Going (l .before .args .budget) (stateOf (l .before .args .words .now)) (l .loop .made + c .tree-stage .result) (stateOf (c .tree-stage .last .0)) × (1 ≤ c .tree-stage .result))
+    Going (l .before .args .budget) (stateOf (l .before .args .words .now)) (l .loop .made + c .tree-stage .result)
+    (stateOf (c .tree-stage .last .0)) × (1 ≤ c .tree-stage .result))
 tree c =
     let at-loop-test = c .before .before .before .before .before .before .before in
     let at-loop = at-loop-test .before in
@@ -38,7 +42,8 @@ tree c =
 
 classes : (c : tie.After-classes-stage Inv-loop μ-loop)
     → (let l = c .before .before .before .before .before .before .before .before .before in
-    Going (l .before .args .budget) (stateOf (l .before .args .words .now)) (l .loop .made + c .classes-stage .result) (stateOf (c .classes-stage .last .0)) × (1 ≤ c .classes-stage .result))
+    Going (l .before .args .budget) (stateOf (l .before .args .words .now)) (l .loop .made + c .classes-stage .result)
+    (stateOf (c .classes-stage .last .0)) × (1 ≤ c .classes-stage .result))
 classes c =
     let at-loop-test = c .before .before .before .before .before .before .before .before in
     let at-loop = at-loop-test .before in
@@ -46,7 +51,8 @@ classes c =
 
 early : (c : tie.After-rounds Inv-loop μ-loop)
     → (let l = c .before .before .before .before .before .before .before .before .before .before in
-    Going (l .before .args .budget) (stateOf (l .before .args .words .now)) (l .loop .made + c .rounds .result) (stateOf (c .rounds .last .1 .0)) × (1 ≤ c .rounds .result))
+    Going (l .before .args .budget) (stateOf (l .before .args .words .now)) (l .loop .made + c .rounds .result)
+    (stateOf (c .rounds .last .1 .0)) × (1 ≤ c .rounds .result))
 early c =
     let at-loop-test = c .before .before .before .before .before .before .before .before .before in
     let at-loop = at-loop-test .before in
@@ -54,7 +60,8 @@ early c =
 
 late : (c : tie.After-rounds2 Inv-loop μ-loop)
     → (let l = c .before .before .before .before .before .before .before .before .before .before in
-    Going (l .before .args .budget) (stateOf (l .before .args .words .now)) (l .loop .made + c .rounds2 .result) (stateOf (c .rounds2 .last .1 .0)) × (1 ≤ c .rounds2 .result))
+    Going (l .before .args .budget) (stateOf (l .before .args .words .now)) (l .loop .made + c .rounds2 .result)
+    (stateOf (c .rounds2 .last .1 .0)) × (1 ≤ c .rounds2 .result))
 late c =
     let at-loop-test = c .before .before .before .before .before .before .before .before .before in
     let at-loop = at-loop-test .before in
@@ -168,8 +175,14 @@ sub-rounds-2 c =
 
 rounds-requires-2 : tie.Need-rounds-requires-2 Inv-loop μ-loop
 rounds-requires-2 c κs =
-    let k = c .before .before .before .before .before .before in
-    (shown k, (omega (arith, c .before .if5 .left), omega (arith, c .before .before .before .before .before .if1 .left), c .before .before .if4 .left))
+    let k = c .before .before .before .before .before .before in (
+      shown k,
+      (
+        omega (arith, c .before .if5 .left),
+        omega (arith, c .before .before .before .before .before .if1 .left),
+        c .before .before .if4 .left,
+      ),
+    )
 
 add-made-5 : tie.Need-add-made-5 Inv-loop μ-loop
 add-made-5 c =

@@ -14,13 +14,19 @@ returns-2 : tie.Need-returns-2
 unfolding roundRefusal
 returns-2 c =
     let k = c .before .before in
-    rw (sym (k .before .before .kept .ensures) ∙ not-false _ (k .before .if1 .left), eq-eqb _ 11 (rw (k .clock-at .ensures) at (c .if2 .taken))) refl
+    rw (
+      sym (k .before .before .kept .ensures) ∙ not-false _ (k .before .if1 .left),
+      eq-eqb _ 11 (rw (k .clock-at .ensures) at (c .if2 .taken)),
+    ) refl
 
 returns-3 : tie.Need-returns-3
 unfolding roundRefusal
 returns-3 c =
     let k = c .before .before in
-    rw (sym (k .before .before .kept .ensures) ∙ not-false _ (k .before .if1 .left), ne-eqb _ 11 (rw (k .clock-at .ensures) at (c .if2 .left))) refl
+    rw (
+      sym (k .before .before .kept .ensures) ∙ not-false _ (k .before .if1 .left),
+      ne-eqb _ 11 (rw (k .clock-at .ensures) at (c .if2 .left)),
+    ) refl
 
 pub refusal-spec : {M : Type 1} → statement M
 refusal-spec =

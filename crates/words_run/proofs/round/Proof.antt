@@ -29,10 +29,12 @@ one-round s s′ made w f m =
     sym (ap (λ (p : State × ℕ). p .0) (spent 1 s (0 + made) s′ (g .0) (omega (arith, g .1)))) ∙ ran-one s f
 
 -- the stage that the clock shows, of a state that is not refused
-shown : (k : tie.After-clock-at) → stateOf (k .before .before .before .before .before .args .words .now) .clock .stage ≡ k .clock-at .result .stage
+shown : (k : tie.After-clock-at) → stateOf (k .before .before .before .before .before .args .words .now) .clock .stage
+    ≡ k .clock-at .result .stage
 shown k = sym (ap (λ (x : Clock). x .stage) (k .clock-at .ensures))
 
-taken : (k : tie.After-clock-at) → (let s = stateOf (k .before .before .before .before .before .args .words .now) in (roundRefusal s ≡ 0) × (wellFormed s ≡ true) × (finished s ≡ false))
+taken : (k : tie.After-clock-at) → (let s = stateOf (k .before .before .before .before .before .args .words .now) in
+    (roundRefusal s ≡ 0) × (wellFormed s ≡ true) × (finished s ≡ false))
 taken k =
     let none = sym (k .before .before .before .refusal .ensures) ∙ k .before .before .if1 .left in
     let a = accepted _ none in
@@ -74,8 +76,13 @@ returns-4 c =
 rounds-requires : tie.Need-rounds-requires
 rounds-requires c κs =
     let k = c .before .before .before .before .before in
-    let from = rw (shown k) at (kept-exact _ .0 (taken k .1) .from) in
-    (shown k, (omega (arith, from, c .before .before .before .if3 .left, c .before .before .before .before .if2 .left), omega (arith, c .before .if5 .taken)))
+    let from = rw (shown k) at (kept-exact _ .0 (taken k .1) .from) in (
+      shown k,
+      (
+        omega (arith, from, c .before .before .before .if3 .left, c .before .before .before .before .if2 .left),
+        omega (arith, c .before .if5 .taken),
+      ),
+    )
 
 returns-5 : tie.Need-returns-5
 unfolding roundAnswer

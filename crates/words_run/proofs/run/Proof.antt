@@ -22,7 +22,13 @@ returns-2 : tie.Need-returns-2
 unfolding runAnswer
 returns-2 c =
     let none = sym (c .before .before .before .refusal .ensures) ∙ c .before .before .if1 .left in
-    rw none (refl, (sym (ap (λ (p : State × ℕ). p .0) (c .go .ensures)), sym (ap (λ (p : State × ℕ). p .1) (c .go .ensures))))
+    rw none (
+      refl,
+      (
+        sym (ap (λ (p : State × ℕ). p .0) (c .go .ensures)),
+        sym (ap (λ (p : State × ℕ). p .1) (c .go .ensures)),
+      ),
+    )
 
 pub run-spec : {M : Type 1} → statement M
 run-spec =

@@ -20,7 +20,8 @@ returns c =
     let w1 = w2 .before .before in
     let ws = w1 .before .before .args .seats .now in
     eight-flags (λ (i : ℕ). waiting (stateOf (getD ws i []))) _ _ _ _ _ _ _ _
-    (w1 .waiting .ensures) (w2 .waiting2 .ensures) (w3 .waiting3 .ensures) (w4 .waiting4 .ensures) (w5 .waiting5 .ensures) (w6 .waiting6 .ensures) (w7 .waiting7 .ensures) (c .waiting8 .ensures)
+    (w1 .waiting .ensures) (w2 .waiting2 .ensures) (w3 .waiting3 .ensures) (w4 .waiting4 .ensures)
+    (w5 .waiting5 .ensures) (w6 .waiting6 .ensures) (w7 .waiting7 .ensures) (c .waiting8 .ensures)
 
 pub flags-spec : {M : Type 1} → statement M
 flags-spec =

@@ -31,19 +31,24 @@ returns : tie.Need-returns Inv-loop μ-loop
 returns c =
     let l = c .before .before .before in
     let a = l .before .args in
-    search-found (other (a .seats .now) (a .but)) (l .loop .i) (length (a .seats .now)) (search needs) (sym (c .before .other-spoilt .ensures) ∙ c .if1 .taken)
+    search-found (other (a .seats .now) (a .but)) (l .loop .i) (length (a .seats .now)) (search needs)
+    (sym (c .before .other-spoilt .ensures) ∙ c .if1 .taken)
 
 loop-again : tie.Need-loop-again Inv-loop μ-loop
 loop-again c =
     let l = c .before .before .before in
-    let a = l .before .args in
-    (search needs, search-more (other (a .seats .now) (a .but)) (l .loop .i) (l .loop .inv .1) (sym (c .before .other-spoilt .ensures) ∙ c .if1 .left))
+    let a = l .before .args in (
+      search needs,
+      search-more (other (a .seats .now) (a .but)) (l .loop .i) (l .loop .inv .1)
+          (sym (c .before .other-spoilt .ensures) ∙ c .if1 .left),
+    )
 
 returns-2 : tie.Need-returns-2 Inv-loop μ-loop
 returns-2 c =
     let l = c .before in
     let a = l .before .args in
-    search-none (other (a .seats .now) (a .but)) (l .loop .i) (length (a .seats .now)) (l .loop .inv .1) (l .loop .inv .0) (omega (arith, c .loop-test .left))
+    search-none (other (a .seats .now) (a .but)) (l .loop .i) (length (a .seats .now)) (l .loop .inv .1)
+    (l .loop .inv .0) (omega (arith, c .loop-test .left))
 
 pub others-sound-spec : {M : Type 1} → statement M
 others-sound-spec =

@@ -13,7 +13,8 @@ returns-2 : tie.Need-returns-2
 returns-2 c =
     let e = c .before .before in
     let a = e .before .before .args in
-    load-there (a .seats .now) (a .seat) _ (e .if1 .left) (c .load .result) _ (c .load .ensures .0) (c .load .ensures .1)
+    load-there (a .seats .now) (a .seat) _ (e .if1 .left) (c .load .result) _ (c .load .ensures .0)
+    (c .load .ensures .1)
 
 pub load-spec : {M : Type 1} → statement M
 load-spec =

@@ -1,5 +1,6 @@
 -- The turn, the other seats, whether some seat waits, and its round.
-use Rattle.words_seats.specs.ServeLaws.{Judged, told-high, seat-served, told-others, told-over, told-refused, told-given}
+use Rattle.words_seats.specs.ServeLaws.{Judged, told-high, seat-served, told-others, told-over, told-refused}
+use Rattle.words_seats.specs.ServeLaws.{told-given}
 use borrow.Author.Needs.{needs}
 use Rattle.words_seats.proofs.serve.Statement.{statement}
 use Rattle.words_seats.proofs.serve.Tie as tie
@@ -10,13 +11,16 @@ returns c = told-high (c .before .args .last) (c .before .args .seats .now) (c .
 abbrev start : tie.After-others-sound → tie.Start
 start os = os .before .before .before .before .before .before .before
 
-judged : (os : tie.After-others-sound) → Judged (start os .args .last) (start os .args .seats .now) (os .before .before .before .pick .result) (os .others-sound .result)
+judged : (os : tie.After-others-sound) →
+    Judged (start os .args .last) (start os .args .seats .now) (os .before .before .before .pick .result)
+    (os .others-sound .result)
 judged os =
     let p = os .before .before .before in
     let eight = os .before .others-sound-arg2 .given .0 in
     record {
       eight = eight;
-      is = seat-served (start os .args .last) (start os .args .seats .now) eight (p .before .flags .result) (p .pick .result) (p .before .flags .ensures) (p .pick .ensures);
+      is = seat-served (start os .args .last) (start os .args .seats .now) eight (p .before .flags .result)
+          (p .pick .result) (p .before .flags .ensures) (p .pick .ensures);
       turn = p .before .before .before .if1 .left;
       told = os .others-sound .ensures;
     }
@@ -31,13 +35,15 @@ returns-4 : tie.Need-returns-4
 returns-4 c =
     let r = c .before in
     let e3 = r .before .before in
-    told-refused _ _ _ _ (judged (e3 .before .before)) (e3 .before .if2 .left) (e3 .if3 .left) (r .round .result) _ (r .round .ensures .0) (r .round .ensures .1) (c .if4 .taken)
+    told-refused _ _ _ _ (judged (e3 .before .before)) (e3 .before .if2 .left) (e3 .if3 .left) (r .round .result) _
+    (r .round .ensures .0) (r .round .ensures .1) (c .if4 .taken)
 
 returns-5 : tie.Need-returns-5
 returns-5 c =
     let r = c .before in
     let e3 = r .before .before in
-    told-given _ _ _ _ (judged (e3 .before .before)) (e3 .before .if2 .left) (e3 .if3 .left) (r .round .result) _ (r .round .ensures .0) (r .round .ensures .1) (c .if4 .left)
+    told-given _ _ _ _ (judged (e3 .before .before)) (e3 .before .if2 .left) (e3 .if3 .left) (r .round .result) _
+    (r .round .ensures .0) (r .round .ensures .1) (c .if4 .left)
 
 pub serve-spec : {M : Type 1} → statement M
 serve-spec =

@@ -4,13 +4,16 @@ use Prim.Native.Nat.{_+_, _-_}
 use native.Mathlib.Omega.{arith}
 use lib.ListN.{length, getD, drop}
 use Rattle.base_streams.specs.Stream.{goes, valueOf, width}
-use Rattle.base_streams.specs.StreamLaws.{digit-low, value-small, digit-inside, value-more, width-more, digits-end}
+use Rattle.base_streams.specs.StreamLaws.{digit-low, value-small, digit-inside, value-more, width-more}
+use Rattle.base_streams.specs.StreamLaws.{digits-end}
 use borrow.Author.Needs.{needs}
 use Rattle.base_streams.proofs.digits.read.Statement.{statement}
 use Rattle.base_streams.proofs.digits.read.Tie as tie
 
 abbrev Inv-loop : tie.InvT-loop
-Inv-loop stream at value₀ end₀ value end = (valueOf 0 (drop at stream) ≡ valueOf value (drop end stream)) × (at + width 0 (drop at stream) ≡ end + width value (drop end stream))
+Inv-loop stream at value₀ end₀ value end =
+    (valueOf 0 (drop at stream) ≡ valueOf value (drop end stream))
+    × (at + width 0 (drop at stream) ≡ end + width value (drop end stream))
 
 abbrev μ-loop : tie.MeasureT-loop
 μ-loop stream at value₀ end₀ value end = length stream - end
@@ -36,7 +39,8 @@ add-end c =
     let b = go .before in
     let s = b .before in
     let o = s .before .before in
-    let h = digit-inside (o .args .stream .now) (s .loop .end) (s .loop .value) (ap (goes (s .loop .value)) (sym (b .byte .ensures)) ∙ (sym (go .goes .ensures) ∙ i .if1 .taken)) in
+    let h = digit-inside (o .args .stream .now) (s .loop .end) (s .loop .value)
+    (ap (goes (s .loop .value)) (sym (b .byte .ensures)) ∙ (sym (go .goes .ensures) ∙ i .if1 .taken)) in
     search needs
 
 loop-less : tie.Need-loop-less Inv-loop μ-loop
@@ -46,7 +50,11 @@ loop-less c =
     let b = go .before in
     let s = b .before in
     let o = s .before .before in
-    omega (arith, digit-inside (o .args .stream .now) (s .loop .end) (s .loop .value) (ap (goes (s .loop .value)) (sym (b .byte .ensures)) ∙ (sym (go .goes .ensures) ∙ i .if1 .taken)))
+    omega (
+      arith,
+      digit-inside (o .args .stream .now) (s .loop .end) (s .loop .value)
+          (ap (goes (s .loop .value)) (sym (b .byte .ensures)) ∙ (sym (go .goes .ensures) ∙ i .if1 .taken)),
+    )
 
 loop-again : tie.Need-loop-again Inv-loop μ-loop
 loop-again c =
@@ -68,7 +76,8 @@ returns c =
     let b = go .before in
     let s = b .before in
     let o = s .before .before in
-    let e = digits-end (o .args .stream .now) (s .loop .end) (s .loop .value) (ap (goes (s .loop .value)) (sym (b .byte .ensures)) ∙ (sym (go .goes .ensures) ∙ c .if1 .left)) in
+    let e = digits-end (o .args .stream .now) (s .loop .end) (s .loop .value)
+    (ap (goes (s .loop .value)) (sym (b .byte .ensures)) ∙ (sym (go .goes .ensures) ∙ c .if1 .left)) in
     (sym (s .loop .inv .0 ∙ e .0), omega (arith, s .loop .inv .1, e .1))
 
 pub read-spec : {M : Type 1} → statement M

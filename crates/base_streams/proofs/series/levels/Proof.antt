@@ -37,7 +37,9 @@ loop-again c =
     let fits : mag (n .next-level .result .value) < 32768 = rw is (level-small s (l .loop .c)) in (
       search needs,
       levels-more s c0 (l .loop .i) (l .loop .c) (n .next-level .result) was is,
-      over-more (l .loop .i) (levelFrom s c0) (l .before .before .args .levels .now) (l .loop .levels) _ _ (l .loop .inv .2) (toZ-ofZ w16 (n .next-level .result .value) (record { sfits = fits }) ∙ ap (λ x. x .value) (is ∙ ap (levelAt s) was)) (p .put-level .ensures),
+      over-more (l .loop .i) (levelFrom s c0) (l .before .before .args .levels .now) (l .loop .levels) _ _
+          (l .loop .inv .2) (toZ-ofZ w16 (n .next-level .result .value) (record { sfits = fits })
+          ∙ ap (λ x. x .value) (is ∙ ap (levelAt s) was)) (p .put-level .ensures),
     )
 
 same-length : tie.Need-same-length Inv-loop μ-loop
@@ -49,8 +51,13 @@ same-length c =
 returns : tie.Need-returns Inv-loop μ-loop
 returns c =
     let l = c .before in
-    let e : l .loop .i ≡ l .before .before .args .count = omega arith in
-    (l .loop .inv .1 ∙ ap (λ i. afterLevels i (l .before .before .args .stream .now) (l .before .before .args .cursor)) e, l .loop .inv .2 ∙ ap (λ i. over i (levelFrom (l .before .before .args .stream .now) (l .before .before .args .cursor)) (l .before .before .args .levels .now)) e)
+    let e : l .loop .i ≡ l .before .before .args .count = omega arith in (
+      l .loop .inv .1 ∙ ap (λ i. afterLevels i (l .before .before .args .stream .now) (l .before .before .args .cursor))
+          e,
+      l .loop .inv .2 ∙ ap (λ i. over i
+          (levelFrom (l .before .before .args .stream .now) (l .before .before .args .cursor))
+          (l .before .before .args .levels .now)) e,
+    )
 
 pub levels-spec : {M : Type 1} → statement M
 levels-spec =

@@ -33,7 +33,8 @@ loop-again c =
     let is = n .next-number .ensures in (
       search needs,
       numbers-more s c0 (l .loop .i) (l .loop .c) (n .next-number .result) was is,
-      over-more (l .loop .i) (wordFrom s c0) (l .before .before .before .args .words .now) (l .loop .words) _ _ (l .loop .inv .2) (ap (λ x. x .value % 65536) (is ∙ ap (numberAt s) was)) (p .put .ensures),
+      over-more (l .loop .i) (wordFrom s c0) (l .before .before .before .args .words .now) (l .loop .words) _ _
+          (l .loop .inv .2) (ap (λ x. x .value % 65536) (is ∙ ap (numberAt s) was)) (p .put .ensures),
     )
 
 same-length : tie.Need-same-length Inv-loop μ-loop
@@ -45,8 +46,13 @@ same-length c =
 returns : tie.Need-returns Inv-loop μ-loop
 returns c =
     let l = c .before in
-    let e : l .loop .i ≡ l .before .before .before .args .count = omega arith in
-    (l .loop .inv .1 ∙ ap (λ i. afterNumbers i (l .before .before .before .args .stream .now) (l .before .before .before .args .cursor)) e, l .loop .inv .2 ∙ ap (λ i. over i (wordFrom (l .before .before .before .args .stream .now) (l .before .before .before .args .cursor)) (l .before .before .before .args .words .now)) e)
+    let e : l .loop .i ≡ l .before .before .before .args .count = omega arith in (
+      l .loop .inv .1 ∙ ap (λ i. afterNumbers i (l .before .before .before .args .stream .now)
+          (l .before .before .before .args .cursor)) e,
+      l .loop .inv .2 ∙ ap (λ i. over i
+          (wordFrom (l .before .before .before .args .stream .now) (l .before .before .before .args .cursor))
+          (l .before .before .before .args .words .now)) e,
+    )
 
 pub words-spec : {M : Type 1} → statement M
 words-spec =

@@ -10,7 +10,10 @@ use Rattle.base_streams.proofs.text.byte.Tie as tie
 returns : tie.Need-returns
 returns c =
     let o = c .before .before in
-    rw (lt-leb (o .args .at) _ (c .if1 .taken)) (refl, sym (set-out _ (o .args .at) (o .args .x) (omega (arith, c .if1 .taken))))
+    rw (lt-leb (o .args .at) _ (c .if1 .taken)) (
+      refl,
+      sym (set-out _ (o .args .at) (o .args .x) (omega (arith, c .if1 .taken))),
+    )
 
 returns-2 : tie.Need-returns-2
 returns-2 c =

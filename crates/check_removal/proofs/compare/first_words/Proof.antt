@@ -7,7 +7,8 @@ use Rattle.check_removal.proofs.compare.first_words.Statement.{statemen
 use Rattle.check_removal.proofs.compare.first_words.Tie as tie
 
 slice-aggregate-surveyed : tie.Need-slice-aggregate-surveyed
-slice-aggregate-surveyed c = sym (length-take-le (c .before .before .before .args .end) (c .before .before .before .args .words .now) (search needs))
+slice-aggregate-surveyed c = sym (length-take-le (c .before .before .before .args .end)
+    (c .before .before .before .args .words .now) (search needs))
 
 surveyed-requires : tie.Need-surveyed-requires
 surveyed-requires c κs = tt

@@ -7,7 +7,8 @@ use Rattle.check_removal.proofs.removal.meet_all.Statement.{statement}
 use Rattle.check_removal.proofs.removal.meet_all.Tie as tie
 
 abbrev Inv-loop : tie.InvT-loop
-Inv-loop pairs x left first₀ labels₀ j₀ first labels j = (j ≤ 1024) × (length first ≡ length first₀) × (length labels ≡ length labels₀)
+Inv-loop pairs x left first₀ labels₀ j₀ first labels j =
+    (j ≤ 1024) × (length first ≡ length first₀) × (length labels ≡ length labels₀)
 
 abbrev μ-loop : tie.MeasureT-loop
 μ-loop pairs x left first₀ labels₀ j₀ first labels j = 1024 - j

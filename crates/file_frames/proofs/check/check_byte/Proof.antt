@@ -6,7 +6,8 @@ use Rattle.file_frames.proofs.check.check_byte.Statement.{statement}
 use Rattle.file_frames.proofs.check.check_byte.Tie as tie
 
 returns : tie.Need-returns
-returns c = check-unique (c .before .before .before .args .f .now) (c .wrapping-sub-u8 .result) (omega arith) (omega arith)
+returns c = check-unique (c .before .before .before .args .f .now) (c .wrapping-sub-u8 .result) (omega arith)
+    (omega arith)
 
 pub check-byte-spec : {M : Type 1} → statement M
 check-byte-spec =

@@ -30,7 +30,10 @@ loop-again c =
     let a = l .before .before .before .args in (
       search needs,
       search needs,
-      rw (c .before .before .put-byte .ensures, l .loop .inv .2) (hexes-more (a .f .now) (a .out .now) (l .loop .i) (search needs) (search needs)),
+      rw (
+        c .before .before .put-byte .ensures,
+        l .loop .inv .2,
+      ) (hexes-more (a .f .now) (a .out .now) (l .loop .i) (search needs) (search needs)),
     )
 
 returns : tie.Need-returns Inv-loop μ-loop

@@ -5,7 +5,8 @@ use Prim.Native.Nat.{ℕ, _*_}
 use native.Mathlib.Omega.{arith}
 use lib.Seq.{length-take-le}
 use Rattle.file_frames.specs.Kinds.{frameBytes, kindFront}
-use Rattle.file_frames.specs.FrontLaws.{front-few, front-unknown, front-short, front-other, front-line, kind-none, kind-some}
+use Rattle.file_frames.specs.FrontLaws.{front-few, front-unknown, front-short, front-other, front-line, kind-none}
+use Rattle.file_frames.specs.FrontLaws.{kind-some}
 use borrow.Author.Needs.{needs}
 use Rattle.file_read.proofs.lines.kind.Statement.{statement}
 use Rattle.file_read.proofs.lines.kind.Tie as tie
@@ -20,7 +21,8 @@ returns : tie.Need-returns
 returns c = let s = c .before .before .before .args .s .now in kind-none s (front-few s (c .if1 .taken))
 
 returns-2 : tie.Need-returns-2
-returns-2 c = let f = c .before in kind-none (chars f) (front-unknown (chars f) (f .frame-bytes .result) (size f) (c .if2 .taken))
+returns-2 c = let f = c .before in kind-none (chars f)
+    (front-unknown (chars f) (f .frame-bytes .result) (size f) (c .if2 .taken))
 
 returns-3 : tie.Need-returns-3
 returns-3 c =
@@ -48,7 +50,8 @@ returns-5 : tie.Need-returns-5
 returns-5 c =
     let e = c .before .before .before .before .before .before in
     let f = e .before in
-    let line = front-line (chars f) (f .frame-bytes .result) (size f) (e .if2 .left) (c .before .before .before .if4 .left) in
+    let line = front-line (chars f) (f .frame-bytes .result) (size f) (e .if2 .left)
+    (c .before .before .before .if4 .left) in
     kind-some (chars f) (f .before .byte .result) (f .before .byte .ensures)
     (line ∙ sym (c .before .sums-to-0 .ensures) ∙ c .if5 .taken)
 
@@ -56,7 +59,8 @@ returns-6 : tie.Need-returns-6
 returns-6 c =
     let e = c .before .before .before .before .before .before in
     let f = e .before in
-    let line = front-line (chars f) (f .frame-bytes .result) (size f) (e .if2 .left) (c .before .before .before .if4 .left) in
+    let line = front-line (chars f) (f .frame-bytes .result) (size f) (e .if2 .left)
+    (c .before .before .before .if4 .left) in
     kind-none (chars f) (line ∙ sym (c .before .sums-to-0 .ensures) ∙ c .if5 .left)
 
 pub kind-spec : {M : Type 1} → statement M

@@ -18,8 +18,11 @@ loop-holds c = (search needs, marks-none)
 
 loop-again : tie.Need-loop-again Inv-loop μ-loop
 loop-again c =
-    let l = c .before .before in
-    (search needs, marks-next (l .loop .t) (l .loop .d) (c .low-digit .result) (c .before .loop-test .taken) (c .low-digit .ensures) (l .loop .inv .1))
+    let l = c .before .before in (
+      search needs,
+      marks-next (l .loop .t) (l .loop .d) (c .low-digit .result) (c .before .loop-test .taken)
+          (c .low-digit .ensures) (l .loop .inv .1),
+    )
 
 returns : tie.Need-returns Inv-loop μ-loop
 returns c =

@@ -35,12 +35,14 @@ loop-again c =
     let s = l .before .before .before .args .s .now in
     let i = l .loop .i in
     let inv = l .loop .inv in
-    let byte : c .before .byte-of .result ≡ byteAt s i = c .before .byte-of .ensures ∙ rw (first .mark .ensures, a .mark2 .ensures) in
+    let byte : c .before .byte-of .result ≡ byteAt s i =
+    c .before .byte-of .ensures ∙ rw (first .mark .ensures, a .mark2 .ensures) in
     let within : i + 1 < length s = first .before .before .loop-test .taken in (
       omega arith,
       omega (arith, inv .1),
       search needs,
-      sum-more s i (l .loop .sum) (c .before .byte-of .result) (c .wrapping-add-u8 .result) (sumOf (bytesOf s) % 256) within byte (c .wrapping-add-u8 .ensures) (inv .3),
+      sum-more s i (l .loop .sum) (c .before .byte-of .result) (c .wrapping-add-u8 .result)
+          (sumOf (bytesOf s) % 256) within byte (c .wrapping-add-u8 .ensures) (inv .3),
       rw (first .mark .ensures, a .mark2 .ensures) (marks-more s (l .loop .seen) i within (inv .4)),
     )
 
@@ -48,16 +50,24 @@ returns : tie.Need-returns Inv-loop μ-loop
 returns c =
     let l = c .before .before in
     let s = l .before .before .before .args .s .now in
-    let seen = marks-seen s (l .loop .seen) (l .loop .i) (omega (arith, l .loop .inv .1, l .before .before .before .pre .1, c .before .loop-test .left)) (l .loop .inv .4) in
+    let seen = marks-seen s (l .loop .seen) (l .loop .i)
+    (omega (arith, l .loop .inv .1, l .before .before .before .pre .1, c .before .loop-test .left))
+    (l .loop .inv .4) in
     rw (seen, le-ltb (l .loop .seen) 16 (c .if1 .taken))
 
 returns-2 : tie.Need-returns-2 Inv-loop μ-loop
 returns-2 c =
     let l = c .before .before in
     let s = l .before .before .before .args .s .now in
-    let over : length s ≤ l .loop .i = omega (arith, l .loop .inv .1, l .before .before .before .pre .1, c .before .loop-test .left) in
+    let over : length s ≤ l .loop .i = omega (
+      arith,
+      l .loop .inv .1,
+      l .before .before .before .pre .1,
+      c .before .loop-test .left,
+    ) in
     let seen = marks-seen s (l .loop .seen) (l .loop .i) over (l .loop .inv .4) in
-    let sum : l .loop .sum ≡ sumOf (bytesOf s) % 256 = omega (arith, l .loop .inv .2, l .loop .inv .3, digitSum-end s (l .loop .i) (omega arith)) in
+    let sum : l .loop .sum ≡ sumOf (bytesOf s) % 256 =
+    omega (arith, l .loop .inv .2, l .loop .inv .3, digitSum-end s (l .loop .i) (omega arith)) in
     rw (seen, lt-ltb (l .loop .seen) 16 (omega (arith, c .if1 .left)), ← sum)
 
 pub sums-to-0-spec : {M : Type 1} → statement M

@@ -12,7 +12,8 @@ use mir.Val.{toZ, ofZ}
 use mir.ValLaws.{toZ-ofZ}
 use Rattle.file_frames.specs.Kinds.{linkKind}
 use Rattle.file_spec.specs.File.{linesOf, linkFrames}
-use Rattle.file_read.specs.Walk.{LineAt, Filled, pastAt, line-fits, fill-start, fill-line, fill-reads, fill-more, fill-stands, fill-link, fill-other, fill-count, fill-end, fill-levels}
+use Rattle.file_read.specs.Walk.{LineAt, Filled, pastAt, line-fits, fill-start, fill-line, fill-reads, fill-more}
+use Rattle.file_read.specs.Walk.{fill-stands, fill-link, fill-other, fill-count, fill-end, fill-levels}
 use borrow.Author.Needs.{needs}
 use Rattle.file_read.proofs.reader.fill.Statement.{statement}
 use Rattle.file_read.proofs.reader.fill.Tie as tie
@@ -46,7 +47,8 @@ kind c = c .byte-at .result
 line : (c : tie.After-byte-at Inv-loop μ-loop) → LineAt (file c) (loopOf c .loop .at) (kind c)
 line c =
     let l = loopOf c .loop in
-    fill-line (file c) (old c) (l .words) (oldLevels c) (l .levels) (l .at) (l .n) (l .inv) (c .before .loop-test .taken) (kind c) (c .byte-at .ensures)
+    fill-line (file c) (old c) (l .words) (oldLevels c) (l .levels) (l .at) (l .n) (l .inv)
+    (c .before .loop-test .taken) (kind c) (c .byte-at .ensures)
 
 fits : (c : tie.After-byte-at Inv-loop μ-loop) → pastAt (loopOf c .loop .at) (kind c) ≤ length (file c)
 fits c = line-fits (file c) (loopOf c .loop .at) (kind c) (line c)
@@ -64,10 +66,15 @@ module _ (t : tie.Then1 Inv-loop μ-loop) where
   link = sym (t .before .is-link .ensures) ∙ t .if1 .taken
 
   more : l .loop .n + 1 ≤ linkFrames (linesOf (file place))
-  more = fill-more (file place) (old place) (l .loop .words) (oldLevels place) (l .loop .levels) (l .loop .at) (l .loop .n) (l .loop .inv) (kind place) (line place) link
+  more = fill-more (file place) (old place) (l .loop .words) (oldLevels place) (l .loop .levels) (l .loop .at)
+      (l .loop .n) (l .loop .inv) (kind place) (line place) link
 
   stands : l .loop .at + 9 + 1 ≤ length (file place)
-  stands = omega (arith, fill-stands (file place) (old place) (l .loop .words) (oldLevels place) (l .loop .levels) (l .loop .at) (l .loop .n) (l .loop .inv) (kind place) (line place) link)
+  stands = omega (
+    arith,
+    fill-stands (file place) (old place) (l .loop .words) (oldLevels place) (l .loop .levels)
+        (l .loop .at) (l .loop .n) (l .loop .inv) (kind place) (line place) link,
+  )
 
   room : 2 * (l .loop .n) + 2 ≤ length (l .loop .words)
   room = omega (arith, more, start place .pre .2, l .loop .inv .same)
@@ -78,14 +85,19 @@ module _ (t : tie.Then1 Inv-loop μ-loop) where
 -- ---- the needs
 
 loop-holds : tie.Need-loop-holds Inv-loop μ-loop
-loop-holds c = let s = c .before .before .before in fill-start (s .args .file .now) (s .args .words .now) (s .args .levels .now) (s .pre .1)
+loop-holds c = let s = c .before .before .before in fill-start (s .args .file .now) (s .args .words .now)
+    (s .args .levels .now) (s .pre .1)
 
 byte-at-requires : tie.Need-byte-at-requires Inv-loop μ-loop
 byte-at-requires c κs =
     let l = c .before in
     let s = l .before .before .before .before in (
       s .pre .0,
-      omega (arith, fill-reads (s .args .file .now) (s .args .words .now) (l .loop .words) (s .args .levels .now) (l .loop .levels) (l .loop .at) (l .loop .n) (l .loop .inv) (c .loop-test .taken)),
+      omega (
+        arith,
+        fill-reads (s .args .file .now) (s .args .words .now) (l .loop .words) (s .args .levels .now)
+            (l .loop .levels) (l .loop .at) (l .loop .n) (l .loop .inv) (c .loop-test .taken),
+      ),
     )
 
 add-word-at : tie.Need-add-word-at Inv-loop μ-loop
@@ -142,8 +154,11 @@ loop-again c =
     let r = c .before .level-at in
     let z = toZ w16 (ofZ w16 (r .result)) in
     let level = toZ-ofZ w16 (r .result) (record { sfits = r .ok }) ∙ r .ensures in
-    subst⁻¹ (λ (x : ℕ). Filled (file d) (old d) (set (set (k .words) (2 * (k .n)) a) (2 * (k .n) + 1) b) (oldLevels d) (set (k .levels) (k .n) z) (k .at + x) (k .n + 1)) (c .line-length .ensures)
-    (fill-link (file d) (old d) (k .words) (oldLevels d) (k .levels) (k .at) (k .n) (k .inv) (kind d) (line d) (link t) a b z (c .before .before .before .word-at .ensures) (c .before .before .word-at2 .ensures) level (start d .pre .2) (start d .pre .3))
+    subst⁻¹ (λ (x : ℕ). Filled (file d) (old d) (set (set (k .words) (2 * (k .n)) a) (2 * (k .n) + 1) b) (oldLevels d)
+    (set (k .levels) (k .n) z) (k .at + x) (k .n + 1)) (c .line-length .ensures)
+    (fill-link (file d) (old d) (k .words) (oldLevels d) (k .levels) (k .at) (k .n) (k .inv) (kind d) (line d)
+    (link t) a b z (c .before .before .before .word-at .ensures) (c .before .before .word-at2 .ensures) level
+    (start d .pre .2) (start d .pre .3))
 
 add-at-2 : tie.Need-add-at-2 Inv-loop μ-loop
 add-at-2 c = omega (arith, c .line-length2 .ensures, fits (c .before .before .before))
@@ -155,8 +170,10 @@ loop-again-2 : tie.Need-loop-again-2 Inv-loop μ-loop
 loop-again-2 c =
     let d = c .before .before .before in
     let k = loopOf d .loop in
-    subst⁻¹ (λ (x : ℕ). Filled (file d) (old d) (k .words) (oldLevels d) (k .levels) (k .at + x) (k .n)) (c .line-length2 .ensures)
-    (fill-other (file d) (old d) (k .words) (oldLevels d) (k .levels) (k .at) (k .n) (k .inv) (kind d) (line d) (sym (c .before .before .is-link .ensures) ∙ c .before .if1 .left))
+    subst⁻¹ (λ (x : ℕ). Filled (file d) (old d) (k .words) (oldLevels d) (k .levels) (k .at + x) (k .n))
+    (c .line-length2 .ensures)
+    (fill-other (file d) (old d) (k .words) (oldLevels d) (k .levels) (k .at) (k .n) (k .inv) (kind d) (line d)
+    (sym (c .before .before .is-link .ensures) ∙ c .before .if1 .left))
 
 same-length : tie.Need-same-length Inv-loop μ-loop
 same-length c = c .before .loop .inv .same

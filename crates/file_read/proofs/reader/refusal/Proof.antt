@@ -1,4 +1,5 @@
--- One walk over all lines; then each return is the first cause: the tests passed on the way fail, and the last one holds.
+-- One walk over all lines; then each return is the first cause: the tests passed on the way fail, and the last one
+-- holds.
 use mathlib.Core.Path.{_≡_, sym, ap, subst, _∙_}
 use mathlib.Core.Bool.{Bool, true, false, not, _||_}
 use mathlib.Core.List.{List}
@@ -12,13 +13,16 @@ use Rattle.file_frames.specs.Kinds.{BARE-LINK, LINK}
 use Rattle.file_spec.specs.File.{linesOf, faultyLine, inOrder, linkFrames, statedCount, levelsIn}
 use Rattle.file_spec.specs.ReadLaws.{laterRefusal, refused-1, refused-2, refused-3, counted}
 use Rattle.file_judge.specs.FrameOrder.{nextOrder}
-use Rattle.file_read.specs.Walk.{LineAt, Walked, told-line, line-fits, pastAt, walk-start, walk-fault, walk-link, walk-bare, walk-other, walk-sound, walk-broken, walk-kept, walk-levels, walk-count, walk-last, walk-stated}
+use Rattle.file_read.specs.Walk.{LineAt, Walked, told-line, line-fits, pastAt, walk-start, walk-fault, walk-link}
+use Rattle.file_read.specs.Walk.{walk-bare, walk-other, walk-sound, walk-broken, walk-kept, walk-levels}
+use Rattle.file_read.specs.Walk.{walk-count, walk-last, walk-stated}
 use borrow.Author.Needs.{needs}
 use Rattle.file_read.proofs.reader.refusal.Statement.{statement}
 use Rattle.file_read.proofs.reader.refusal.Tie as tie
 
 abbrev Inv-loop : tie.InvT-loop
-Inv-loop t file places spaces at₀ order₀ links₀ last₀ outside₀ at order links last outside = Walked file at order links last outside
+Inv-loop t file places spaces at₀ order₀ links₀ last₀ outside₀ at order links last outside =
+    Walked file at order links last outside
 
 abbrev μ-loop : tie.MeasureT-loop
 μ-loop t file places spaces at₀ order₀ links₀ last₀ outside₀ at order links last outside = length file - at
@@ -40,8 +44,10 @@ line c = told-line (file c) (loopOf c .loop .at) (kind c) (c .before .kind .ensu
 link : (t : tie.Then2 Inv-loop μ-loop) → LineAt (file (t .before)) (loopOf (t .before) .loop .at) LINK
 link t = subst (LineAt (file (t .before)) (loopOf (t .before) .loop .at)) (t .if2 .taken) (line (t .before))
 
-bare : (t : tie.Then3 Inv-loop μ-loop) → LineAt (file (t .before .before)) (loopOf (t .before .before) .loop .at) BARE-LINK
-bare t = subst (LineAt (file (t .before .before)) (loopOf (t .before .before) .loop .at)) (t .if3 .taken) (line (t .before .before))
+bare : (t : tie.Then3 Inv-loop μ-loop) →
+    LineAt (file (t .before .before)) (loopOf (t .before .before) .loop .at) BARE-LINK
+bare t = subst (LineAt (file (t .before .before)) (loopOf (t .before .before) .loop .at)) (t .if3 .taken)
+    (line (t .before .before))
 
 stands : (t : tie.Then2 Inv-loop μ-loop) → pastAt (loopOf (t .before) .loop .at) LINK ≤ length (file (t .before))
 stands t = line-fits (file (t .before)) (loopOf (t .before) .loop .at) LINK (link t)
@@ -62,22 +68,28 @@ module _ (e : tie.Else4 Inv-loop μ-loop) where
   w = e .before .before
 
   p1 : faultyLine (linesOf (text e)) ≡ false
-  p1 = walk-sound (text e) (w .loop .at) (w .loop .order) (w .loop .links) (w .loop .last) (w .loop .outside) (w .loop .inv) (e .before .loop-test .left)
+  p1 = walk-sound (text e) (w .loop .at) (w .loop .order) (w .loop .links) (w .loop .last) (w .loop .outside)
+      (w .loop .inv) (e .before .loop-test .left)
 
   p2 : inOrder (linesOf (text e)) ≡ true
-  p2 = walk-kept (text e) (w .loop .at) (w .loop .order) (w .loop .links) (w .loop .last) (w .loop .outside) (w .loop .inv) (e .before .loop-test .left) (e .if4 .left)
+  p2 = walk-kept (text e) (w .loop .at) (w .loop .order) (w .loop .links) (w .loop .last) (w .loop .outside)
+      (w .loop .inv) (e .before .loop-test .left) (e .if4 .left)
 
   levels : levelOutside (levelsIn (linesOf (text e))) ≡ w .loop .outside
-  levels = walk-levels (text e) (w .loop .at) (w .loop .order) (w .loop .links) (w .loop .last) (w .loop .outside) (w .loop .inv) (e .before .loop-test .left)
+  levels = walk-levels (text e) (w .loop .at) (w .loop .order) (w .loop .links) (w .loop .last) (w .loop .outside)
+      (w .loop .inv) (e .before .loop-test .left)
 
   count : linkFrames (linesOf (text e)) ≡ w .loop .links
-  count = walk-count (text e) (w .loop .at) (w .loop .order) (w .loop .links) (w .loop .last) (w .loop .outside) (w .loop .inv) (e .before .loop-test .left)
+  count = walk-count (text e) (w .loop .at) (w .loop .order) (w .loop .links) (w .loop .last) (w .loop .outside)
+      (w .loop .inv) (e .before .loop-test .left)
 
   last : w .loop .last + 8 ≤ length (text e)
-  last = walk-last (text e) (w .loop .at) (w .loop .order) (w .loop .links) (w .loop .last) (w .loop .outside) (w .loop .inv) (e .before .loop-test .left) (e .if4 .left)
+  last = walk-last (text e) (w .loop .at) (w .loop .order) (w .loop .links) (w .loop .last) (w .loop .outside)
+      (w .loop .inv) (e .before .loop-test .left) (e .if4 .left)
 
   stated : statedCount (linesOf (text e)) ≡ wordAt (text e) (w .loop .last + 2)
-  stated = walk-stated (text e) (w .loop .at) (w .loop .order) (w .loop .links) (w .loop .last) (w .loop .outside) (w .loop .inv) (e .before .loop-test .left) (e .if4 .left)
+  stated = walk-stated (text e) (w .loop .at) (w .loop .order) (w .loop .links) (w .loop .last) (w .loop .outside)
+      (w .loop .inv) (e .before .loop-test .left) (e .if4 .left)
 
 -- ---- the needs
 
@@ -89,7 +101,8 @@ returns c =
     let l = c .before .before .before .before in
     let a = l .before .before .before .args in
     refused-1 (linesOf (a .file .now)) (a .places) (a .spaces)
-    (walk-fault (a .file .now) (l .loop .at) (l .loop .order) (l .loop .links) (l .loop .last) (l .loop .outside) (l .loop .inv) (c .before .before .before .loop-test .taken) (sym (c .before .kind .ensures) ∙ c .if1 .taken))
+    (walk-fault (a .file .now) (l .loop .at) (l .loop .order) (l .loop .links) (l .loop .last) (l .loop .outside)
+    (l .loop .inv) (c .before .before .before .loop-test .taken) (sym (c .before .kind .ensures) ∙ c .if1 .taken))
 
 bad-level-at-requires : tie.Need-bad-level-at-requires Inv-loop μ-loop
 bad-level-at-requires c κs = (search needs, omega (arith, stands c))
@@ -108,8 +121,10 @@ loop-again c =
     let t = c .before .before .before .before in
     let d = t .before in
     let l = loopOf d .loop in
-    let bad : c .before .before .either .result ≡ (l .outside || not (inRange (byteLevel (byteAt (file d) (l .at + 10))))) =
-    c .before .before .either .ensures ∙ ap (λ (x : Bool). l .outside || x) (c .before .before .before .bad-level-at .ensures) in
+    let bad : c .before .before .either .result
+    ≡ (l .outside || not (inRange (byteLevel (byteAt (file d) (l .at + 10))))) =
+    c .before .before .either .ensures ∙ ap (λ (x : Bool). l .outside || x)
+    (c .before .before .before .bad-level-at .ensures) in
     rw (c .line-length .ensures, c .before .next-order .ensures, bad)
     (walk-link (file d) (l .at) (l .order) (l .links) (l .last) (l .outside) (l .inv) (link t))
 
@@ -146,7 +161,8 @@ loop-again-3 c =
     let d = c .before .before .before .before in
     let l = loopOf d .loop in
     rw (c .line-length3 .ensures, c .before .next-order3 .ensures)
-    (walk-other (file d) (l .at) (l .order) (l .links) (l .last) (l .outside) (l .inv) (kind d) (c .before .before .before .if2 .left) (c .before .before .if3 .left) (line d))
+    (walk-other (file d) (l .at) (l .order) (l .links) (l .last) (l .outside) (l .inv) (kind d)
+    (c .before .before .before .if2 .left) (c .before .before .if3 .left) (line d))
 
 returns-2 : tie.Need-returns-2 Inv-loop μ-loop
 returns-2 c =
@@ -154,7 +170,8 @@ returns-2 c =
     let a = l .before .before .before .args in
     let w = l .loop in
     let e = c .before .loop-test .left in
-    refused-2 (linesOf (a .file .now)) (a .places) (a .spaces) (walk-sound (a .file .now) (w .at) (w .order) (w .links) (w .last) (w .outside) (w .inv) e)
+    refused-2 (linesOf (a .file .now)) (a .places) (a .spaces)
+    (walk-sound (a .file .now) (w .at) (w .order) (w .links) (w .last) (w .outside) (w .inv) e)
     (walk-broken (a .file .now) (w .at) (w .order) (w .links) (w .last) (w .outside) (w .inv) e (c .if4 .taken))
 
 add-word-at : tie.Need-add-word-at Inv-loop μ-loop
@@ -166,7 +183,8 @@ word-at-requires c κs = (search needs, omega (arith, last c))
 returns-3 : tie.Need-returns-3 Inv-loop μ-loop
 returns-3 c =
     let e = c .before .before in
-    refused-3 (linesOf (text e)) (places e) (spaces e) (p1 e) (p2 e) (λ q. c .if5 .taken (c .before .word-at .ensures ∙ sym (stated e) ∙ q ∙ count e))
+    refused-3 (linesOf (text e)) (places e) (spaces e) (p1 e) (p2 e)
+    (λ q. c .if5 .taken (c .before .word-at .ensures ∙ sym (stated e) ∙ q ∙ count e))
 
 returns-4 : tie.Need-returns-4 Inv-loop μ-loop
 returns-4 c =

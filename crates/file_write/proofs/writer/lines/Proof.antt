@@ -10,7 +10,8 @@ returns c =
     let at-one-number = at-link-lines .before .before .before .before in
     let start = at-one-number .before .before .before .before in
     rw (c .before .before .one-number2 .ensures, at-link-lines .link-lines .ensures, at-one-number .one-number .ensures)
-    (file-laid (start .args .units) (start .args .words .now) (start .args .levels .now) (start .args .out .now) (start .pre .0 .one) (start .pre .1))
+    (file-laid (start .args .units) (start .args .words .now) (start .args .levels .now) (start .args .out .now)
+    (start .pre .0 .one) (start .pre .1))
 
 pub lines-spec : {M : Type 1} → statement M
 lines-spec =

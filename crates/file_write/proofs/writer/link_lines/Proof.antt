@@ -17,7 +17,8 @@ use Rattle.file_write.proofs.writer.link_lines.Tie as tie
 
 abbrev Inv-loop : tie.InvT-loop
 Inv-loop words levels out₀ j₀ out j =
-    (j ≤ linkCount words) × (length out ≡ length out₀) × (out ≡ linkLines (take (2 * j) words) (take j levels) ++ drop (15 * j) out₀)
+    (j ≤ linkCount words) × (length out ≡ length out₀)
+    × (out ≡ linkLines (take (2 * j) words) (take j levels) ++ drop (15 * j) out₀)
 
 abbrev μ-loop : tie.MeasureT-loop
 μ-loop words levels out₀ j₀ out j = linkCount words - j
@@ -41,11 +42,19 @@ loop-again c =
     let a = start .args in
     let z = getD (a .levels .now) (at-loop .loop .j) (pos 0) in
     let p = start .pre in
-    let byte = at-byte-of .byte-of .ensures ∙ ap levelByte (toZ-ofZ w16 z (record { sfits = at-level .level .given })) in (
+    let byte = at-byte-of .byte-of .ensures
+    ∙ ap levelByte (toZ-ofZ w16 z (record { sfits = at-level .level .given })) in (
       omega (arith, p .0 .one, at-loop-test .loop-test .taken),
       search needs,
-      rw (c .before .before .two-numbers-and-byte .ensures, at-word .word .ensures, at-word2 .word2 .ensures, byte, at-loop .loop .inv .2)
-          (lines-next (a .words .now) (a .levels .now) (a .out .now) (at-loop .loop .j) (p .0 .one) (omega (arith, p .0 .one, at-loop-test .loop-test .taken)) (omega (arith, p .1))),
+      rw (
+        c .before .before .two-numbers-and-byte .ensures,
+        at-word .word .ensures,
+        at-word2 .word2 .ensures,
+        byte,
+        at-loop .loop .inv .2,
+      )
+          (lines-next (a .words .now) (a .levels .now) (a .out .now) (at-loop .loop .j) (p .0 .one)
+          (omega (arith, p .0 .one, at-loop-test .loop-test .taken)) (omega (arith, p .1))),
     )
 
 returns : tie.Need-returns Inv-loop μ-loop

@@ -9,13 +9,15 @@ use borrow.Author.Needs.{needs}
 use Rattle.file_write.proofs.writer.refusal.Statement.{statement}
 use Rattle.file_write.proofs.writer.refusal.Tie as tie
 
-none : (c : tie.Else1) → freshRefusal (c .before .before .before .args .units) (c .before .before .before .args .words .now) (c .before .before .before .args .levels .now) ≡ 0
+none : (c : tie.Else1) → freshRefusal (c .before .before .before .args .units)
+    (c .before .before .before .args .words .now) (c .before .before .before .args .levels .now) ≡ 0
 none c = sym (c .before .refusal .ensures) ∙ c .if1 .left
 
 passed : (c : tie.Else1) → Passes (c .before .before .before .args .units) (c .before .before .before .args .words .now)
 passed c =
     let a = c .before .before .before .args in
-    passes (a .units) (a .words .now) (table-alone (a .units) (a .words .now) (a .levels .now) (fresh-accepted (a .units) (a .words .now) (a .levels .now) (none c)))
+    passes (a .units) (a .words .now) (table-alone (a .units) (a .words .now) (a .levels .now)
+    (fresh-accepted (a .units) (a .words .now) (a .levels .now) (none c)))
 
 returns : tie.Need-returns
 returns c =

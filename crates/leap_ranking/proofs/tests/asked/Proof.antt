@@ -10,7 +10,9 @@ use Rattle.leap_ranking.proofs.tests.asked.Statement.{statement}
 use Rattle.leap_ranking.proofs.tests.asked.Tie as tie
 
 abbrev Inv-loop : tie.InvT-loop
-Inv-loop arcs rank requests₀ rounds₀ a₀ requests rounds a = (a ≤ arcs) × (requests ≤ 16 * a) × (rounds ≤ 16) × (requests ≡ fold _+_ a (digitsAt rank) 0) × (rounds ≡ fold max a (digitsAt rank) 0)
+Inv-loop arcs rank requests₀ rounds₀ a₀ requests rounds a =
+    (a ≤ arcs) × (requests ≤ 16 * a) × (rounds ≤ 16) × (requests ≡ fold _+_ a (digitsAt rank) 0)
+    × (rounds ≡ fold max a (digitsAt rank) 0)
 
 abbrev μ-loop : tie.MeasureT-loop
 μ-loop arcs rank requests₀ rounds₀ a₀ requests rounds a = arcs - a
@@ -18,7 +20,14 @@ abbrev μ-loop : tie.MeasureT-loop
 add-requests : tie.Need-add-requests Inv-loop μ-loop
 add-requests c =
     let s = c .before .before .before in
-    omega (arith, c .digits .ensures .1, s .loop .inv .0, s .loop .inv .1, c .before .before .loop-test .taken, s .before .pre)
+    omega (
+      arith,
+      c .digits .ensures .1,
+      s .loop .inv .0,
+      s .loop .inv .1,
+      c .before .before .loop-test .taken,
+      s .before .pre,
+    )
 
 loop-again : tie.Need-loop-again Inv-loop μ-loop
 loop-again c =
@@ -30,7 +39,8 @@ loop-again c =
       search needs,
       omega (arith, d .digits .ensures .1, s .loop .inv .1),
       omega (arith, c .greatest-of .ensures, d .digits .ensures .1, s .loop .inv .2),
-      fold-more _+_ (digitsAt rank) (s .loop .a) (s .loop .requests) _ (s .loop .inv .3) (ap (λ (x : ℕ). s .loop .requests + x) more),
+      fold-more _+_ (digitsAt rank) (s .loop .a) (s .loop .requests) _ (s .loop .inv .3)
+          (ap (λ (x : ℕ). s .loop .requests + x) more),
       fold-more max (digitsAt rank) (s .loop .a) (s .loop .rounds) (c .greatest-of .result) (s .loop .inv .4) most,
     )
 

@@ -25,7 +25,8 @@ returns-2 c =
     let e = i .before in
     let a = e .before .before .args in
     let before = getD (a .jump .now) (a .a) 0 in
-    let past : ltb before (a .arcs) ≡ false = le-ltb before (a .arcs) (omega (arith, c .if2 .taken, i .index .ensures)) in
+    let past : ltb before (a .arcs) ≡ false =
+    le-ltb before (a .arcs) (omega (arith, c .if2 .taken, i .index .ensures)) in
     rw (ne-eqb before ABSENT (e .if1 .left), past) refl
 
 returns-3 : tie.Need-returns-3
@@ -36,7 +37,8 @@ returns-3 c =
     let e = i .before in
     let a = e .before .before .args in
     let before = getD (a .jump .now) (a .a) 0 in
-    let below : ltb before (a .arcs) ≡ true = lt-ltb before (a .arcs) (omega (arith, w .if2 .left, i .index .ensures)) in
+    let below : ltb before (a .arcs) ≡ true =
+    lt-ltb before (a .arcs) (omega (arith, w .if2 .left, i .index .ensures)) in
     rw (ne-eqb before ABSENT (e .if1 .left), below, c .comes-after .ensures, i .index .ensures) refl
 
 pub key-right-spec : {M : Type 1} → statement M

@@ -26,8 +26,11 @@ loop-again : tie.Need-loop-again Inv-loop μ-loop
 loop-again c =
     let r = c .before in
     let s = r .before .before in
-    let a = s .before .args in
-    (search needs, below-more (λ (i : ℕ). keyRight (a .arcs) (a .jump .now) (a .sum .now) (a .key .now) i ≡ true) (s .loop .a) (s .loop .inv .1) (sym (r .key-right .ensures) ∙ not-false _ (c .if1 .left)))
+    let a = s .before .args in (
+      search needs,
+      below-more (λ (i : ℕ). keyRight (a .arcs) (a .jump .now) (a .sum .now) (a .key .now) i ≡ true)
+          (s .loop .a) (s .loop .inv .1) (sym (r .key-right .ensures) ∙ not-false _ (c .if1 .left)),
+    )
 
 returns-2 : tie.Need-returns-2 Inv-loop μ-loop
 returns-2 c = λ e i h. c .before .loop .inv .1 i (omega (arith, h, c .loop-test .left))

@@ -10,7 +10,8 @@ use Rattle.leap_ranking.proofs.tests.sums.Statement.{statement}
 use Rattle.leap_ranking.proofs.tests.sums.Tie as tie
 
 abbrev Inv-loop : tie.InvT-loop
-Inv-loop arcs key new₀ a₀ new a = (a ≤ arcs) × (length new ≡ 512) × (new ≡ over a (λ (i : ℕ). sumIn (getD key i 0)) new₀)
+Inv-loop arcs key new₀ a₀ new a = (a ≤ arcs) × (length new ≡ 512)
+    × (new ≡ over a (λ (i : ℕ). sumIn (getD key i 0)) new₀)
 
 abbrev μ-loop : tie.MeasureT-loop
 μ-loop arcs key new₀ a₀ new a = arcs - a

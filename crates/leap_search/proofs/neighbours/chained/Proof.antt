@@ -10,13 +10,18 @@ use Rattle.leap_search.proofs.neighbours.chained.Statement.{statement}
 use Rattle.leap_search.proofs.neighbours.chained.Tie as tie
 
 abbrev Inv-loop : tie.InvT-loop
-Inv-loop pairs ends next₀ first₀ j₀ next first j = (j ≤ pairs) × (length next ≡ length next₀) × Chained (2 * j) first next
+Inv-loop pairs ends next₀ first₀ j₀ next first j =
+    (j ≤ pairs) × (length next ≡ length next₀) × Chained (2 * j) first next
 
 abbrev μ-loop : tie.MeasureT-loop
 μ-loop pairs ends next₀ first₀ j₀ next first j = pairs - j
 
 loop-holds : tie.Need-loop-holds Inv-loop μ-loop
-loop-holds c = (search needs, search needs, chains-none (replicate 256 0) (c .before .before .args .next .now) (zeros-at 256))
+loop-holds c = (
+  search needs,
+  search needs,
+  chains-none (replicate 256 0) (c .before .before .args .next .now) (zeros-at 256),
+)
 
 loop-again : tie.Need-loop-again Inv-loop μ-loop
 loop-again c =
@@ -25,7 +30,13 @@ loop-again c =
     let s = one .before .before .before .before .before .before in (
       search needs,
       search needs,
-      chains-pair (s .loop .j) _ _ (s .loop .first) (s .loop .next) _ _ _ _ (s .loop .inv .2) (omega (arith, s .loop .inv .1, one .before .before .before .before .before .loop-test .taken, s .before .before .before .pre .2))
+      chains-pair (s .loop .j) _ _ (s .loop .first) (s .loop .next) _ _ _ _ (s .loop .inv .2)
+          (omega (
+            arith,
+            s .loop .inv .1,
+            one .before .before .before .before .before .loop-test .taken,
+            s .before .before .before .pre .2,
+          ))
           (one .join .ensures .0) (one .join .ensures .1) (two .join2 .ensures .0) (two .join2 .ensures .1),
     )
 

@@ -6,13 +6,17 @@ use Rattle.leap_search.proofs.search.reach.Statement.{statement}
 use Rattle.leap_search.proofs.search.reach.Tie as tie
 
 abbrev Inv-loop : tie.InvT-loop
-Inv-loop u pairs ends first next value key₀ via₀ queue₀ had from end₀ p₀ key via queue end p = (end ≤ 256) × (p ≤ 2 * pairs)
+Inv-loop u pairs ends first next value key₀ via₀ queue₀ had from end₀ p₀ key via queue end p =
+    (end ≤ 256) × (p ≤ 2 * pairs)
 
 abbrev μ-loop : tie.MeasureT-loop
 μ-loop u pairs ends first next value key₀ via₀ queue₀ had from end₀ p₀ key via queue end p = p
 
 loop-holds : tie.Need-loop-holds Inv-loop μ-loop
-loop-holds c = (c .before .before .before .before .pre .1, c .before .before .before .before .pre .4 .0 (c .before .before .before .before .args .u))
+loop-holds c = (
+  c .before .before .before .before .pre .1,
+  c .before .before .before .before .pre .4 .0 (c .before .before .before .before .args .u),
+)
 
 loop-less : tie.Need-loop-less Inv-loop μ-loop
 loop-less c =

@@ -21,7 +21,8 @@ further false v n h = omega arith
 loop-less : tie.Need-loop-less Inv-loop μ-loop
 loop-less c =
     let s = c .before .before .before .before .before in
-    rw (c .choose .ensures) (further (ltb (c .before .begin .result) (s .before .before .before .before .args .units)) (s .before .loop .v) (s .before .before .before .before .args .units) (s .loop-test .taken))
+    rw (c .choose .ensures) (further (ltb (c .before .begin .result) (s .before .before .before .before .args .units))
+    (s .before .loop .v) (s .before .before .before .before .args .units) (s .loop-test .taken))
 
 pub search-spec : {M : Type 1} → statement M
 search-spec =

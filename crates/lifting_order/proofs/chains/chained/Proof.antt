@@ -8,7 +8,8 @@ use Rattle.lifting_order.proofs.chains.chained.Statement.{statement}
 use Rattle.lifting_order.proofs.chains.chained.Tie as tie
 
 abbrev Inv-loop : tie.InvT-loop
-Inv-loop t last₀ next₀ i₀ last next i = (i ≤ length t) × (length last ≡ 256) × (length next ≡ 2048) × Chained t last next i
+Inv-loop t last₀ next₀ i₀ last next i = (i ≤ length t) × (length last ≡ 256) × (length next ≡ 2048)
+    × Chained t last next i
 
 abbrev μ-loop : tie.MeasureT-loop
 μ-loop t last₀ next₀ i₀ last next i = length t - i
@@ -28,8 +29,10 @@ loop-again c =
       search needs,
       search needs,
       search needs,
-      chained-more (b .args .t .now) (at-loop .loop .last) (at-loop .loop .next) _ _ (at-loop .loop .i) (b .pre) (at-loop-test .loop-test .taken) (at-loop .loop .inv .1) (at-loop .loop .inv .2) (at-loop .loop .inv .3)
-          (rw (at-word2 .word2 .ensures, at-word .word .ensures) at (at-put .put .ensures)) (rw (at-word .word .ensures) at (c .before .put2 .ensures)),
+      chained-more (b .args .t .now) (at-loop .loop .last) (at-loop .loop .next) _ _ (at-loop .loop .i) (b .pre)
+          (at-loop-test .loop-test .taken) (at-loop .loop .inv .1) (at-loop .loop .inv .2) (at-loop .loop .inv .3)
+          (rw (at-word2 .word2 .ensures, at-word .word .ensures) at (at-put .put .ensures))
+          (rw (at-word .word .ensures) at (c .before .put2 .ensures)),
     )
 
 returns : tie.Need-returns Inv-loop μ-loop

@@ -17,8 +17,11 @@ abbrev μ-loop : tie.MeasureT-loop
 loop-holds : tie.Need-loop-holds Inv-loop μ-loop
 loop-holds c =
     let b = c .before .before .before .before .before in
-    let a = b .args in
-    (refl, along-begun (a .t .now) (a .v) (acts (a .t .now) (does (a .mark))) (a .last .now) (a .next .now) (b .pre .1) (c .word .result) (a .x .now) (b .pre .2) (c .word .ensures))
+    let a = b .args in (
+      refl,
+      along-begun (a .t .now) (a .v) (acts (a .t .now) (does (a .mark))) (a .last .now) (a .next .now) (b .pre .1)
+          (c .word .result) (a .x .now) (b .pre .2) (c .word .ensures),
+    )
 
 loop-less : tie.Need-loop-less Inv-loop μ-loop
 loop-less c =
@@ -26,7 +29,8 @@ loop-less c =
     let at-loop = at-loop-test .before in
     let start = at-loop .before .before .before .before .before .before in
     let a = start .args in
-    along-less (a .t .now) (a .v) (acts (a .t .now) (does (a .mark))) (a .last .now) (a .next .now) (start .pre .1) (at-loop .loop .c) (c .word4 .result) (a .x .now) (at-loop .loop .x)
+    along-less (a .t .now) (a .v) (acts (a .t .now) (does (a .mark))) (a .last .now) (a .next .now) (start .pre .1)
+    (at-loop .loop .c) (c .word4 .result) (a .x .now) (at-loop .loop .x)
     (at-loop-test .loop-test .taken) (at-loop .loop .inv .1) (c .word4 .ensures)
 
 loop-again : tie.Need-loop-again Inv-loop μ-loop
@@ -43,10 +47,13 @@ loop-again c =
     let a = start .args in
     let put = at-put .put in
     let new =
-    walk-store (a .mark) (a .t .now) (at-loop .loop .x) (put .last .0) (at-loop .loop .c - 1) (at-other .other .result) (at-word2 .word2 .result) (at-word3 .word3 .result) (at-less .less .result) (at-choose .choose .result)
-    (at-other .other .ensures) (at-word2 .word2 .ensures) (at-word3 .word3 .ensures) (at-less .less .ensures) (at-choose .choose .ensures) (put .ensures) in (
+    walk-store (a .mark) (a .t .now) (at-loop .loop .x) (put .last .0) (at-loop .loop .c - 1) (at-other .other .result)
+    (at-word2 .word2 .result) (at-word3 .word3 .result) (at-less .less .result) (at-choose .choose .result)
+    (at-other .other .ensures) (at-word2 .word2 .ensures) (at-word3 .word3 .ensures) (at-less .less .ensures)
+    (at-choose .choose .ensures) (put .ensures) in (
       search needs,
-      along-turn (a .t .now) (a .v) (acts (a .t .now) (does (a .mark))) (a .last .now) (a .next .now) (start .pre .1) (at-loop .loop .c) (c .word4 .result) (a .x .now) (at-loop .loop .x) (put .last .0)
+      along-turn (a .t .now) (a .v) (acts (a .t .now) (does (a .mark))) (a .last .now) (a .next .now) (start .pre .1)
+          (at-loop .loop .c) (c .word4 .result) (a .x .now) (at-loop .loop .x) (put .last .0)
           (at-loop-test .loop-test .taken) (at-loop .loop .inv .1) new (c .word4 .ensures),
     )
 
@@ -55,7 +62,8 @@ unfolding walked
 returns c =
     let s = c .before in
     let a = c .before .before .before .before .before .before .before .args in
-    along-end (a .t .now) (a .v) (acts (a .t .now) (does (a .mark))) (s .loop .c) (a .x .now) (s .loop .x) (search needs) (s .loop .inv .1)
+    along-end (a .t .now) (a .v) (acts (a .t .now) (does (a .mark))) (s .loop .c) (a .x .now) (s .loop .x)
+    (search needs) (s .loop .inv .1)
 
 pub walk-spec : {M : Type 1} → statement M
 walk-spec =

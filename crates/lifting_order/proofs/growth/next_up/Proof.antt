@@ -9,7 +9,8 @@ use Rattle.lifting_order.proofs.growth.next_up.Statement.{statement}
 use Rattle.lifting_order.proofs.growth.next_up.Tie as tie
 
 abbrev Inv-loop : tie.InvT-loop
-Inv-loop units near wait least₀ v₀ least v = (v ≤ units) × (least ≡ folds.least v (λ (u : ℕ). cond (ready near wait u) u units) units)
+Inv-loop units near wait least₀ v₀ least v =
+    (v ≤ units) × (least ≡ folds.least v (λ (u : ℕ). cond (ready near wait u) u units) units)
 
 abbrev μ-loop : tie.MeasureT-loop
 μ-loop units near wait least₀ v₀ least v = units - v
@@ -20,7 +21,12 @@ loop-again c =
     let a = c .before .before .before .before .before .before .before .before .before .args in (
       search needs,
       next-more (a .units) (s .loop .v) (ready (a .near .now) (a .wait .now)) (s .loop .least) _ (s .loop .inv .1)
-          (rw (c .before .choose .ensures, c .before .before .both .ensures, c .before .before .before .word2 .ensures, c .before .before .before .before .word .ensures) at (c .least-of .ensures)),
+          (rw (
+            c .before .choose .ensures,
+            c .before .before .both .ensures,
+            c .before .before .before .word2 .ensures,
+            c .before .before .before .before .word .ensures,
+          ) at (c .least-of .ensures)),
     )
 
 returns : tie.Need-returns Inv-loop μ-loop

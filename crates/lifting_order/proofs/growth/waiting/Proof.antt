@@ -11,7 +11,8 @@ use Rattle.lifting_order.proofs.growth.waiting.Statement.{statement}
 use Rattle.lifting_order.proofs.growth.waiting.Tie as tie
 
 abbrev Inv-loop : tie.InvT-loop
-Inv-loop p wait₀ k₀ wait k = (k ≤ linkCount p) × (length wait ≡ 256) × ((w : ℕ) → w < 256 → getD wait w 0 ≡ count k (λ (j : ℕ). eqb (endA p j) w))
+Inv-loop p wait₀ k₀ wait k = (k ≤ linkCount p) × (length wait ≡ 256)
+    × ((w : ℕ) → w < 256 → getD wait w 0 ≡ count k (λ (j : ℕ). eqb (endA p j) w))
 
 abbrev μ-loop : tie.MeasureT-loop
 μ-loop p wait₀ k₀ wait k = linkCount p - k
@@ -25,8 +26,13 @@ loop-again c =
     let b = c .before .before .before .before .before .before .before .before .before .before .before in (
       search needs,
       search needs,
-      waiting-more (b .args .p .now) (s .loop .wait) _ (s .loop .k) (b .pre .0) (search needs) (s .loop .inv .1) (s .loop .inv .2)
-          (rw (c .before .before .before .bounded-sum .ensures, c .before .before .before .before .word2 .ensures, c .before .before .before .before .before .before .word .ensures) at (c .before .put .ensures)),
+      waiting-more (b .args .p .now) (s .loop .wait) _ (s .loop .k) (b .pre .0) (search needs) (s .loop .inv .1)
+          (s .loop .inv .2)
+          (rw (
+            c .before .before .before .bounded-sum .ensures,
+            c .before .before .before .before .word2 .ensures,
+            c .before .before .before .before .before .before .word .ensures,
+          ) at (c .before .put .ensures)),
     )
 
 returns : tie.Need-returns Inv-loop μ-loop

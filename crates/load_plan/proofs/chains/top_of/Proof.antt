@@ -18,12 +18,14 @@ loop-holds c = rise-begins _ _ _
 returns : tie.Need-returns Inv-loop μ-loop
 returns c =
     let u = c .before in
-    rise-ends _ _ _ _ _ (u .before .before .loop .inv) (u .before .loop-test .taken) (sym (u .at .ensures) ∙ c .if1 .taken)
+    rise-ends _ _ _ _ _ (u .before .before .loop .inv) (u .before .loop-test .taken) (sym (u .at .ensures)
+    ∙ c .if1 .taken)
 
 loop-again : tie.Need-loop-again Inv-loop μ-loop
 loop-again c =
     let u = c .before in
-    rw (u .at .ensures) (rise-on _ _ _ _ _ (u .before .before .loop .inv) (u .before .loop-test .taken) (λ q. c .if1 .left (u .at .ensures ∙ q)))
+    rw (u .at .ensures) (rise-on _ _ _ _ _ (u .before .before .loop .inv) (u .before .loop-test .taken)
+    (λ q. c .if1 .left (u .at .ensures ∙ q)))
 
 returns-2 : tie.Need-returns-2 Inv-loop μ-loop
 returns-2 c = rise-over _ _ _ _ _ (c .before .loop .inv) (c .loop-test .left)

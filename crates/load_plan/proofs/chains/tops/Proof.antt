@@ -17,14 +17,20 @@ abbrev μ-loop : tie.MeasureT-loop
 μ-loop units parents tops₀ v₀ tops v = units - v
 
 loop-again : tie.Need-loop-again Inv-loop μ-loop
-loop-again c = let s = c .before .before in (search needs, search needs, over-more _ _ _ _ _ _ (s .loop .inv .2) (c .top-of .ensures) refl)
+loop-again c = let s = c .before .before in (
+  search needs,
+  search needs,
+  over-more _ _ _ _ _ _ (s .loop .inv .2) (c .top-of .ensures) refl,
+)
 
 returns : tie.Need-returns Inv-loop μ-loop
 returns c =
     let s = c .before in
     let a = s .before .before .before .args in
-    let all = s .loop .inv .2 ∙ over-all _ _ (topOf (a .parents .now) (a .units)) (s .before .blank .result) (s .loop .inv .0) (c .loop-test .left) in
-    λ v h. rw all (getD-over (a .units) (topOf (a .parents .now) (a .units)) (s .before .blank .result) v 0 h (search needs))
+    let all = s .loop .inv .2 ∙ over-all _ _ (topOf (a .parents .now) (a .units)) (s .before .blank .result)
+    (s .loop .inv .0) (c .loop-test .left) in
+    λ v h. rw all (getD-over (a .units) (topOf (a .parents .now) (a .units)) (s .before .blank .result) v 0 h
+    (search needs))
 
 pub tops-spec : {M : Type 1} → statement M
 tops-spec =

@@ -14,8 +14,11 @@ abbrev μ-loop : tie.MeasureT-loop
 
 loop-holds : tie.Need-loop-holds Inv-loop μ-loop
 loop-holds c =
-    let a = c .before .before .before .args in
-    (search needs, marks-none (a .table .now) (a .parents .now) (c .no-marks .result) (search needs) (c .no-marks .ensures))
+    let a = c .before .before .before .args in (
+      search needs,
+      marks-none (a .table .now) (a .parents .now) (c .no-marks .result) (search needs)
+          (c .no-marks .ensures),
+    )
 
 loop-again : tie.Need-loop-again Inv-loop μ-loop
 loop-again c =
@@ -24,14 +27,18 @@ loop-again c =
     let b = one .before .before in
     let w = b .before in
     let s = w .before .before in
-    let a = s .before .before .before .before .args in
-    (search needs, marks-step (a .table .now) (a .parents .now) (s .loop .j) (s .loop .near) _ _ _ _ (s .loop .inv .1) (w .word .ensures) (b .word2 .ensures) (one .mark .ensures) (two .mark2 .ensures))
+    let a = s .before .before .before .before .args in (
+      search needs,
+      marks-step (a .table .now) (a .parents .now) (s .loop .j) (s .loop .near) _ _ _ _ (s .loop .inv .1)
+          (w .word .ensures) (b .word2 .ensures) (one .mark .ensures) (two .mark2 .ensures),
+    )
 
 returns : tie.Need-returns Inv-loop μ-loop
 returns c =
     let s = c .before in
     let a = s .before .before .before .before .args in
-    marks-all (a .table .now) (a .parents .now) (a .links) (s .loop .j) (s .loop .near) (s .loop .inv .1) (s .loop .inv .0) (c .loop-test .left)
+    marks-all (a .table .now) (a .parents .now) (a .links) (s .loop .j) (s .loop .near) (s .loop .inv .1)
+    (s .loop .inv .0) (c .loop-test .left)
 
 pub near-spec : {M : Type 1} → statement M
 near-spec =

@@ -11,15 +11,20 @@ use Rattle.one_way.proofs.labels.flood.Statement.{statement}
 use Rattle.one_way.proofs.labels.flood.Tie as tie
 
 abbrev Inv-loop : tie.InvT-loop
-Inv-loop forward links unit order key x₀ queue₀ head₀ end₀ x queue head end = (end ≤ 256) × (length x ≡ length x₀) × (length queue ≡ length queue₀) × Spread (Hears forward (Live links key)) x₀ x
+Inv-loop forward links unit order key x₀ queue₀ head₀ end₀ x queue head end =
+    (end ≤ 256) × (length x ≡ length x₀) × (length queue ≡ length queue₀) × Spread (Hears forward (Live links key)) x₀ x
 
 abbrev μ-loop : tie.MeasureT-loop
 μ-loop forward links unit order key x₀ queue₀ head₀ end₀ x queue head end = 256 - head
 
 loop-holds : tie.Need-loop-holds Inv-loop μ-loop
 loop-holds c =
-    let o = c .before .before .before .before .before .before .before .before .before .before .before in
-    (omega (arith, c .starts .ensures), search needs, search needs, spread-refl (Hears (o .args .forward) (Live (o .args .links .now) (o .args .key .now))) (o .args .x .now))
+    let o = c .before .before .before .before .before .before .before .before .before .before .before in (
+      omega (arith, c .starts .ensures),
+      search needs,
+      search needs,
+      spread-refl (Hears (o .args .forward) (Live (o .args .links .now) (o .args .key .now))) (o .args .x .now),
+    )
 
 relax-requires : tie.Need-relax-requires Inv-loop μ-loop
 relax-requires c κs =
@@ -31,8 +36,13 @@ loop-again : tie.Need-loop-again Inv-loop μ-loop
 loop-again c =
     let r = c .before .before .before .before in
     let s = r .before .before .before .before .before .before .before .before in
-    let o = s .before .before .before .before .before .before .before .before .before .before .before .before in
-    (r .relax .ensures .0, search needs, search needs, spread-trans (Hears (o .args .forward) (Live (o .args .links .now) (o .args .key .now))) (o .args .x .now) (s .loop .x) _ (s .loop .inv .3) (r .relax .ensures .1))
+    let o = s .before .before .before .before .before .before .before .before .before .before .before .before in (
+      r .relax .ensures .0,
+      search needs,
+      search needs,
+      spread-trans (Hears (o .args .forward) (Live (o .args .links .now) (o .args .key .now))) (o .args .x .now)
+          (s .loop .x) _ (s .loop .inv .3) (r .relax .ensures .1),
+    )
 
 pub flood-spec : {M : Type 1} → statement M
 flood-spec =

@@ -9,8 +9,11 @@ use Rattle.one_way.proofs.labels.hand.Tie as tie
 
 lowers-requires : tie.Need-lowers-requires
 lowers-requires c κs =
-    let o = c .before .before .before .before .before .before in
-    (omega (arith, o .pre .1 .ends (o .args .i) (omega arith), o .pre .1 .keys), omega (arith, o .pre .1 .ends (o .args .i + 1) (o .pre .0), o .pre .1 .keys), o .pre .1 .labels ∙ sym (o .pre .1 .keys))
+    let o = c .before .before .before .before .before .before in (
+      omega (arith, o .pre .1 .ends (o .args .i) (omega arith), o .pre .1 .keys),
+      omega (arith, o .pre .1 .ends (o .args .i + 1) (o .pre .0), o .pre .1 .keys),
+      o .pre .1 .labels ∙ sym (o .pre .1 .keys),
+    )
 
 returns : tie.Need-returns
 returns c =

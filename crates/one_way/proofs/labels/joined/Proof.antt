@@ -12,7 +12,11 @@ returns : tie.Need-returns
 returns c =
     let b = c .before in
     let o = b .before .before .before .before .before .before in
-    omega (arith, ltb-true (o .args .end) 256 (and-right (o .args .fell) (ltb (o .args .end) 256) (sym (b .both .ensures) ∙ c .if1 .taken)))
+    omega (
+      arith,
+      ltb-true (o .args .end) 256
+          (and-right (o .args .fell) (ltb (o .args .end) 256) (sym (b .both .ensures) ∙ c .if1 .taken)),
+    )
 
 pub joined-spec : {M : Type 1} → statement M
 joined-spec =

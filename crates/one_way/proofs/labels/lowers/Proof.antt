@@ -10,13 +10,23 @@ shared-slice-read-both-3 : tie.Need-shared-slice-read-both-3
 shared-slice-read-both-3 c =
     let ch = c .before .before .before .before in
     let o = ch .before .before .before in
-    omega (arith, ch .choose .ensures, giver-below (o .args .forward) (o .args .a) (o .args .b) _ (o .pre .0) (o .pre .1))
+    omega (
+      arith,
+      ch .choose .ensures,
+      giver-below (o .args .forward) (o .args .a) (o .args .b) _ (o .pre .0)
+          (o .pre .1),
+    )
 
 shared-slice-read-both-4 : tie.Need-shared-slice-read-both-4
 shared-slice-read-both-4 c =
     let ch = c .before .before .before .before in
     let o = ch .before .before .before .before in
-    omega (arith, ch .choose2 .ensures, giver-below (o .args .forward) (o .args .b) (o .args .a) _ (o .pre .1) (o .pre .0))
+    omega (
+      arith,
+      ch .choose2 .ensures,
+      giver-below (o .args .forward) (o .args .b) (o .args .a) _ (o .pre .1)
+          (o .pre .0),
+    )
 
 returns : tie.Need-returns
 returns c =

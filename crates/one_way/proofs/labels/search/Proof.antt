@@ -10,15 +10,21 @@ use Rattle.one_way.proofs.labels.search.Statement.{statement}
 use Rattle.one_way.proofs.labels.search.Tie as tie
 
 abbrev Inv-loop : tie.InvT-loop
-Inv-loop forward units links order key x₀ queue₀ unit₀ x queue unit = (unit ≤ units) × (length x ≡ length x₀) × (length queue ≡ 256) × Spread (Hears forward (Live links key)) x₀ x
+Inv-loop forward units links order key x₀ queue₀ unit₀ x queue unit =
+    (unit ≤ units) × (length x ≡ length x₀) × (length queue ≡ 256) × Spread (Hears forward (Live links key)) x₀ x
 
 abbrev μ-loop : tie.MeasureT-loop
 μ-loop forward units links order key x₀ queue₀ unit₀ x queue unit = units - unit
 
 loop-holds : tie.Need-loop-holds Inv-loop μ-loop
 loop-holds c =
-    let o = c .before .before .before .before in
-    (search needs, search needs, refl, spread-refl (Hears (o .args .forward) (Live (o .args .links .now) (o .args .key .now))) (o .args .x .now))
+    let o = c .before .before .before .before in (
+      search needs,
+      search needs,
+      refl,
+      spread-refl
+          (Hears (o .args .forward) (Live (o .args .links .now) (o .args .key .now))) (o .args .x .now),
+    )
 
 flood-requires : tie.Need-flood-requires Inv-loop μ-loop
 flood-requires c κs =
@@ -30,8 +36,13 @@ loop-again : tie.Need-loop-again Inv-loop μ-loop
 loop-again c =
     let f = c .before .before .before in
     let s = f .before .before .before .before in
-    let o = s .before .before .before .before .before in
-    (search needs, search needs, search needs, spread-trans (Hears (o .args .forward) (Live (o .args .links .now) (o .args .key .now))) (o .args .x .now) (s .loop .x) _ (s .loop .inv .3) (f .flood .ensures))
+    let o = s .before .before .before .before .before in (
+      search needs,
+      search needs,
+      search needs,
+      spread-trans (Hears (o .args .forward) (Live (o .args .links .now) (o .args .key .now))) (o .args .x .now)
+          (s .loop .x) _ (s .loop .inv .3) (f .flood .ensures),
+    )
 
 pub search-spec : {M : Type 1} → statement M
 search-spec =

@@ -18,8 +18,10 @@ abbrev μ-loop : tie.MeasureT-loop
 loop-holds : tie.Need-loop-holds Inv-loop μ-loop
 loop-holds c =
     let se = c .before .before in
-    let o = se .before .before .before .before .before .before in
-    (se .search .ensures .size ∙ o .pre .labels, spread-refl (Hears (o .args .forward) (Live (o .args .links .now) (o .args .key .now))) _)
+    let o = se .before .before .before .before .before .before in (
+      se .search .ensures .size ∙ o .pre .labels,
+      spread-refl (Hears (o .args .forward) (Live (o .args .links .now) (o .args .key .now))) _,
+    )
 
 falls-requires : tie.Need-falls-requires Inv-loop μ-loop
 falls-requires c κs =
@@ -40,23 +42,33 @@ loop-less c =
     let f = i .before in
     let s = f .before .before in
     let o = s .before .before .before .before .before .before .before .before .before in
-    sweep-less (o .args .forward) (o .args .links .now) (o .args .key .now) (s .loop .x) _ (o .pre .ends) (s .loop .inv .0) (sw .sweep .ensures) (sym (f .falls .ensures) ∙ i .if1 .taken)
+    sweep-less (o .args .forward) (o .args .links .now) (o .args .key .now) (s .loop .x) _ (o .pre .ends)
+    (s .loop .inv .0) (sw .sweep .ensures) (sym (f .falls .ensures) ∙ i .if1 .taken)
 
 loop-again : tie.Need-loop-again Inv-loop μ-loop
 loop-again c =
     let sw = c .before .before in
     let s = sw .before .before .before .before .before in
     let o = s .before .before .before .before .before .before .before .before .before in
-    let p = sweep-spread (o .args .forward) (o .args .links .now) (o .args .key .now) (s .loop .x) _ (o .pre .ends) (s .loop .inv .0) (sw .sweep .ensures) in
-    (p .size ∙ s .loop .inv .0, spread-trans (Hears (o .args .forward) (Live (o .args .links .now) (o .args .key .now))) _ (s .loop .x) _ (s .loop .inv .1) p)
+    let p = sweep-spread (o .args .forward) (o .args .links .now) (o .args .key .now) (s .loop .x) _ (o .pre .ends)
+    (s .loop .inv .0) (sw .sweep .ensures) in (
+      p .size ∙ s .loop .inv .0,
+      spread-trans
+          (Hears (o .args .forward) (Live (o .args .links .now) (o .args .key .now))) _ (s .loop .x) _
+          (s .loop .inv .1) p,
+    )
 
 returns : tie.Need-returns Inv-loop μ-loop
 returns c =
     let f = c .before in
     let s = f .before .before in
     let se = s .before .before .before in
-    let o = se .before .before .before .before .before .before in
-    (spread-trans (Hears (o .args .forward) (Live (o .args .links .now) (o .args .key .now))) (o .args .x .now) _ (s .loop .x) (se .search .ensures) (s .loop .inv .1), still-settled (o .args .forward) (o .args .links .now) (o .args .key .now) (s .loop .x) (sym (f .falls .ensures) ∙ c .if1 .left))
+    let o = se .before .before .before .before .before .before in (
+      spread-trans (Hears (o .args .forward) (Live (o .args .links .now) (o .args .key .now))) (o .args .x .now) _
+          (s .loop .x) (se .search .ensures) (s .loop .inv .1),
+      still-settled (o .args .forward) (o .args .links .now) (o .args .key .now) (s .loop .x) (sym (f .falls .ensures)
+          ∙ c .if1 .left),
+    )
 
 pub settle-spec : {M : Type 1} → statement M
 settle-spec =

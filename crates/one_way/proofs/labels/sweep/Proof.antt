@@ -9,7 +9,8 @@ use Rattle.one_way.proofs.labels.sweep.Statement.{statement}
 use Rattle.one_way.proofs.labels.sweep.Tie as tie
 
 abbrev Inv-loop : tie.InvT-loop
-Inv-loop forward links key x₀ i₀ x i = (i ≤ length links) × (length x ≡ length x₀) × (swept forward key links x₀ ≡ swept forward key (drop i links) x)
+Inv-loop forward links key x₀ i₀ x i = (i ≤ length links) × (length x ≡ length x₀)
+    × (swept forward key links x₀ ≡ swept forward key (drop i links) x)
 
 abbrev μ-loop : tie.MeasureT-loop
 μ-loop forward links key x₀ i₀ x i = length links - i
@@ -28,14 +29,20 @@ loop-again c =
     let h = c .before .before in
     let g = h .before .before in
     let s = g .before in
-    let o = s .before .before .before .before in
-    (search needs, search needs, s .loop .inv .2 ∙ (swept-next (o .args .forward) (o .args .key .now) (o .args .links .now) (s .loop .x) (s .loop .i) (g .loop-test .taken) ∙ rw (h .hand .ensures) refl))
+    let o = s .before .before .before .before in (
+      search needs,
+      search needs,
+      s .loop .inv .2
+          ∙ (swept-next (o .args .forward) (o .args .key .now) (o .args .links .now) (s .loop .x) (s .loop .i)
+          (g .loop-test .taken) ∙ rw (h .hand .ensures) refl),
+    )
 
 returns : tie.Need-returns Inv-loop μ-loop
 returns c =
     let s = c .before in
     let o = s .before .before .before .before in
-    sym (s .loop .inv .2 ∙ links-end (o .args .forward) (o .args .key .now) (o .args .links .now) (s .loop .x) (s .loop .i) (c .loop-test .left) .0)
+    sym (s .loop .inv .2 ∙ links-end (o .args .forward) (o .args .key .now) (o .args .links .now) (s .loop .x)
+    (s .loop .i) (c .loop-test .left) .0)
 
 pub sweep-spec : {M : Type 1} → statement M
 sweep-spec =

@@ -16,7 +16,8 @@ returns c =
     let se = c .before in
     let so = se .before .before in
     let o = so .before .before .before .before .before in
-    labels-least false (o .args .units) (o .args .links .now) (o .args .key .now) (source (o .args .f .now)) _ _ (o .pre .0) (so .sources .ensures) (se .settle .ensures)
+    labels-least false (o .args .units) (o .args .links .now) (o .args .key .now) (source (o .args .f .now)) _ _
+    (o .pre .0) (so .sources .ensures) (se .settle .ensures)
 
 pub backward-spec : {M : Type 1} → statement M
 backward-spec =

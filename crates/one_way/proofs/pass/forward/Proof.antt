@@ -16,7 +16,8 @@ returns c =
     let se = c .before in
     let ow = se .before .before in
     let o = ow .before .before .before .before in
-    labels-least true (o .args .units) (o .args .links .now) (o .args .key .now) (λ (v : ℕ). v) _ _ (o .pre .0) (ow .own .ensures) (se .settle .ensures)
+    labels-least true (o .args .units) (o .args .links .now) (o .args .key .now) (λ (v : ℕ). v) _ _ (o .pre .0)
+    (ow .own .ensures) (se .settle .ensures)
 
 pub forward-spec : {M : Type 1} → statement M
 forward-spec =

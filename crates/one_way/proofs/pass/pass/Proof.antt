@@ -8,7 +8,8 @@ use Rattle.one_way.proofs.pass.pass.Tie as tie
 
 rekey-requires : tie.Need-rekey-requires
 rekey-requires c κs =
-    let start = c .before .before .before .before .before .before .before .before .before .before .before .before .before .before .before .before .before .before .before in
+    let start = c .before .before .before .before .before .before .before .before .before .before .before
+    .before .before .before .before .before .before .before .before in
     omega (arith, start .pre .0 .few, start .pre .1)
 
 returns : tie.Need-returns
@@ -18,8 +19,11 @@ returns c =
     let at-forward = at-backward .before .before .before in
     let start = at-forward .before .before .before .before .before .before .before in
     let site = start .pre .0 in
-    passed (start .args .units) (start .args .links .now) (start .args .key .now) (at-forward .forward .result) (at-backward .backward .result) (site .few) (omega (arith, site .few, start .pre .1)) (ends-within (start .args .units) (start .args .links .now) (site .ends)) (site .loopless)
-    (at-forward .forward .ensures) (at-backward .backward .ensures) (start .args .out .now) _ _ (search needs) (at-mark .mark .ensures) (c .before .before .rekey .ensures)
+    passed (start .args .units) (start .args .links .now) (start .args .key .now) (at-forward .forward .result)
+    (at-backward .backward .result) (site .few) (omega (arith, site .few, start .pre .1))
+    (ends-within (start .args .units) (start .args .links .now) (site .ends)) (site .loopless)
+    (at-forward .forward .ensures) (at-backward .backward .ensures) (start .args .out .now) _ _ (search needs)
+    (at-mark .mark .ensures) (c .before .before .rekey .ensures)
 
 pub pass-spec : {M : Type 1} → statement M
 pass-spec =

@@ -23,14 +23,20 @@ loop-again c =
     let w = c .before in
     let wo = w .before in
     let s = wo .before .before in
-    let o = s .before .before .before .before in
-    (search needs, search needs, over-more (s .loop .v) (keyOf (o .args .f .now) (o .args .b .now)) (o .args .key .now) (s .loop .key) _ (c .key-of .result) (s .loop .inv .2) (rw (c .key-of .ensures, wo .word .ensures, w .word2 .ensures) refl) refl)
+    let o = s .before .before .before .before in (
+      search needs,
+      search needs,
+      over-more (s .loop .v) (keyOf (o .args .f .now) (o .args .b .now)) (o .args .key .now)
+          (s .loop .key) _ (c .key-of .result) (s .loop .inv .2)
+          (rw (c .key-of .ensures, wo .word .ensures, w .word2 .ensures) refl) refl,
+    )
 
 returns : tie.Need-returns Inv-loop μ-loop
 returns c =
     let s = c .before in
     let o = s .before .before .before .before in
-    s .loop .inv .2 ∙ over-all (s .loop .v) (o .args .units) (keyOf (o .args .f .now) (o .args .b .now)) (o .args .key .now) (search needs) (search needs)
+    s .loop .inv .2 ∙ over-all (s .loop .v) (o .args .units) (keyOf (o .args .f .now) (o .args .b .now))
+    (o .args .key .now) (search needs) (search needs)
 
 pub rekey-spec : {M : Type 1} → statement M
 rekey-spec =

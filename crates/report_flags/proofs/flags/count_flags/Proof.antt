@@ -18,8 +18,16 @@ abbrev μ-loop : tie.MeasureT-loop
 
 loop-again : tie.Need-loop-again Inv-loop μ-loop
 loop-again c =
-    let s = c .before .before .before in
-    (search needs, search needs, rw (add-one (s .loop .i), c .one-if .ensures .0, c .before .byte .ensures, s .loop .inv .2) refl)
+    let s = c .before .before .before in (
+      search needs,
+      search needs,
+      rw (
+        add-one (s .loop .i),
+        c .one-if .ensures .0,
+        c .before .byte .ensures,
+        s .loop .inv .2,
+      ) refl,
+    )
 
 returns : tie.Need-returns Inv-loop μ-loop
 returns c =

@@ -4,7 +4,11 @@ use Rattle.report_flags.proofs.links.count_in.Statement.{statement}
 use Rattle.report_flags.proofs.links.count_in.Tie as tie
 
 returns : tie.Need-returns
-returns c = rw (c .before .before .put .ensures, c .before .before .before .before .wrapping-add-u16 .ensures, c .before .before .before .before .before .word .ensures)
+returns c = rw (
+  c .before .before .put .ensures,
+  c .before .before .before .before .wrapping-add-u16 .ensures,
+  c .before .before .before .before .before .word .ensures,
+)
 
 pub count-in-spec : {M : Type 1} → statement M
 count-in-spec =

@@ -2,13 +2,15 @@
 use mathlib.Core.Path.{_≡_, sym, _∙_}
 use Prim.Native.Nat.{_≤_, _-_}
 use native.Mathlib.Omega.{arith}
-use Rattle.report_flags.specs.Sharing.{sharing, sharing-none, sharing-more, sharing-other, Shared, shared-more, shared-other}
+use Rattle.report_flags.specs.Sharing.{sharing, sharing-none, sharing-more, sharing-other, Shared, shared-more}
+use Rattle.report_flags.specs.Sharing.{shared-other}
 use borrow.Author.Needs.{needs}
 use Rattle.report_flags.proofs.links.count_labels.Statement.{statement}
 use Rattle.report_flags.proofs.links.count_labels.Tie as tie
 
 abbrev Inv-loop : tie.InvT-loop
-Inv-loop links label bucket₀ absent₀ k₀ bucket absent k = (k ≤ links) × (absent ≤ k) × (absent ≡ sharing k label 65535) × Shared k label bucket
+Inv-loop links label bucket₀ absent₀ k₀ bucket absent k =
+    (k ≤ links) × (absent ≤ k) × (absent ≡ sharing k label 65535) × Shared k label bucket
 
 abbrev μ-loop : tie.MeasureT-loop
 μ-loop links label bucket₀ absent₀ k₀ bucket absent k = links - k
@@ -24,8 +26,12 @@ loop-again c =
     let is = c .before .before .before .before .before .word .ensures in (
       search needs,
       search needs,
-      s .loop .inv .2 ∙ sharing-other k (a .label .now) 65535 (λ e. omega (arith, e, is, c .before .before .before .before .if1 .taken)),
-      rw (c .before .before .count-in .ensures, is) (shared-more k (a .label .now) (s .loop .bucket) (s .loop .inv .3) (omega arith)),
+      s .loop .inv .2 ∙ sharing-other k (a .label .now) 65535
+          (λ e. omega (arith, e, is, c .before .before .before .before .if1 .taken)),
+      rw (
+        c .before .before .count-in .ensures,
+        is,
+      ) (shared-more k (a .label .now) (s .loop .bucket) (s .loop .inv .3) (omega arith)),
     )
 
 loop-again-2 : tie.Need-loop-again-2 Inv-loop μ-loop

@@ -12,7 +12,8 @@ use Rattle.report_flags.proofs.links.lones.Statement.{statement}
 use Rattle.report_flags.proofs.links.lones.Tie as tie
 
 abbrev Inv-loop : tie.InvT-loop
-Inv-loop links label bucket absent table₀ j₀ table j = (j ≤ links) × (length table ≡ 1024) × (table ≡ flagTable 1024 j (lone links label))
+Inv-loop links label bucket absent table₀ j₀ table j =
+    (j ≤ links) × (length table ≡ 1024) × (table ≡ flagTable 1024 j (lone links label))
 
 abbrev μ-loop : tie.MeasureT-loop
 μ-loop links label bucket absent table₀ j₀ table j = links - j
@@ -39,7 +40,8 @@ loop-again c =
         c .before .before .before .flag .ensures,
         c .before .before .before .before .look-up .ensures,
         c .before .before .before .before .before .before .word .ensures,
-        lookup-lone (a .links) (a .label .now) (counts .last .1 .1 .0) (counts .ensures .0) (counts .result) (counts .ensures .1) j,
+        lookup-lone (a .links) (a .label .now) (counts .last .1 .1 .0) (counts .ensures .0) (counts .result)
+            (counts .ensures .1) j,
         s .loop .inv .2,
       ) (flags-more 1024 j p (cond (p j) 1 0) (λ _. refl)),
     )

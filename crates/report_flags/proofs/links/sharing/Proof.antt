@@ -20,8 +20,15 @@ loop-holds c =
 loop-again : tie.Need-loop-again Inv-loop μ-loop
 loop-again c =
     let s = c .before .before .before in
-    let a = s .before .before .args in
-    (search needs, search needs, rw (c .one-if .ensures .0, c .before .word .ensures, s .loop .inv .2) (sharing-more (s .loop .k) (a .label .now) (a .x)))
+    let a = s .before .before .args in (
+      search needs,
+      search needs,
+      rw (
+        c .one-if .ensures .0,
+        c .before .word .ensures,
+        s .loop .inv .2,
+      ) (sharing-more (s .loop .k) (a .label .now) (a .x)),
+    )
 
 returns : tie.Need-returns Inv-loop μ-loop
 returns c =

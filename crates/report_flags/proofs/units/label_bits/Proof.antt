@@ -23,7 +23,14 @@ loop-again c =
     let s = c .before .before .before .before .before in
     let a = s .before .before .before .before .args in (
       search needs,
-      rw (c .op .ensures, c .before .choose .ensures, c .before .before .label-of .ensures, c .before .before .before .touches .ensures, s .before .start .ensures, s .loop .inv .1)
+      rw (
+        c .op .ensures,
+        c .before .choose .ensures,
+        c .before .before .label-of .ensures,
+        c .before .before .before .touches .ensures,
+        s .before .start .ensures,
+        s .loop .inv .1,
+      )
           (labelBits-more (a .any) (s .loop .j) (a .ends .now) (a .label .now) (a .u)),
     )
 

@@ -9,7 +9,8 @@ use Rattle.report_flags.proofs.units.label_tables.Statement.{statement}
 use Rattle.report_flags.proofs.units.label_tables.Tie as tie
 
 abbrev Inv-loop : tie.InvT-loop
-Inv-loop links ends label low₀ high₀ j₀ low high j = (j ≤ links) × BitTable false j ends label low × BitTable true j ends label high
+Inv-loop links ends label low₀ high₀ j₀ low high j =
+    (j ≤ links) × BitTable false j ends label low × BitTable true j ends label high
 
 abbrev μ-loop : tie.MeasureT-loop
 μ-loop links ends label low₀ high₀ j₀ low high j = links - j
@@ -19,8 +20,10 @@ loop-again c =
     let s = c .before .before .before .before .before .before .before .before .before in
     let a = s .before .before .before .before .before .args in (
       search needs,
-      rw (c .before .before .before .before .before .before .take-link .ensures) (bits-more false (s .loop .j) (a .ends .now) (a .label .now) (s .loop .low) (s .loop .inv .1)),
-      rw (c .before .before .take-link2 .ensures) (bits-more true (s .loop .j) (a .ends .now) (a .label .now) (s .loop .high) (s .loop .inv .2)),
+      rw (c .before .before .before .before .before .before .take-link .ensures)
+          (bits-more false (s .loop .j) (a .ends .now) (a .label .now) (s .loop .low) (s .loop .inv .1)),
+      rw (c .before .before .take-link2 .ensures)
+          (bits-more true (s .loop .j) (a .ends .now) (a .label .now) (s .loop .high) (s .loop .inv .2)),
     )
 
 returns : tie.Need-returns Inv-loop μ-loop

@@ -12,7 +12,8 @@ use Rattle.report_flags.proofs.units.singles.Statement.{statement}
 use Rattle.report_flags.proofs.units.singles.Tie as tie
 
 abbrev Inv-loop : tie.InvT-loop
-Inv-loop units links ends label low high table₀ u₀ table u = (u ≤ units) × (length table ≡ 256) × (table ≡ flagTable 256 u (single links ends label))
+Inv-loop units links ends label low high table₀ u₀ table u =
+    (u ≤ units) × (length table ≡ 256) × (table ≡ flagTable 256 u (single links ends label))
 
 abbrev μ-loop : tie.MeasureT-loop
 μ-loop units links ends label low high table₀ u₀ table u = units - u
@@ -35,12 +36,19 @@ loop-again c =
     let u = s .loop .u in (
       omega (arith, c .before .before .before .before .before .before .before .before .loop-test .taken),
       search needs,
-      rw (c .before .put-byte .ensures, c .before .before .before .flag .ensures, c .before .before .before .before .word2 .ensures, c .before .before .before .before .before .before .word .ensures, s .loop .inv .2)
+      rw (
+        c .before .put-byte .ensures,
+        c .before .before .before .flag .ensures,
+        c .before .before .before .before .word2 .ensures,
+        c .before .before .before .before .before .before .word .ensures,
+        s .loop .inv .2,
+      )
           (flags-more 256 u (single (a .links) (a .ends .now) (a .label .now)) _
           (λ h. rw (
             e .label-tables .ensures .0 .known u h,
             e .label-tables .ensures .1 .known u h,
-            single-bits (a .links) (a .ends .now) (a .label .now) u (λ i. omega (arith, e .before .before .before .shared-slice-known2 .given i)),
+            single-bits (a .links) (a .ends .now) (a .label .now) u
+                (λ i. omega (arith, e .before .before .before .shared-slice-known2 .given i)),
           ))),
     )
 

@@ -17,7 +17,14 @@ returns : tie.Need-returns
 returns c =
     let s = c .before .before .before .before .before in
     let b = s .args .b in
-    rw (c .before .low-byte .ensures, c .high-byte .ensures, s .pre .0, pair-at b (omega arith), pair-first b (omega arith), pair-second b (omega arith))
+    rw (
+      c .before .low-byte .ensures,
+      c .high-byte .ensures,
+      s .pre .0,
+      pair-at b (omega arith),
+      pair-first b (omega arith),
+      pair-second b (omega arith),
+    )
     (hex-stored (s .args .at) b (s .args .out .now))
 
 pub put-spec : {M : Type 1} → statement M

@@ -19,10 +19,20 @@ loop-holds : tie.Need-loop-holds Inv-loop μ-loop
 loop-holds c = (search needs, pairs-none)
 
 array-write-pairs : tie.Need-array-write-pairs Inv-loop μ-loop
-array-write-pairs c = omega (arith, ap length (c .before .before .loop .inv .1) ∙ length-pairs (c .before .before .loop .b))
+array-write-pairs c = omega (
+  arith,
+  ap length (c .before .before .loop .inv .1)
+      ∙ length-pairs (c .before .before .loop .b),
+)
 
 loop-again : tie.Need-loop-again Inv-loop μ-loop
-loop-again c = (search needs, rw (c .before .before .loop .inv .1, c .pair .ensures) (pairs-more (c .before .before .loop .b)))
+loop-again c = (
+  search needs,
+  rw (
+    c .before .before .loop .inv .1,
+    c .pair .ensures,
+  ) (pairs-more (c .before .before .loop .b)),
+)
 
 returns : tie.Need-returns Inv-loop μ-loop
 returns c = c .before .loop .inv .1 ∙ ap pairsTo (le-antisymm (c .before .loop .inv .0) (c .loop-test .left))

@@ -9,7 +9,8 @@ returns c =
     let l = c .before in
     let p = l .before in
     let a = p .before .args in
-    label-sum (a .position) (a .label) (a .lone) (p .with-word .result) (l .with-word2 .result) (c .with-byte .result) (p .with-word .ensures) (l .with-word2 .ensures) (c .with-byte .ensures)
+    label-sum (a .position) (a .label) (a .lone) (p .with-word .result) (l .with-word2 .result) (c .with-byte .result)
+    (p .with-word .ensures) (l .with-word2 .ensures) (c .with-byte .ensures)
 
 pub label-sum-spec : {M : Type 1} → statement M
 label-sum-spec =

@@ -11,8 +11,10 @@ returns c =
     let o = p .before in
     let u = o .before in
     let a = u .before .args in
-    unit-sum (a .unit) (a .color) (a .parent) (a .place) (a .single) (u .with-word .result) (o .with-word2 .result) (p .with-word3 .result) (d .with-word4 .result) (c .with-byte .result)
-    (u .with-word .ensures) (o .with-word2 .ensures) (p .with-word3 .ensures) (d .with-word4 .ensures) (c .with-byte .ensures)
+    unit-sum (a .unit) (a .color) (a .parent) (a .place) (a .single) (u .with-word .result) (o .with-word2 .result)
+    (p .with-word3 .result) (d .with-word4 .result) (c .with-byte .result)
+    (u .with-word .ensures) (o .with-word2 .ensures) (p .with-word3 .ensures) (d .with-word4 .ensures)
+    (c .with-byte .ensures)
 
 pub unit-sum-spec : {M : Type 1} → statement M
 unit-sum-spec =

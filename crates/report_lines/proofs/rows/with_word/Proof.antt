@@ -10,7 +10,8 @@ returns : tie.Need-returns
 returns c =
     let a = c .before .before .before .before .args in
     let first = c .before .before .with-byte in
-    word-sum (a .sum) (a .w) (first .result) (c .with-byte2 .result) (first .ensures ∙ ap (λ (b : ℕ). (a .sum + b) % 256) (c .before .before .before .high-byte .ensures))
+    word-sum (a .sum) (a .w) (first .result) (c .with-byte2 .result) (first .ensures
+    ∙ ap (λ (b : ℕ). (a .sum + b) % 256) (c .before .before .before .high-byte .ensures))
     (c .with-byte2 .ensures ∙ ap (λ (b : ℕ). (first .result + b) % 256) (c .before .low-byte .ensures))
 
 pub with-word-spec : {M : Type 1} → statement M

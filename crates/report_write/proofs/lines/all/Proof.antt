@@ -13,7 +13,8 @@ returns c =
     let link = at-link-part .link-part .ensures in
     let unit = at-unit-part .unit-part .ensures in
     let a = start .args in
-    parts-down (a .units) (a .links) (a .rounds) (a .requests) (a .ends .now) (a .label .now) (a .color .now) (a .parent .now) (a .place .now) (a .out .now) _ _ _ _ _ _
+    parts-down (a .units) (a .links) (a .rounds) (a .requests) (a .ends .now) (a .label .now) (a .color .now)
+    (a .parent .now) (a .place .now) (a .out .now) _ _ _ _ _ _
     (at-head-line .head-line .ensures) (unit .1) (link .1) (c .before .before .tail-line .ensures) (unit .0) (link .0)
 
 pub all-spec : {M : Type 1} → statement M

@@ -8,8 +8,11 @@ use Rattle.report_write.proofs.lines.link_part.Tie as tie
 returns : tie.Need-returns
 returns c =
     let a = c .before .before .before .before .before .before .before .before .before .before in
-    let lones = c .before .before .before .before .before .before .before .lones .ensures in
-    (rw (c .count-flags .ensures, lones) (flags-count 1024 (a .args .links) (lone (a .args .links) (a .args .label .now)) (a .pre)), rw (c .before .before .before .before .link-lines .ensures, lones))
+    let lones = c .before .before .before .before .before .before .before .lones .ensures in (
+      rw (c .count-flags .ensures, lones)
+          (flags-count 1024 (a .args .links) (lone (a .args .links) (a .args .label .now)) (a .pre)),
+      rw (c .before .before .before .before .link-lines .ensures, lones),
+    )
 
 pub link-part-spec : {M : Type 1} → statement M
 link-part-spec =

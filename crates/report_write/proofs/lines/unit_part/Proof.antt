@@ -10,8 +10,12 @@ returns c =
     let at-unit-lines = c .before .before .before .before in
     let at-singles = at-unit-lines .before .before .before in
     let start = at-singles .before .before .before .before .before .before .before in
-    let singles = at-singles .singles .ensures in
-    (rw (c .count-flags .ensures, singles) (flags-count 256 (start .args .units) (single (start .args .links) (start .args .ends .now) (start .args .label .now)) (start .pre)), rw (at-unit-lines .unit-lines .ensures, singles))
+    let singles = at-singles .singles .ensures in (
+      rw (c .count-flags .ensures, singles)
+          (flags-count 256 (start .args .units)
+          (single (start .args .links) (start .args .ends .now) (start .args .label .now)) (start .pre)),
+      rw (at-unit-lines .unit-lines .ensures, singles),
+    )
 
 pub unit-part-spec : {M : Type 1} → statement M
 unit-part-spec =

@@ -7,7 +7,8 @@ use Rattle.ring_order.proofs.tree.chain.Statement.{statement}
 use Rattle.ring_order.proofs.tree.chain.Tie as tie
 
 abbrev Inv-loop : tie.InvT-loop
-Inv-loop links ends last₀ next₀ total i₀ last next i = (i ≤ total) × (length last ≡ length last₀) × (length next ≡ length next₀)
+Inv-loop links ends last₀ next₀ total i₀ last next i =
+    (i ≤ total) × (length last ≡ length last₀) × (length next ≡ length next₀)
 
 abbrev μ-loop : tie.MeasureT-loop
 μ-loop links ends last₀ next₀ total i₀ last next i = total - i

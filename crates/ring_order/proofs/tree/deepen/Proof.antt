@@ -23,7 +23,13 @@ returns : tie.Need-returns Inv-loop μ-loop
 returns c = c .before .before .before .before .before .loop .inv .4
 
 loop-again : tie.Need-loop-again Inv-loop μ-loop
-loop-again c = (search needs, search needs, search needs, search needs, c .before .before .before .before .before .before .before .loop .inv .4)
+loop-again c = (
+  search needs,
+  search needs,
+  search needs,
+  search needs,
+  c .before .before .before .before .before .before .before .loop .inv .4,
+)
 
 loop-again-2 : tie.Need-loop-again-2 Inv-loop μ-loop
 loop-again-2 c =
@@ -38,7 +44,9 @@ loop-again-2 c =
       at-store .store .kept .0 ∙ s .inv .1,
       at-reach .reach .kept .1 .1 .1 .1 .1 .0 ∙ s .inv .2,
       at-reach .reach .kept .1 .1 .1 .1 .1 .1 .0 ∙ s .inv .3,
-      spanned-more (sure (a .marks .now)) (a .links) (a .ends .now) ((at-at .at .result - 1) / 2) (a .parent .now) (a .seq .now) 2 (s .parent) (s .seq) (s .count) (at-reach .reach .last .1 .1 .1 .1 .1 .0) (at-reach .reach .last .1 .1 .1 .1 .1 .1 .0) (at-reach .reach .result) (s .inv .4) (at-reach .reach .ensures),
+      spanned-more (sure (a .marks .now)) (a .links) (a .ends .now) ((at-at .at .result - 1) / 2) (a .parent .now)
+          (a .seq .now) 2 (s .parent) (s .seq) (s .count) (at-reach .reach .last .1 .1 .1 .1 .1 .0)
+          (at-reach .reach .last .1 .1 .1 .1 .1 .1 .0) (at-reach .reach .result) (s .inv .4) (at-reach .reach .ensures),
     )
 
 returns-2 : tie.Need-returns-2 Inv-loop μ-loop

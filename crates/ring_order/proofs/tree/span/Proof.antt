@@ -15,7 +15,12 @@ returns c =
     let at-store = at-store2 .before .before .before .before in
     let start = at-store .before .before .before .before .before .before .before .before in
     let a = start .args in
-    rooted (sure (a .marks .now)) (a .links) (a .ends .now) (a .a) (a .b) (a .parent .now) (at-store .store .last .0) (at-store2 .store2 .last .0) (a .seq .now) (at-store3 .store3 .last .0) (at-store4 .store4 .last .0) (at-deepen .deepen .last .1 .1 .1 .1 .1 .1 .1 .0) (at-deepen .deepen .last .1 .1 .1 .1 .1 .1 .1 .1 .0) (at-deepen .deepen .result) (at-fill .fill .last .1 .1 .1 .1 .0) (at-fill .fill .last .1 .1 .1 .1 .1 .0) (at-fill .fill .result) (at-store .store .ensures) (at-store2 .store2 .ensures) (at-store3 .store3 .ensures) (at-store4 .store4 .ensures) (at-deepen .deepen .ensures) (at-fill .fill .ensures)
+    rooted (sure (a .marks .now)) (a .links) (a .ends .now) (a .a) (a .b) (a .parent .now) (at-store .store .last .0)
+    (at-store2 .store2 .last .0) (a .seq .now) (at-store3 .store3 .last .0) (at-store4 .store4 .last .0)
+    (at-deepen .deepen .last .1 .1 .1 .1 .1 .1 .1 .0) (at-deepen .deepen .last .1 .1 .1 .1 .1 .1 .1 .1 .0)
+    (at-deepen .deepen .result) (at-fill .fill .last .1 .1 .1 .1 .0) (at-fill .fill .last .1 .1 .1 .1 .1 .0)
+    (at-fill .fill .result) (at-store .store .ensures) (at-store2 .store2 .ensures) (at-store3 .store3 .ensures)
+    (at-store4 .store4 .ensures) (at-deepen .deepen .ensures) (at-fill .fill .ensures)
 
 pub span-spec : {M : Type 1} → statement M
 span-spec =

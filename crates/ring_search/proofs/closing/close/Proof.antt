@@ -16,9 +16,14 @@ returns c =
     let at-steps = at-steps2 .before in
     let start = at-steps .before .before .before .before in
     let a = start .args in
-    closed-row (a .units) (a .low .now) (a .high .now) (a .a) (a .b) (a .c) (a .d) (a .out .now) (at-store .store .last .0) (at-store2 .store2 .last .0) (at-lay .lay .last .1 .1 .1 .1 .1 .1 .0) (at-lay2 .lay2 .last .1 .1 .1 .1 .1 .1 .0)
-    (at-steps .steps .result) (at-steps2 .steps2 .result) (at-bounded-sum .bounded-sum .result) (at-bounded-sum2 .bounded-sum2 .result) (c .bounded-sum3 .result) (at-steps .steps .ensures) (at-steps2 .steps2 .ensures) (at-store .store .ensures) (at-store2 .store2 .ensures)
-    (at-bounded-sum .bounded-sum .ensures) (at-lay .lay .ensures) (at-bounded-sum2 .bounded-sum2 .ensures) (at-lay2 .lay2 .ensures) (c .bounded-sum3 .ensures)
+    closed-row (a .units) (a .low .now) (a .high .now) (a .a) (a .b) (a .c) (a .d) (a .out .now)
+    (at-store .store .last .0) (at-store2 .store2 .last .0) (at-lay .lay .last .1 .1 .1 .1 .1 .1 .0)
+    (at-lay2 .lay2 .last .1 .1 .1 .1 .1 .1 .0)
+    (at-steps .steps .result) (at-steps2 .steps2 .result) (at-bounded-sum .bounded-sum .result)
+    (at-bounded-sum2 .bounded-sum2 .result) (c .bounded-sum3 .result) (at-steps .steps .ensures)
+    (at-steps2 .steps2 .ensures) (at-store .store .ensures) (at-store2 .store2 .ensures)
+    (at-bounded-sum .bounded-sum .ensures) (at-lay .lay .ensures) (at-bounded-sum2 .bounded-sum2 .ensures)
+    (at-lay2 .lay2 .ensures) (c .bounded-sum3 .ensures)
 
 pub close-spec : {M : Type 1} → statement M
 close-spec =

@@ -11,7 +11,8 @@ use Rattle.ring_search.proofs.closing.lean_one.Tie as tie
 returns : tie.Need-returns
 returns c =
     let a = c .before .before .before .before .before .before .before .args in
-    leans-skip (sure (a .marks .now)) (a .ends .now) (a .pos .now) (a .j) (a .low .now) (a .high .now) (sym (c .before .within .ensures) ∙ not-true _ (c .if1 .taken))
+    leans-skip (sure (a .marks .now)) (a .ends .now) (a .pos .now) (a .j) (a .low .now) (a .high .now)
+    (sym (c .before .within .ensures) ∙ not-true _ (c .if1 .taken))
 
 returns-2 : tie.Need-returns-2
 returns-2 c =
@@ -26,9 +27,14 @@ returns-2 c =
     let at-within = at-if1 .before in
     let start = at-within .before .before .before .before .before .before in
     let a = start .args in
-    leans-store (sure (a .marks .now)) (a .ends .now) (a .pos .now) (a .j) (a .low .now) (a .high .now) (at-store .store .last .0) (c .before .before .store2 .last .0)
-    (at-end-a .end-a .result) (at-end-b .end-b .result) (at-at .at .result) (at-at2 .at2 .result) (at-choose .choose .result) (at-choose2 .choose2 .result) _ (sym (at-within .within .ensures) ∙ not-false _ (at-if1 .if1 .left))
-    (at-end-a .end-a .ensures) (at-end-b .end-b .ensures) (at-at .at .ensures) (at-at2 .at2 .ensures) refl (at-choose .choose .ensures) (at-choose2 .choose2 .ensures) (at-store .store .ensures) (c .before .before .store2 .ensures)
+    leans-store (sure (a .marks .now)) (a .ends .now) (a .pos .now) (a .j) (a .low .now) (a .high .now)
+    (at-store .store .last .0) (c .before .before .store2 .last .0)
+    (at-end-a .end-a .result) (at-end-b .end-b .result) (at-at .at .result) (at-at2 .at2 .result)
+    (at-choose .choose .result) (at-choose2 .choose2 .result) _ (sym (at-within .within .ensures)
+    ∙ not-false _ (at-if1 .if1 .left))
+    (at-end-a .end-a .ensures) (at-end-b .end-b .ensures) (at-at .at .ensures) (at-at2 .at2 .ensures) refl
+    (at-choose .choose .ensures) (at-choose2 .choose2 .ensures) (at-store .store .ensures)
+    (c .before .before .store2 .ensures)
 
 pub lean-one-spec : {M : Type 1} → statement M
 lean-one-spec =

@@ -26,8 +26,11 @@ returns c = inr (c .before .before .loop-test .taken, sym (c .before .serves .en
 loop-again : tie.Need-loop-again Inv-loop μ-loop
 loop-again c =
     let s = c .before .before .before .loop in
-    let a = c .before .before .before .before .before .before .before .args in
-    (search needs, second-more (serves (sure (a .marks .now)) (a .ends .now) (a .pos .now) (a .i) (a .j)) (s .k) (s .inv .1) (sym (c .before .serves .ensures) ∙ c .if1 .left))
+    let a = c .before .before .before .before .before .before .before .args in (
+      search needs,
+      second-more (serves (sure (a .marks .now)) (a .ends .now) (a .pos .now) (a .i) (a .j)) (s .k)
+          (s .inv .1) (sym (c .before .serves .ensures) ∙ c .if1 .left),
+    )
 
 returns-2 : tie.Need-returns-2 Inv-loop μ-loop
 returns-2 c = inl (refl, λ q h. c .before .loop .inv .1 q (omega (arith, c .loop-test .left)))

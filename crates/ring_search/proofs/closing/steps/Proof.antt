@@ -12,7 +12,9 @@ use Rattle.ring_search.proofs.closing.steps.Statement.{statement}
 use Rattle.ring_search.proofs.closing.steps.Tie as tie
 
 abbrev Inv-loop : tie.InvT-loop
-Inv-loop limit next stop v u₀ k₀ u k = (k ≤ limit) × (length (chain (at next) (λ (z : ℕ). eqb z stop) limit v) ≡ k + length (chain (at next) (λ (z : ℕ). eqb z stop) (limit - k) u))
+Inv-loop limit next stop v u₀ k₀ u k = (k ≤ limit)
+    × (length (chain (at next) (λ (z : ℕ). eqb z stop) limit v)
+    ≡ k + length (chain (at next) (λ (z : ℕ). eqb z stop) (limit - k) u))
 
 abbrev μ-loop : tie.MeasureT-loop
 μ-loop limit next stop v u₀ k₀ u k = limit - k
@@ -26,19 +28,25 @@ returns : tie.Need-returns Inv-loop μ-loop
 returns c =
     let s = c .before .before .loop in
     let a = c .before .before .before .before .args in
-    chain-stop (at (a .next .now)) (λ (z : ℕ). eqb z (a .stop)) (a .limit) (s .k) (a .v) (s .u) (eq-eqb (s .u) (a .stop) (c .if1 .taken)) (s .inv .1)
+    chain-stop (at (a .next .now)) (λ (z : ℕ). eqb z (a .stop)) (a .limit) (s .k) (a .v) (s .u)
+    (eq-eqb (s .u) (a .stop) (c .if1 .taken)) (s .inv .1)
 
 loop-again : tie.Need-loop-again Inv-loop μ-loop
 loop-again c =
     let s = c .before .before .before .loop in
-    let a = c .before .before .before .before .before .args in
-    (search needs, rw (c .at .ensures) (chain-turn (at (a .next .now)) (λ (z : ℕ). eqb z (a .stop)) (a .limit) (s .k) (a .v) (s .u) (c .before .before .loop-test .taken) (ne-eqb (s .u) (a .stop) (c .before .if1 .left)) (s .inv .1)))
+    let a = c .before .before .before .before .before .args in (
+      search needs,
+      rw (c .at .ensures) (chain-turn (at (a .next .now)) (λ (z : ℕ). eqb z (a .stop)) (a .limit) (s .k)
+          (a .v) (s .u) (c .before .before .loop-test .taken) (ne-eqb (s .u) (a .stop) (c .before .if1 .left))
+          (s .inv .1)),
+    )
 
 returns-2 : tie.Need-returns-2 Inv-loop μ-loop
 returns-2 c =
     let s = c .before .loop in
     let a = c .before .before .before .args in
-    chain-full (at (a .next .now)) (λ (z : ℕ). eqb z (a .stop)) (a .limit) (s .k) (a .v) (s .u) (c .loop-test .left) (s .inv .1)
+    chain-full (at (a .next .now)) (λ (z : ℕ). eqb z (a .stop)) (a .limit) (s .k) (a .v) (s .u) (c .loop-test .left)
+    (s .inv .1)
 
 pub steps-spec : {M : Type 1} → statement M
 steps-spec =

@@ -5,7 +5,15 @@ use Rattle.ring_search.proofs.closing.within.Statement.{statement}
 use Rattle.ring_search.proofs.closing.within.Tie as tie
 
 returns : tie.Need-returns
-returns c = rw (c .both2 .ensures, c .before .before .counts .ensures, c .before .both .ensures, c .before .before .before .before .before .on .ensures, c .before .before .before .on2 .ensures, c .before .before .before .before .before .before .end-a .ensures, c .before .before .before .before .end-b .ensures) refl
+returns c = rw (
+  c .both2 .ensures,
+  c .before .before .counts .ensures,
+  c .before .both .ensures,
+  c .before .before .before .before .before .on .ensures,
+  c .before .before .before .on2 .ensures,
+  c .before .before .before .before .before .before .end-a .ensures,
+  c .before .before .before .before .end-b .ensures,
+) refl
 
 pub within-spec : {M : Type 1} → statement M
 within-spec =

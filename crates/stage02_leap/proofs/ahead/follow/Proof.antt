@@ -7,7 +7,8 @@ use Rattle.stage02_leap.proofs.ahead.follow.Statement.{statement}
 use Rattle.stage02_leap.proofs.ahead.follow.Tie as tie
 
 abbrev Inv-loop : tie.InvT-loop
-Inv-loop all ends first next far₀ queue₀ seeds count₀ k₀ far queue count k = (count ≤ 256) × (length far ≡ 256) × (length queue ≡ 256)
+Inv-loop all ends first next far₀ queue₀ seeds count₀ k₀ far queue count k =
+    (count ≤ 256) × (length far ≡ 256) × (length queue ≡ 256)
 
 abbrev μ-loop : tie.MeasureT-loop
 μ-loop all ends first next far₀ queue₀ seeds count₀ k₀ far queue count k = 256 - k

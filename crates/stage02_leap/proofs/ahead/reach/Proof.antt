@@ -7,7 +7,8 @@ use Rattle.stage02_leap.proofs.ahead.reach.Statement.{statement}
 use Rattle.stage02_leap.proofs.ahead.reach.Tie as tie
 
 abbrev Inv-loop : tie.InvT-loop
-Inv-loop d head ends next far₀ queue₀ from count₀ above₀ i₀ far queue count above i = (count ≤ 256) × (length far ≡ 256) × (length queue ≡ 256)
+Inv-loop d head ends next far₀ queue₀ from count₀ above₀ i₀ far queue count above i =
+    (count ≤ 256) × (length far ≡ 256) × (length queue ≡ 256)
 
 abbrev μ-loop : tie.MeasureT-loop
 μ-loop d head ends next far₀ queue₀ from count₀ above₀ i₀ far queue count above i = above

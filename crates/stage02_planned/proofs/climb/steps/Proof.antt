@@ -21,13 +21,18 @@ returns c = climb-arrives _ _ _ _ _ _ (c .before .before .loop .inv .1) (c .befo
 returns-2 : tie.Need-returns-2 Inv-loop μ-loop
 returns-2 c =
     let e = c .before .before in
-    climb-ends _ _ _ _ _ _ (e .before .before .loop .inv .1) (e .before .loop-test .taken) (e .if1 .left) (sym (c .before .word .ensures) ∙ c .if2 .taken)
+    climb-ends _ _ _ _ _ _ (e .before .before .loop .inv .1) (e .before .loop-test .taken) (e .if1 .left)
+    (sym (c .before .word .ensures) ∙ c .if2 .taken)
 
 loop-again : tie.Need-loop-again Inv-loop μ-loop
 loop-again c =
     let w = c .before in
-    let e = w .before in
-    (search needs, rw (w .word .ensures) (climb-on _ _ _ _ _ _ (e .before .before .loop .inv .1) (search needs) (e .before .loop-test .taken) (e .if1 .left) (λ q. c .if2 .left (w .word .ensures ∙ q))))
+    let e = w .before in (
+      search needs,
+      rw (w .word .ensures)
+          (climb-on _ _ _ _ _ _ (e .before .before .loop .inv .1) (search needs) (e .before .loop-test .taken)
+          (e .if1 .left) (λ q. c .if2 .left (w .word .ensures ∙ q))),
+    )
 
 returns-3 : tie.Need-returns-3 Inv-loop μ-loop
 returns-3 c = climb-over _ _ _ _ _ _ (c .before .loop .inv .1) (c .loop-test .left)

@@ -6,7 +6,8 @@ use native.Mathlib.Omega.{arith}
 use lib.Dec.{ltb}
 use lib.ListN.{length, getD, set}
 use Rattle.spec_rules.specs.Basics.{ABSENT, at}
-use Rattle.stage03_followers.specs.Siblings.{Eldest, Later, Past, eldest-none, later-none, past-none, eldest-turn, later-turn, past-turn}
+use Rattle.stage03_followers.specs.Siblings.{Eldest, Later, Past, eldest-none, later-none, past-none, eldest-turn}
+use Rattle.stage03_followers.specs.Siblings.{later-turn, past-turn}
 use borrow.Author.Needs.{needs}
 use Rattle.stage03_followers.proofs.siblings.scan.Statement.{statement}
 use Rattle.stage03_followers.proofs.siblings.scan.Tie as tie
@@ -31,7 +32,8 @@ loop-holds c =
       search needs,
       search needs,
       search needs,
-      eldest-none (a .units) (a .parent .now) 256 (c .before .before .blank .result) (c .before .before .blank .ensures),
+      eldest-none (a .units) (a .parent .now) 256 (c .before .before .blank .result)
+          (c .before .before .blank .ensures),
       later-none (a .units) (a .parent .now) (c .before .blank2 .result),
       past-none (a .units) (a .parent .now) (c .blank3 .result) (c .blank3 .ensures),
     )
@@ -53,15 +55,20 @@ loop-again c =
     let small : a .units ≤ ABSENT = omega (arith, start .fits .units) in
     let put-past
     : second .store2 .last .0
-    ≡ set (s .loop .past) (at (a .parent .now) j) (cond (ltb (at (a .parent .now) (at (a .parent .now) j)) j) j (getD (s .loop .past) (at (a .parent .now) j) 0))
+    ≡ set (s .loop .past) (at (a .parent .now) j)
+    (cond (ltb (at (a .parent .now) (at (a .parent .now) j)) j) j (getD (s .loop .past) (at (a .parent .now) j) 0))
     = rw (chosen .choose .ensures, chosen .before .at3 .ensures, read .at .ensures) at (second .store2 .ensures) in (
       search needs,
       search needs,
       search needs,
       search needs,
-      eldest-turn (a .units) (a .parent .now) (s .loop .w) j down below small 256 (s .loop .eldest) (first .store .last .0) (s .loop .inv .1) (s .loop .inv .4) (first .store .ensures),
-      later-turn (a .units) (a .parent .now) (s .loop .w) j down below small (s .loop .eldest) (s .loop .later) _ (s .loop .inv .2) (s .loop .inv .4) (s .loop .inv .5) (ap (λ x. set (s .loop .later) j x) (seen .at2 .ensures)),
-      past-turn (a .units) (a .parent .now) (s .loop .w) j down below small (s .loop .past) (second .store2 .last .0) (s .loop .inv .3) (s .loop .inv .6) put-past,
+      eldest-turn (a .units) (a .parent .now) (s .loop .w) j down below small 256 (s .loop .eldest)
+          (first .store .last .0) (s .loop .inv .1) (s .loop .inv .4) (first .store .ensures),
+      later-turn (a .units) (a .parent .now) (s .loop .w) j down below small (s .loop .eldest) (s .loop .later) _
+          (s .loop .inv .2) (s .loop .inv .4) (s .loop .inv .5)
+          (ap (λ x. set (s .loop .later) j x) (seen .at2 .ensures)),
+      past-turn (a .units) (a .parent .now) (s .loop .w) j down below small (s .loop .past) (second .store2 .last .0)
+          (s .loop .inv .3) (s .loop .inv .6) put-past,
     )
 
 returns : tie.Need-returns Inv-loop μ-loop

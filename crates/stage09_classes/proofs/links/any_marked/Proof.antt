@@ -25,7 +25,8 @@ loop-again c =
     none-more (a .from) (s .loop .j) (a .linked .now) _ _ (s .loop .inv) (c .either .ensures)
 
 returns : tie.Need-returns Inv-loop μ-loop
-returns c = λ e (i : ℕ) (l : c .before .before .args .from ≤ i) (h : i < c .before .before .args .to). c .before .loop .inv e i l (omega (arith, c .loop-test .left))
+returns c = λ e (i : ℕ) (l : c .before .before .args .from ≤ i)
+    (h : i < c .before .before .args .to). c .before .loop .inv e i l (omega (arith, c .loop-test .left))
 
 pub any-marked-spec : {M : Type 1} → statement M
 any-marked-spec =

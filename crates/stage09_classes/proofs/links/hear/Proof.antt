@@ -9,7 +9,8 @@ returns c =
     let f = c .before .before .before in
     let s = f .before .before .before in
     let a = s .args in
-    hears-within (a .units) (a .said .now) (a .t .now) _ (a .a) (a .b) (s .pre .1) (s .pre .2) (rw (c .least-of2 .ensures, f .least-of .ensures))
+    hears-within (a .units) (a .said .now) (a .t .now) _ (a .a) (a .b) (s .pre .1) (s .pre .2)
+    (rw (c .least-of2 .ensures, f .least-of .ensures))
 
 pub hear-spec : {M : Type 1} → statement M
 hear-spec =

@@ -13,7 +13,9 @@ use Rattle.stage09_classes.proofs.links.over_span.Statement.{statement}
 use Rattle.stage09_classes.proofs.links.over_span.Tie as tie
 
 abbrev Inv-loop : tie.InvT-loop
-Inv-loop units ends linked said from to t₀ j₀ t j = (j ≤ to) × (t₀ ≡ over units (overLinks from ends linked said) said → t ≡ over units (overLinks j ends linked said) said)
+Inv-loop units ends linked said from to t₀ j₀ t j =
+    (j ≤ to) × (t₀ ≡ over units (overLinks from ends linked said) said →
+    t ≡ over units (overLinks j ends linked said) said)
 
 abbrev μ-loop : tie.MeasureT-loop
 μ-loop units ends linked said from to t₀ j₀ t j = to - j
@@ -24,8 +26,11 @@ loop-holds c = (c .pre .1, λ e. e)
 loop-again : tie.Need-loop-again Inv-loop μ-loop
 loop-again c =
     let s = c .before .before .before in
-    let a = s .before .args in
-    (search needs, λ e. links-more (a .units) (a .ends .now) (a .linked .now) (a .said .now) (s .loop .j) _ _ (s .loop .inv .1 e) (rw (c .if1 .taken)))
+    let a = s .before .args in (
+      search needs,
+      λ e. links-more (a .units) (a .ends .now) (a .linked .now) (a .said .now) (s .loop .j) _ _
+          (s .loop .inv .1 e) (rw (c .if1 .taken)),
+    )
 
 hear-requires : tie.Need-hear-requires Inv-loop μ-loop
 hear-requires c κs =
@@ -40,8 +45,11 @@ loop-again-2 : tie.Need-loop-again-2 Inv-loop μ-loop
 loop-again-2 c =
     let b = c .before .before .before .before in
     let s = b .before .before .before in
-    let a = s .before .args in
-    (search needs, λ e. links-more (a .units) (a .ends .now) (a .linked .now) (a .said .now) (s .loop .j) _ _ (s .loop .inv .1 e) (rw (ne-eqb (at (a .linked .now) (s .loop .j)) 0 (b .if1 .left)) (c .hear .ensures)))
+    let a = s .before .args in (
+      search needs,
+      λ e. links-more (a .units) (a .ends .now) (a .linked .now) (a .said .now) (s .loop .j) _ _
+          (s .loop .inv .1 e) (rw (ne-eqb (at (a .linked .now) (s .loop .j)) 0 (b .if1 .left)) (c .hear .ensures)),
+    )
 
 returns : tie.Need-returns Inv-loop μ-loop
 returns c = λ e. rw (le-antisymm (c .before .loop .inv .0) (c .loop-test .left)) at (c .before .loop .inv .1 e)

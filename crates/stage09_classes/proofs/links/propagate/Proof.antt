@@ -12,7 +12,8 @@ use Rattle.stage09_classes.proofs.links.propagate.Statement.{statement}
 use Rattle.stage09_classes.proofs.links.propagate.Tie as tie
 
 abbrev Inv-loop : tie.InvT-loop
-Inv-loop units links ends linked said t₀ j₀ t j = (j ≤ links) × (t₀ ≡ said → t ≡ over units (overLinks j ends linked said) said)
+Inv-loop units links ends linked said t₀ j₀ t j =
+    (j ≤ links) × (t₀ ≡ said → t ≡ over units (overLinks j ends linked said) said)
 
 abbrev μ-loop : tie.MeasureT-loop
 μ-loop units links ends linked said t₀ j₀ t j = links - j

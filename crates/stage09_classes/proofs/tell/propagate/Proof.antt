@@ -14,13 +14,15 @@ use Rattle.stage09_classes.proofs.tell.propagate.Tie as tie
 
 abbrev Inv-loop : tie.InvT-loop
 Inv-loop units heads said t₀ told₀ u₀ t told u =
-    (u ≤ units) × (length told₀ ≡ 256) × (length told ≡ 256) × (t ≡ toHeads u units heads said t₀) × (told ≡ over u (byHead heads said) told₀)
+    (u ≤ units) × (length told₀ ≡ 256) × (length told ≡ 256) × (t ≡ toHeads u units heads said t₀)
+    × (told ≡ over u (byHead heads said) told₀)
 
 abbrev μ-loop : tie.MeasureT-loop
 μ-loop units heads said t₀ told₀ u₀ t told u = units - u
 
 -- a unit's head exists
-head : (c : tie.After-head Inv-loop μ-loop) → getD (c .before .before .before .before .args .heads .now) (c .before .before .loop .u) 0 < 256
+head : (c : tie.After-head Inv-loop μ-loop) →
+    getD (c .before .before .before .before .args .heads .now) (c .before .before .loop .u) 0 < 256
 head c =
     let p = c .before .before .before .before .pre in
     omega (arith, p .0, p .1 (c .before .before .loop .u) (c .before .loop-test .taken))
@@ -59,7 +61,8 @@ loop-again c =
       search needs,
       search needs,
       search needs,
-      to-more (a .units) (a .heads .now) (a .said .now) (s .loop .u) _ _ _ (s .loop .inv .3) low (rw (c .least-of .ensures)),
+      to-more (a .units) (a .heads .now) (a .said .now) (s .loop .u) _ _ _ (s .loop .inv .3) low
+          (rw (c .least-of .ensures)),
       over-more _ _ _ _ _ _ (s .loop .inv .4) refl refl,
     )
 
@@ -70,7 +73,8 @@ returns c =
     let a = b .args in
     let all = le-antisymm (s .loop .inv .0) (c .loop-test .left) in (
       rw all at (s .loop .inv .3),
-      λ u h. rw (s .loop .inv .4) (getD-over (s .loop .u) (byHead (a .heads .now) (a .said .now)) _ u 0 (omega (arith, h, c .loop-test .left)) (omega (arith, h, b .pre .0, s .loop .inv .1))),
+      λ u h. rw (s .loop .inv .4) (getD-over (s .loop .u) (byHead (a .heads .now) (a .said .now)) _ u 0
+          (omega (arith, h, c .loop-test .left)) (omega (arith, h, b .pre .0, s .loop .inv .1))),
     )
 
 pub propagate-spec : {M : Type 1} → statement M

@@ -34,7 +34,8 @@ returns-7 : tie.Need-returns-7
 returns-7 c =
     let s = c .before in
     let r = c .match .rest in
-    sym (ceiling-two (s .args .units) (s .args .stage) (s .pre .1 .0) (s .pre .1 .1) (r .0 .0 .0 .0 .0 .1) (r .0 .0 .0 .0 .1) (r .0 .0 .0 .1) (r .0 .0 .1) (r .0 .1) (r .1))
+    sym (ceiling-two (s .args .units) (s .args .stage) (s .pre .1 .0) (s .pre .1 .1) (r .0 .0 .0 .0 .0 .1)
+    (r .0 .0 .0 .0 .1) (r .0 .0 .0 .1) (r .0 .0 .1) (r .0 .1) (r .1))
 
 pub ceiling-spec : {M : Type 1} → statement M
 ceiling-spec =

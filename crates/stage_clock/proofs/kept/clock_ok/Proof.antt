@@ -21,7 +21,13 @@ unfolding clockOk
 returns-3 c =
     let m = c .before .before .before .before in
     let k = m .before .before .before .before .before .args .c .stage in
-    rw (c .both2 .ensures, c .before .before .both .ensures, m .made-ok .ensures, le-leb 1 k (m .before .before .before .if1 .left), le-leb k 11 (m .before .if2 .left)) refl
+    rw (
+      c .both2 .ensures,
+      c .before .before .both .ensures,
+      m .made-ok .ensures,
+      le-leb 1 k (m .before .before .before .if1 .left),
+      le-leb k 11 (m .before .if2 .left),
+    ) refl
 
 pub clock-ok-spec : {M : Type 1} → statement M
 clock-ok-spec =

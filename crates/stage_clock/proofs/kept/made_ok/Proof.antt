@@ -13,7 +13,10 @@ returns c = rw (eq-eqb (c .before .before .before .args .c .stage) 11 (c .before
 returns-2 : tie.Need-returns-2
 unfolding madeOk
 returns-2 c =
-    rw (ne-eqb (c .before .before .before .before .args .c .stage) 11 (c .before .before .if1 .left), c .before .ceiling .ensures) refl
+    rw (
+      ne-eqb (c .before .before .before .before .args .c .stage) 11 (c .before .before .if1 .left),
+      c .before .ceiling .ensures,
+    ) refl
 
 pub made-ok-spec : {M : Type 1} → statement M
 made-ok-spec =

@@ -10,7 +10,8 @@ use Rattle.stage_clock.proofs.tick.ticked.Statement.{statement}
 use Rattle.stage_clock.proofs.tick.ticked.Tie as tie
 
 -- the clock stands in the stage
-on : (c : tie.Else1) → inStage (c .before .before .args .units) (c .before .before .args .stage) (c .before .before .args .c) ≡ true
+on : (c : tie.Else1) → inStage (c .before .before .args .units) (c .before .before .args .stage)
+    (c .before .before .args .c) ≡ true
 on c = sym (c .before .within .ensures) ∙ not-false _ (c .if1 .left)
 
 returns : tie.Need-returns

@@ -24,7 +24,12 @@ accepted s = plan-accepted (input s) (s .args .parents .now) (s .pre)
 few : (s : tie.Start) → length (s .args .parents .now) ≤ 256
 few s =
     let a = accepted s in
-    omega (arith, a .long, passes (input s .units) (input s .words) (table-alone (input s .units) (input s .words) (input s .levels) (a .stored)) .fewUnits)
+    omega (
+      arith,
+      a .long,
+      passes (input s .units) (input s .words)
+          (table-alone (input s .units) (input s .words) (input s .levels) (a .stored)) .fewUnits,
+    )
 
 loaded-requires : tie.Need-loaded-requires
 loaded-requires c κs = accepted (c .before .before) .stored

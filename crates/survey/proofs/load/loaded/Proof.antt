@@ -13,7 +13,12 @@ returns c =
     let s = c .before .before .before in
     let a = s .args in
     let fits = passed-fits (a .units) (a .table .now) (a .levels .now) (s .pre) in
-    rw (c .begun .ensures, c .before .table .ensures, take-all 2048 (a .table .now) (fits .0), take-all 1024 (a .levels .now) (fits .1)) refl
+    rw (
+      c .begun .ensures,
+      c .before .table .ensures,
+      take-all 2048 (a .table .now) (fits .0),
+      take-all 1024 (a .levels .now) (fits .1),
+    ) refl
 
 pub loaded-spec : {M : Type 1} → statement M
 loaded-spec =

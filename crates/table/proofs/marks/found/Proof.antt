@@ -10,7 +10,8 @@ use Rattle.table.proofs.marks.found.Tie as tie
 
 abbrev Inv-loop : tie.InvT-loop
 Inv-loop ordered table marks₀ i₀ marks i =
-    (i ≤ length table) × (length marks ≡ length marks₀) × (foundFrom (placeAs ordered) marks₀ table ≡ foundFrom (placeAs ordered) marks (drop i table))
+    (i ≤ length table) × (length marks ≡ length marks₀)
+    × (foundFrom (placeAs ordered) marks₀ table ≡ foundFrom (placeAs ordered) marks (drop i table))
 
 abbrev μ-loop : tie.MeasureT-loop
 μ-loop ordered table marks₀ i₀ marks i = length table - i
@@ -24,7 +25,8 @@ returns c =
     let s = p .before .before .before .before in
     sym
     (s .loop .inv .2
-    ∙ found-here (placeAs (s .before .before .before .args .ordered)) (s .loop .marks) (s .before .before .before .args .table .now) (s .loop .i) (search needs)
+    ∙ found-here (placeAs (s .before .before .before .args .ordered)) (s .loop .marks)
+    (s .before .before .before .args .table .now) (s .loop .i) (search needs)
     (ap (marked (s .loop .marks)) (sym (p .place .ensures)) ∙ sym (c .before .is-marked .ensures) ∙ c .if1 .taken))
 
 loop-again : tie.Need-loop-again Inv-loop μ-loop
@@ -36,14 +38,17 @@ loop-again c =
       search needs,
       rw (c .before .before .set-mark .ensures, p .place .ensures)
           (s .loop .inv .2
-          ∙ found-later (placeAs (s .before .before .before .args .ordered)) (s .loop .marks) (s .before .before .before .args .table .now) (s .loop .i) (search needs)
-          (ap (marked (s .loop .marks)) (sym (p .place .ensures)) ∙ sym (e .before .is-marked .ensures) ∙ e .if1 .left)),
+          ∙ found-later (placeAs (s .before .before .before .args .ordered)) (s .loop .marks)
+          (s .before .before .before .args .table .now) (s .loop .i) (search needs)
+          (ap (marked (s .loop .marks)) (sym (p .place .ensures)) ∙ sym (e .before .is-marked .ensures)
+          ∙ e .if1 .left)),
     )
 
 returns-2 : tie.Need-returns-2 Inv-loop μ-loop
 returns-2 c =
     let s = c .before in
-    sym (s .loop .inv .2 ∙ found-end (placeAs (s .before .before .before .args .ordered)) (s .loop .marks) (s .before .before .before .args .table .now) (s .loop .i) (c .loop-test .left))
+    sym (s .loop .inv .2 ∙ found-end (placeAs (s .before .before .before .args .ordered)) (s .loop .marks)
+    (s .before .before .before .args .table .now) (s .loop .i) (c .loop-test .left))
 
 pub found-spec : {M : Type 1} → statement M
 found-spec =

@@ -9,7 +9,8 @@ use Rattle.table.proofs.seen.mark_ends.Statement.{statement}
 use Rattle.table.proofs.seen.mark_ends.Tie as tie
 
 abbrev Inv-loop : tie.InvT-loop
-Inv-loop table marks₀ i₀ marks i = (i ≤ length table) × (length marks ≡ length marks₀) × (endsSeen marks₀ table ≡ endsSeen marks (drop i table))
+Inv-loop table marks₀ i₀ marks i = (i ≤ length table) × (length marks ≡ length marks₀)
+    × (endsSeen marks₀ table ≡ endsSeen marks (drop i table))
 
 abbrev μ-loop : tie.MeasureT-loop
 μ-loop table marks₀ i₀ marks i = length table - i
@@ -27,13 +28,15 @@ loop-again c =
       search needs,
       search needs,
       rw (q .put-byte2 .ensures, p .put-byte .ensures, b .word2 .ensures, a .word .ensures)
-          (s .loop .inv .2 ∙ seen-next (s .loop .marks) (s .before .before .before .args .table .now) (s .loop .i) (search needs)),
+          (s .loop .inv .2 ∙ seen-next (s .loop .marks) (s .before .before .before .args .table .now) (s .loop .i)
+          (search needs)),
     )
 
 returns : tie.Need-returns Inv-loop μ-loop
 returns c =
     let s = c .before in
-    sym (s .loop .inv .2 ∙ seen-end (s .loop .marks) (s .before .before .before .args .table .now) (s .loop .i) (c .loop-test .left))
+    sym (s .loop .inv .2 ∙ seen-end (s .loop .marks) (s .before .before .before .args .table .now) (s .loop .i)
+    (c .loop-test .left))
 
 pub mark-ends-spec : {M : Type 1} → statement M
 mark-ends-spec =

@@ -21,8 +21,11 @@ loop-holds c = (search needs, refl)
 
 loop-again : tie.Need-loop-again Inv-loop μ-loop
 loop-again c =
-    let s = c .before .before .before in
-    (search needs, blank-next (s .loop .v) (s .before .before .args .marks .now) ∙ rw (c .either .ensures, c .before .byte .ensures, s .loop .inv .1) refl)
+    let s = c .before .before .before in (
+      search needs,
+      blank-next (s .loop .v) (s .before .before .args .marks .now)
+          ∙ rw (c .either .ensures, c .before .byte .ensures, s .loop .inv .1) refl,
+    )
 
 returns : tie.Need-returns Inv-loop μ-loop
 returns c =

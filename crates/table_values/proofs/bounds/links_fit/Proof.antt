@@ -18,7 +18,11 @@ returns-2 : tie.Need-returns-2
 unfolding linksFit
 returns-2 c =
     let a = c .before .before .before .before .args in
-    rw (le-leb (a .links) 1024 (omega arith), take-all (2 * a .links) (a .ends .now) (omega arith), c .all-below .ensures) refl
+    rw (
+      le-leb (a .links) 1024 (omega arith),
+      take-all (2 * a .links) (a .ends .now) (omega arith),
+      c .all-below .ensures,
+    ) refl
 
 slice-aggregate-all-below : tie.Need-slice-aggregate-all-below
 slice-aggregate-all-below c =

@@ -21,15 +21,19 @@ loop-holds c = (search needs, omega arith)
 loop-again : tie.Need-loop-again Inv-loop μ-loop
 loop-again c =
     let s = c .before .before .before .before in
-    let a = s .before .before .args in
-    (search needs, s .loop .inv .1 ∙ top-next (a .more) (a .t .now) (s .loop .i) (s .loop .greatest) (search needs) ∙ cc)
+    let a = s .before .before .args in (
+      search needs,
+      s .loop .inv .1 ∙ top-next (a .more) (a .t .now) (s .loop .i) (s .loop .greatest) (search needs)
+          ∙ cc,
+    )
 
 returns : tie.Need-returns Inv-loop μ-loop
 returns c =
     let s = c .before in
     let a = s .before .before .args in
     let words : (i : ℕ) → getD (a .t .now) i 0 < 65536 = λ i. omega (arith, s .before .shared-slice-known .given i) in
-    let is = sym (s .loop .inv .1 ∙ top-end (a .more) (a .t .now) (s .loop .i) (s .loop .greatest) (c .loop-test .left)) in
+    let is = sym (s .loop .inv .1 ∙ top-end (a .more) (a .t .now) (s .loop .i) (s .loop .greatest)
+    (c .loop-test .left)) in
     λ most p tells. rw is (top-every (a .more) most p tells (a .t .now) words)
 
 pub top-spec : {M : Type 1} → statement M

@@ -23,14 +23,16 @@ loop-again : tie.Need-loop-again Inv-loop μ-loop
 loop-again c =
     let s = c .before .before .before .before .before in
     let a = s .before .before .before .args in
-    let put : c .before .take-in .last .1 .1 .0 ≡ takesIn min BUCKETS (s .loop .first) (at (a .key .now) (s .loop .k)) (s .loop .k) = cc in
+    let put : c .before .take-in .last .1 .1 .0
+    ≡ takesIn min BUCKETS (s .loop .first) (at (a .key .now) (s .loop .k)) (s .loop .k) = cc in
     (search needs, search needs, first-more (a .key .now) (s .loop .k) _ _ _ (s .loop .inv .2) put)
 
 returns : tie.Need-returns Inv-loop μ-loop
 returns c =
     let s = c .before in
     let a = s .before .before .before .args in
-    λ q h. first-all (a .key .now) (a .count) (s .loop .k) _ _ (search needs) (s .loop .inv .2) (s .loop .inv .0) (c .loop-test .left) q h
+    λ q h. first-all (a .key .now) (a .count) (s .loop .k) _ _ (search needs) (s .loop .inv .2) (s .loop .inv .0)
+    (c .loop-test .left) q h
 
 pub firsts-spec : {M : Type 1} → statement M
 firsts-spec =

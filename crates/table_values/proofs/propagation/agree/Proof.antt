@@ -23,19 +23,31 @@ loop-again c =
     let s = c .before .before .before .before in
     let a = s .before .before .before .before .before .args in
     let put
-    : c .both .result ≡ (s .loop .same && eqb (getD (a .before .now) (s .loop .i) 0) (getD (a .after .now) (s .loop .i) 0))
+    : c .both .result ≡ (s .loop .same && eqb (getD (a .before .now) (s .loop .i) 0)
+    (getD (a .after .now) (s .loop .i) 0))
     = rw (c .before .before .word .ensures, c .before .word2 .ensures) at (c .both .ensures) in
     let in-both : s .loop .i < min (length (a .before .now)) (length (a .after .now)) =
-    omega (arith, c .before .before .before .loop-test .taken, s .before .lesser2 .ensures, s .before .before .lesser .ensures) in
-    (search needs, agree-more (s .loop .i) (a .before .now) (a .after .now) _ _ (omega arith) (omega arith) (s .loop .inv .1) put)
+    omega (
+      arith,
+      c .before .before .before .loop-test .taken,
+      s .before .lesser2 .ensures,
+      s .before .before .lesser .ensures,
+    ) in (
+      search needs,
+      agree-more (s .loop .i) (a .before .now) (a .after .now) _ _ (omega arith) (omega arith)
+          (s .loop .inv .1) put,
+    )
 
 returns : tie.Need-returns Inv-loop μ-loop
 returns c =
     let s = c .before in
     let a = s .before .before .before .before .before .args in
-    let all : s .before .lesser2 .result ≡ min (a .units) (min (length (a .before .now)) (length (a .after .now))) = rw (s .before .before .lesser .ensures) at (s .before .lesser2 .ensures) in
-    let ended : s .loop .i ≡ min (a .units) (min (length (a .before .now)) (length (a .after .now))) = le-antisymm (s .loop .inv .0) (c .loop-test .left) ∙ all in
-    let same : s .loop .same ≡ agree (min (a .units) (min (length (a .before .now)) (length (a .after .now)))) (a .before .now) (a .after .now) = rw ended at (s .loop .inv .1) in
+    let all : s .before .lesser2 .result ≡ min (a .units) (min (length (a .before .now)) (length (a .after .now))) =
+    rw (s .before .before .lesser .ensures) at (s .before .lesser2 .ensures) in
+    let ended : s .loop .i ≡ min (a .units) (min (length (a .before .now)) (length (a .after .now))) =
+    le-antisymm (s .loop .inv .0) (c .loop-test .left) ∙ all in
+    let same : s .loop .same ≡ agree (min (a .units) (min (length (a .before .now)) (length (a .after .now))))
+    (a .before .now) (a .after .now) = rw ended at (s .loop .inv .1) in
     same ∙ agree-least (a .units) (a .before .now) (a .after .now)
 
 pub agree-spec : {M : Type 1} → statement M

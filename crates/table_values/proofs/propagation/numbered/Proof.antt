@@ -15,7 +15,12 @@ abbrev μ-loop : tie.MeasureT-loop
 μ-loop units new₀ v₀ new v = units - v
 
 loop-again : tie.Need-loop-again Inv-loop μ-loop
-loop-again c = (search needs, search needs, over-more _ (λ (i : ℕ). i) _ _ _ _ (c .before .before .before .before .loop .inv .2) refl (c .before .store .ensures))
+loop-again c = (
+  search needs,
+  search needs,
+  over-more _ (λ (i : ℕ). i) _ _ _ _ (c .before .before .before .before .loop .inv .2) refl
+      (c .before .store .ensures),
+)
 
 returns : tie.Need-returns Inv-loop μ-loop
 returns c = c .before .loop .inv .2 ∙ over-all _ _ _ _ (c .before .loop .inv .0) (c .loop-test .left)

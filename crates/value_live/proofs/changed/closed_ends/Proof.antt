@@ -10,13 +10,20 @@ use Rattle.value_live.proofs.changed.closed_ends.Statement.{statement}
 use Rattle.value_live.proofs.changed.closed_ends.Tie as tie
 
 abbrev Inv-loop : tie.InvT-loop
-Inv-loop count at ends new₀ i₀ new i = (at ≤ i) × (i + 2 ≤ count) × (length new ≡ 2048) × (length ends ≡ 2048) × (new ≡ take i (without at 2 ends) ++ drop i ends)
+Inv-loop count at ends new₀ i₀ new i = (at ≤ i) × (i + 2 ≤ count) × (length new ≡ 2048) × (length ends ≡ 2048)
+    × (new ≡ take i (without at 2 ends) ++ drop i ends)
 
 abbrev μ-loop : tie.MeasureT-loop
 μ-loop count at ends new₀ i₀ new i = count - i
 
 loop-holds : tie.Need-loop-holds Inv-loop μ-loop
-loop-holds c = (search needs, search needs, search needs, search needs, close-start (c .args .at) 2 (c .args .t1) (search needs))
+loop-holds c = (
+  search needs,
+  search needs,
+  search needs,
+  search needs,
+  close-start (c .args .at) 2 (c .args .t1) (search needs),
+)
 
 loop-again : tie.Need-loop-again Inv-loop μ-loop
 loop-again c =
@@ -34,7 +41,8 @@ returns : tie.Need-returns Inv-loop μ-loop
 returns c =
     let s = c .before in
     let a = s .before .args in
-    rw (s .loop .inv .4) (close-end (a .at) 2 (a .t1) (s .loop .i) (a .count) 0 (search needs) (search needs) (search needs))
+    rw (s .loop .inv .4) (close-end (a .at) 2 (a .t1) (s .loop .i) (a .count) 0 (search needs) (search needs)
+    (search needs))
 
 pub closed-ends-spec : {M : Type 1} → statement M
 closed-ends-spec =

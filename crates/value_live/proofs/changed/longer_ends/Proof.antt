@@ -13,7 +13,8 @@ returns c =
     let p = c .before .before .before .before in
     let s = p .before .before in
     let full : length (s .args .ends) ≡ 2048 = search needs in
-    rw (c .before .put2 .ensures, p .put .ensures) (more-words (s .args .ends) (2 * s .args .m) (s .args .a) (s .args .b) (omega (arith, full, s .pre)))
+    rw (c .before .put2 .ensures, p .put .ensures)
+    (more-words (s .args .ends) (2 * s .args .m) (s .args .a) (s .args .b) (omega (arith, full, s .pre)))
 
 pub longer-ends-spec : {M : Type 1} → statement M
 longer-ends-spec =

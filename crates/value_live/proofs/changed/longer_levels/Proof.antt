@@ -13,7 +13,8 @@ returns : tie.Need-returns
 returns c =
     let s = c .before .before .before in
     let full : length (s .args .levels) ≡ 1024 = search needs in
-    rw (c .before .put-level .ensures, toZ-ofZ w16 (s .args .level) (s .fits .level)) (more-levels (s .args .levels) (s .args .m) (s .args .level) (omega (arith, full, s .pre)))
+    rw (c .before .put-level .ensures, toZ-ofZ w16 (s .args .level) (s .fits .level))
+    (more-levels (s .args .levels) (s .args .m) (s .args .level) (omega (arith, full, s .pre)))
 
 pub longer-levels-spec : {M : Type 1} → statement M
 longer-levels-spec =

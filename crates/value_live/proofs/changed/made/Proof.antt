@@ -8,7 +8,8 @@ returns : tie.Need-returns
 returns c =
     let t = c .before .before .before in
     let s = t .before .before in
-    made-of (s .args .count) (s .args .words .now) (s .args .heard .now) (t .table .result) (c .counts-of .result) (s .pre .0) (s .pre .1) (t .table .ensures) (c .counts-of .ensures)
+    made-of (s .args .count) (s .args .words .now) (s .args .heard .now) (t .table .result) (c .counts-of .result)
+    (s .pre .0) (s .pre .1) (t .table .ensures) (c .counts-of .ensures)
 
 pub made-spec : {M : Type 1} → statement M
 made-spec =

@@ -9,21 +9,24 @@ returns : tie.Need-returns
 returns c =
     let r = c .before .refusal in
     let a = c .before .before .before .before .args in
-    r .ensures ∙ held-refused (a .units) (a .links) (a .words .now) (a .levels .now) (a .counts .now) (λ z. c .if1 .taken (r .ensures ∙ z))
+    r .ensures ∙ held-refused (a .units) (a .links) (a .words .now) (a .levels .now) (a .counts .now)
+    (λ z. c .if1 .taken (r .ensures ∙ z))
 
 returns-2 : tie.Need-returns-2
 returns-2 c =
     let e = c .before .before in
     let r = e .before .refusal in
     let a = e .before .before .before .before .args in
-    held-miscounted (a .units) (a .links) (a .words .now) (a .levels .now) (a .counts .now) (sym (r .ensures) ∙ e .if1 .left) (sym (c .before .miscounted .ensures) ∙ c .if2 .taken)
+    held-miscounted (a .units) (a .links) (a .words .now) (a .levels .now) (a .counts .now) (sym (r .ensures)
+    ∙ e .if1 .left) (sym (c .before .miscounted .ensures) ∙ c .if2 .taken)
 
 returns-3 : tie.Need-returns-3
 returns-3 c =
     let e = c .before .before in
     let r = e .before .refusal in
     let a = e .before .before .before .before .args in
-    held-right (a .units) (a .links) (a .words .now) (a .levels .now) (a .counts .now) (sym (r .ensures) ∙ e .if1 .left) (sym (c .before .miscounted .ensures) ∙ c .if2 .left)
+    held-right (a .units) (a .links) (a .words .now) (a .levels .now) (a .counts .now) (sym (r .ensures)
+    ∙ e .if1 .left) (sym (c .before .miscounted .ensures) ∙ c .if2 .left)
 
 pub held-refusal-spec : {M : Type 1} → statement M
 held-refusal-spec =

@@ -11,7 +11,8 @@ use Rattle.value_live.proofs.given.link_refusal.Tie as tie
 
 -- what the call said of the level
 read : (c : tie.After-in-range) → c .in-range .result ≡ inRange (c .before .before .args .level)
-read c = c .in-range .ensures ∙ ap inRange (toZ-ofZ w16 (c .before .before .args .level) (c .before .before .fits .level))
+read c = c .in-range .ensures ∙ ap inRange
+    (toZ-ofZ w16 (c .before .before .args .level) (c .before .before .fits .level))
 
 returns : tie.Need-returns
 returns c = rw (le-leb 1024 (c .before .args .links) (c .if1 .taken)) refl
@@ -37,7 +38,12 @@ returns-4 c =
     let r = e .before in
     let a = r .before .before .args in
     let level : inRange (a .level) ≡ true = sym (read r) ∙ not-false (r .in-range .result) (e .if2 .left) in
-    rw (lt-leb 1024 (a .links) (r .before .if1 .left), level, lt-leb (a .units) (a .a) (c .before .if3 .left), le-leb (a .units) (a .b) (c .if4 .taken)) refl
+    rw (
+      lt-leb 1024 (a .links) (r .before .if1 .left),
+      level,
+      lt-leb (a .units) (a .a) (c .before .if3 .left),
+      le-leb (a .units) (a .b) (c .if4 .taken),
+    ) refl
 
 returns-5 : tie.Need-returns-5
 returns-5 c =
@@ -45,7 +51,13 @@ returns-5 c =
     let r = e .before in
     let a = r .before .before .args in
     let level : inRange (a .level) ≡ true = sym (read r) ∙ not-false (r .in-range .result) (e .if2 .left) in
-    rw (lt-leb 1024 (a .links) (r .before .if1 .left), level, lt-leb (a .units) (a .a) (c .before .before .if3 .left), lt-leb (a .units) (a .b) (c .before .if4 .left), eq-eqb (a .a) (a .b) (c .if5 .taken)) refl
+    rw (
+      lt-leb 1024 (a .links) (r .before .if1 .left),
+      level,
+      lt-leb (a .units) (a .a) (c .before .before .if3 .left),
+      lt-leb (a .units) (a .b) (c .before .if4 .left),
+      eq-eqb (a .a) (a .b) (c .if5 .taken),
+    ) refl
 
 returns-6 : tie.Need-returns-6
 returns-6 c =
@@ -53,7 +65,14 @@ returns-6 c =
     let r = e .before in
     let a = r .before .before .args in
     let level : inRange (a .level) ≡ true = sym (read r) ∙ not-false (r .in-range .result) (e .if2 .left) in
-    rw (lt-leb 1024 (a .links) (r .before .if1 .left), level, lt-leb (a .units) (a .a) (c .before .before .before .if3 .left), lt-leb (a .units) (a .b) (c .before .before .if4 .left), ne-eqb (a .a) (a .b) (c .before .if5 .left), c .if6 .taken) refl
+    rw (
+      lt-leb 1024 (a .links) (r .before .if1 .left),
+      level,
+      lt-leb (a .units) (a .a) (c .before .before .before .if3 .left),
+      lt-leb (a .units) (a .b) (c .before .before .if4 .left),
+      ne-eqb (a .a) (a .b) (c .before .if5 .left),
+      c .if6 .taken,
+    ) refl
 
 returns-7 : tie.Need-returns-7
 returns-7 c =
@@ -61,7 +80,14 @@ returns-7 c =
     let r = e .before in
     let a = r .before .before .args in
     let level : inRange (a .level) ≡ true = sym (read r) ∙ not-false (r .in-range .result) (e .if2 .left) in
-    rw (lt-leb 1024 (a .links) (r .before .if1 .left), level, lt-leb (a .units) (a .a) (c .before .before .before .if3 .left), lt-leb (a .units) (a .b) (c .before .before .if4 .left), ne-eqb (a .a) (a .b) (c .before .if5 .left), c .if6 .left) refl
+    rw (
+      lt-leb 1024 (a .links) (r .before .if1 .left),
+      level,
+      lt-leb (a .units) (a .a) (c .before .before .before .if3 .left),
+      lt-leb (a .units) (a .b) (c .before .before .if4 .left),
+      ne-eqb (a .a) (a .b) (c .before .if5 .left),
+      c .if6 .left,
+    ) refl
 
 pub link-refusal-spec : {M : Type 1} → statement M
 link-refusal-spec =

@@ -2,7 +2,8 @@
 use mathlib.Core.Path.{_∙_}
 use borrow.Author.Needs.{needs}
 use Rattle.survey.specs.View.{of}
-use Rattle.value_player.specs.KindLaws.{means-round, means-run, means-unit, means-link, means-report, means-status}
+use Rattle.value_player.specs.KindLaws.{means-round, means-run, means-unit, means-link, means-report}
+use Rattle.value_player.specs.KindLaws.{means-status}
 use Rattle.value_player.proofs.made.call.Statement.{statement}
 use Rattle.value_player.proofs.made.call.Tie as tie
 
@@ -34,14 +35,16 @@ returns-5 : tie.Need-returns-5
 returns-5 c =
     let a = c .before .before .before .before .before .before .args in
     let r = c .before .before .report-into in
-    let m = means-report (a .kind) (a .a) (a .b) (a .out .now) (of (a .s)) (c .before .before .before .before .match .keys5) in
+    let m = means-report (a .kind) (a .a) (a .b) (a .out .now) (of (a .s))
+    (c .before .before .before .before .match .keys5) in
     (r .ensures .0 ∙ m .0, r .ensures .1 ∙ m .1)
 
 returns-6 : tie.Need-returns-6
 returns-6 c =
     let a = c .before .before .before .args in
     let r = c .before .match .rest in
-    let m = means-status (a .kind) (a .a) (a .b) (a .out .now) (of (a .s)) (r .0 .0 .0 .0 .1) (r .0 .0 .0 .1) (r .0 .0 .1) (r .0 .1) (r .1) in
+    let m = means-status (a .kind) (a .a) (a .b) (a .out .now) (of (a .s)) (r .0 .0 .0 .0 .1) (r .0 .0 .0 .1)
+    (r .0 .0 .1) (r .0 .1) (r .1) in
     (c .status .ensures ∙ m .0, m .1)
 
 pub call-spec : {M : Type 1} → statement M

@@ -15,7 +15,11 @@ returns c =
     let from = c .before .before .before .before .before .least in
     let to = c .before .before .before .before .least2 in
     let r = c .before .before .report in
-    rw (sym (from .ensures), sym (to .ensures)) (r .ensures .0, rw (r .ensures .1) (part-back (from .result) (to .result) (a .out .now) (reported (of (a .s)) (take (to .result - from .result) (drop (from .result) (a .out .now)))) (search needs)))
+    rw (sym (from .ensures), sym (to .ensures)) (
+      r .ensures .0,
+      rw (r .ensures .1) (part-back (from .result) (to .result) (a .out .now)
+          (reported (of (a .s)) (take (to .result - from .result) (drop (from .result) (a .out .now)))) (search needs)),
+    )
 
 pub report-into-spec : {M : Type 1} → statement M
 report-into-spec =

@@ -25,8 +25,13 @@ loop-holds c =
 loop-again : tie.Need-loop-again Inv-loop μ-loop
 loop-again c =
     let l = c .before .before .before .before .before in
-    let a = l .before .before .args in
-    (search needs, search needs, l .loop .inv .2 ∙ rw (c .before .before .put .ensures) (store-next (l .loop .replies) (a .t1) (a .at) (l .loop .k) (search needs)))
+    let a = l .before .before .args in (
+      search needs,
+      search needs,
+      l .loop .inv .2
+          ∙ rw (c .before .before .put .ensures)
+          (store-next (l .loop .replies) (a .t1) (a .at) (l .loop .k) (search needs)),
+    )
 
 returns : tie.Need-returns Inv-loop μ-loop
 returns c =

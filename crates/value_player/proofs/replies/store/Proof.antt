@@ -10,7 +10,8 @@ use Rattle.value_player.proofs.replies.store.Tie as tie
 returns : tie.Need-returns
 returns c =
     let a = c .before .before .before .before .before .before .args in
-    c .before .before .put-eight .ensures ∙ ap (λ (ws : List ℕ). sets (a .replies .now) (a .at) ws) (c .before .before .before .before .eight .ensures)
+    c .before .before .put-eight .ensures
+    ∙ ap (λ (ws : List ℕ). sets (a .replies .now) (a .at) ws) (c .before .before .before .before .eight .ensures)
 
 pub store-spec : {M : Type 1} → statement M
 store-spec =

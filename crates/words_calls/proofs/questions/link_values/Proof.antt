@@ -9,7 +9,13 @@ returns c =
     let at-word = c .before .before .before .before .before in
     let at-labels-at = at-word .before .before .before .before in
     let at-table-at = at-labels-at .before in
-    rw (c .word-of .ensures, c .before .lone .ensures, at-word .word .ensures, at-labels-at .labels-at .ensures, at-table-at .table-at .ensures) refl
+    rw (
+      c .word-of .ensures,
+      c .before .lone .ensures,
+      at-word .word .ensures,
+      at-labels-at .labels-at .ensures,
+      at-table-at .table-at .ensures,
+    ) refl
 
 pub link-values-spec : {M : Type 1} → statement M
 link-values-spec =

@@ -12,17 +12,20 @@ returns c = question-malformed _ _ (sym (c .before .kept .ensures) ∙ not-true 
 returns-2 : tie.Need-returns-2
 returns-2 c =
     let k = c .before .before in
-    question-early _ _ (sym (k .before .before .kept .ensures) ∙ not-false _ (k .before .if1 .left)) (rw (k .clock-at .ensures) at (c .if2 .taken))
+    question-early _ _ (sym (k .before .before .kept .ensures)
+    ∙ not-false _ (k .before .if1 .left)) (rw (k .clock-at .ensures) at (c .if2 .taken))
 
 returns-3 : tie.Need-returns-3
 returns-3 c =
     let k = c .before .before .before in
-    question-none _ _ (sym (k .before .before .kept .ensures) ∙ not-false _ (k .before .if1 .left)) (rw (k .clock-at .ensures) at (c .before .if2 .left)) (c .if3 .taken)
+    question-none _ _ (sym (k .before .before .kept .ensures)
+    ∙ not-false _ (k .before .if1 .left)) (rw (k .clock-at .ensures) at (c .before .if2 .left)) (c .if3 .taken)
 
 returns-4 : tie.Need-returns-4
 returns-4 c =
     let k = c .before .before .before in
-    question-missing _ _ (sym (k .before .before .kept .ensures) ∙ not-false _ (k .before .if1 .left)) (rw (k .clock-at .ensures) at (c .before .if2 .left)) (c .if3 .left)
+    question-missing _ _ (sym (k .before .before .kept .ensures)
+    ∙ not-false _ (k .before .if1 .left)) (rw (k .clock-at .ensures) at (c .before .if2 .left)) (c .if3 .left)
 
 pub refusal-spec : {M : Type 1} → statement M
 refusal-spec =

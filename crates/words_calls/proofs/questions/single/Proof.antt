@@ -8,7 +8,12 @@ returns : tie.Need-returns
 returns c =
     let at-labels-at = c .before .before .before .before .before .before .before .before in
     let at-table-at = at-labels-at .before in
-    rw (c .word-of .ensures, c .before .single .ensures, at-labels-at .labels-at .ensures, at-table-at .table-at .ensures) refl
+    rw (
+      c .word-of .ensures,
+      c .before .single .ensures,
+      at-labels-at .labels-at .ensures,
+      at-table-at .table-at .ensures,
+    ) refl
 
 pub single-spec : {M : Type 1} → statement M
 single-spec =

@@ -9,7 +9,12 @@ use Rattle.words_calls.proofs.questions.status_values.Tie as tie
 returns : tie.Need-returns
 returns c =
     let start = c .before .before .before in
-    rw (c .countdown .ensures, c .before .clock-at .ensures, c .before .before .table-at .ensures, kept-countdown (stateOf (start .args .state .now)) (start .pre)) refl
+    rw (
+      c .countdown .ensures,
+      c .before .clock-at .ensures,
+      c .before .before .table-at .ensures,
+      kept-countdown (stateOf (start .args .state .now)) (start .pre),
+    ) refl
 
 pub status-values-spec : {M : Type 1} → statement M
 status-values-spec =

@@ -11,7 +11,15 @@ returns c =
     let at-order-at = at-word .before .before .before .before in
     let at-tree-at = at-order-at .before in
     let at-components-at = at-tree-at .before in
-    rw (c .single .ensures, c .before .word3 .ensures, at-word2 .word2 .ensures, at-word .word .ensures, at-order-at .order-at .ensures, at-tree-at .tree-at .ensures, at-components-at .components-at .ensures) refl
+    rw (
+      c .single .ensures,
+      c .before .word3 .ensures,
+      at-word2 .word2 .ensures,
+      at-word .word .ensures,
+      at-order-at .order-at .ensures,
+      at-tree-at .tree-at .ensures,
+      at-components-at .components-at .ensures,
+    ) refl
 
 pub unit-values-spec : {M : Type 1} → statement M
 unit-values-spec =

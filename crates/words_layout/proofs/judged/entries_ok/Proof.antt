@@ -30,9 +30,31 @@ returns c =
     let at-within-arg = at-within .before in
     let at-names = at-within-arg .before in
     let start = at-names .before in
-    rw (c .both9 .ensures, c .before .both8 .ensures, c .before .before .both7 .ensures, at-both6 .both6 .ensures, at-both5 .both5 .ensures, at-both4 .both4 .ensures, at-both3 .both3 .ensures, at-both2 .both2 .ensures, at-both .both .ensures)
-    (rw (at-within9 .within9 .ensures _ (at-numbers .numbers .ensures), at-within10 .within10 .ensures _ (at-levels .levels .ensures), at-within8 .within8 .ensures _ (at-numbers .numbers .ensures), at-within7 .within7 .ensures _ (at-dists .dists .ensures), at-within6 .within6 .ensures _ (at-names3 .names3 .ensures), at-within5 .within5 .ensures _ (at-names2 .names2 .ensures), at-within4 .within4 .ensures _ (at-names .names .ensures), at-within3 .within3 .ensures _ (at-names .names .ensures), at-within2 .within2 .ensures _ (at-names .names .ensures), at-within .within .ensures _ (at-names .names .ensures))
-    (entries-judged (start .args .words .now) (at-within-arg .within-arg .given .0) (start .args .units) (start .args .links) (start .pre .0) (start .pre .1)))
+    rw (
+      c .both9 .ensures,
+      c .before .both8 .ensures,
+      c .before .before .both7 .ensures,
+      at-both6 .both6 .ensures,
+      at-both5 .both5 .ensures,
+      at-both4 .both4 .ensures,
+      at-both3 .both3 .ensures,
+      at-both2 .both2 .ensures,
+      at-both .both .ensures,
+    )
+    (rw (
+      at-within9 .within9 .ensures _ (at-numbers .numbers .ensures),
+      at-within10 .within10 .ensures _ (at-levels .levels .ensures),
+      at-within8 .within8 .ensures _ (at-numbers .numbers .ensures),
+      at-within7 .within7 .ensures _ (at-dists .dists .ensures),
+      at-within6 .within6 .ensures _ (at-names3 .names3 .ensures),
+      at-within5 .within5 .ensures _ (at-names2 .names2 .ensures),
+      at-within4 .within4 .ensures _ (at-names .names .ensures),
+      at-within3 .within3 .ensures _ (at-names .names .ensures),
+      at-within2 .within2 .ensures _ (at-names .names .ensures),
+      at-within .within .ensures _ (at-names .names .ensures),
+    )
+    (entries-judged (start .args .words .now) (at-within-arg .within-arg .given .0) (start .args .units)
+    (start .args .links) (start .pre .0) (start .pre .1)))
 
 pub entries-ok-spec : {M : Type 1} → statement M
 entries-ok-spec =

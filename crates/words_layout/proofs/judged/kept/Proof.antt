@@ -16,7 +16,9 @@ returns c =
     let f = c .before in
     let t = f .before .before .before .before .before in
     let s = t .before in
-    sym (kept-front (stateOf (s .args .words .now)) (sym (rw (t .table-at .ensures, f .before .clock-at .ensures) at (f .front-ok .ensures)) ∙ not-true _ (c .if1 .taken)))
+    sym (kept-front (stateOf (s .args .words .now))
+    (sym (rw (t .table-at .ensures, f .before .clock-at .ensures) at (f .front-ok .ensures))
+    ∙ not-true _ (c .if1 .taken)))
 
 entries-ok-requires : tie.Need-entries-ok-requires
 entries-ok-requires c κs =
@@ -28,7 +30,8 @@ unfolding wellFormed
 returns-2 c =
     let f = c .before .before in
     let t = f .before .before .before .before .before in
-    rw (sym (rw (t .table-at .ensures, f .before .clock-at .ensures) at (f .front-ok .ensures)) ∙ not-false _ (c .before .if1 .left)) (c .entries-ok .ensures)
+    rw (sym (rw (t .table-at .ensures, f .before .clock-at .ensures) at (f .front-ok .ensures))
+    ∙ not-false _ (c .before .if1 .left)) (c .entries-ok .ensures)
 
 pub kept-spec : {M : Type 1} → statement M
 kept-spec =

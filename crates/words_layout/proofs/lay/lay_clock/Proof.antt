@@ -13,7 +13,10 @@ lay-requires c κs = tt
 
 returns : tie.Need-returns
 unfolding stateOf
-returns c = laid-fields ((2, _) ∷ []) _ _ (laid-in _ _ _ (c .lay .ensures) (search needs)) (search needs) ((tt, refl), tt)
+returns c = laid-fields ((2, _) ∷ []) _ _ (laid-in _ _ _ (c .lay .ensures) (search needs)) (search needs) (
+  (tt, refl),
+  tt,
+)
 
 pub lay-clock-spec : {M : Type 1} → statement M
 lay-clock-spec =

@@ -12,7 +12,8 @@ lay-requires c κs = tt
 
 returns : tie.Need-returns
 unfolding stateOf
-returns c = laid-fields ((3, _) ∷ []) _ _ (laid-in _ _ _ (c .lay .ensures) (search needs)) (search needs) ((tt, search needs), tt)
+returns c = laid-fields ((3, _) ∷ []) _ _ (laid-in _ _ _ (c .lay .ensures) (search needs)) (search needs)
+    ((tt, search needs), tt)
 
 pub lay-components-spec : {M : Type 1} → statement M
 lay-components-spec = tie.close (tie.spec lay-requires returns)

@@ -18,7 +18,8 @@ returns c =
     let l = f .before .before in
     let h = l .before .before .before in
     let a = h .before .before .args in
-    ends-laid 2048 (a .units) _ (h .held .result) (a .table .now) (a .words .now) _ _ _ refl (search needs) (search needs) (search needs) (h .held .ensures) refl (l .lay .ensures) (f .fill .ensures) (c .lay2 .ensures)
+    ends-laid 2048 (a .units) _ (h .held .result) (a .table .now) (a .words .now) _ _ _ refl (search needs)
+    (search needs) (search needs) (h .held .ensures) refl (l .lay .ensures) (f .fill .ensures) (c .lay2 .ensures)
 
 pub lay-ends-spec : {M : Type 1} → statement M
 lay-ends-spec =

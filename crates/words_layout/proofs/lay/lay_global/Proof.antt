@@ -8,7 +8,10 @@ use Rattle.words_layout.proofs.lay.lay_global.Tie as tie
 
 returns : tie.Need-returns
 unfolding stateOf
-returns c = laid-fields ((17, _) ∷ (18, _) ∷ []) _ _ (c .lay-two .ensures) (search needs) ((tt, search needs), ((tt, search needs), tt))
+returns c = laid-fields ((17, _) ∷ (18, _) ∷ []) _ _ (c .lay-two .ensures) (search needs) (
+  (tt, search needs),
+  ((tt, search needs), tt),
+)
 
 pub lay-global-spec : {M : Type 1} → statement M
 lay-global-spec =

@@ -17,7 +17,8 @@ returns c =
     let f = c .before .before .before in
     let h = f .before .before in
     let a = h .before .args in
-    levels-laid 1024 (h .held .result) (a .levels .now) (a .words .now) _ _ refl (search needs) (search needs) (h .held .ensures) (f .fill .ensures) (c .lay-levels .ensures .0) (c .lay-levels .ensures .1)
+    levels-laid 1024 (h .held .result) (a .levels .now) (a .words .now) _ _ refl (search needs) (search needs)
+    (h .held .ensures) (f .fill .ensures) (c .lay-levels .ensures .0) (c .lay-levels .ensures .1)
 
 pub lay-levels-spec : {M : Type 1} → statement M
 lay-levels-spec =

@@ -12,7 +12,9 @@ lay-requires c κs = tt
 
 returns : tie.Need-returns
 unfolding stateOf
-returns c = laid-fields ((10, _) ∷ (11, _) ∷ (12, _) ∷ []) _ _ (rw (c .before .before .before .lay-two .ensures) at (laid-in _ _ _ (c .lay .ensures) (search needs))) (search needs) ((tt, search needs), ((tt, search needs), ((tt, search needs), tt)))
+returns c = laid-fields ((10, _) ∷ (11, _) ∷ (12, _) ∷ []) _ _
+    (rw (c .before .before .before .lay-two .ensures) at (laid-in _ _ _ (c .lay .ensures) (search needs)))
+    (search needs) ((tt, search needs), ((tt, search needs), ((tt, search needs), tt)))
 
 pub lay-order-spec : {M : Type 1} → statement M
 lay-order-spec =

@@ -16,7 +16,9 @@ lay-requires-2 c κs = tt
 
 returns : tie.Need-returns
 unfolding stateOf
-returns c = laid-fields ((25, _) ∷ (26, _) ∷ []) _ _ (rw (laid-in _ _ _ (c .before .before .before .lay .ensures) (search needs)) at (laid-in _ _ _ (c .lay2 .ensures) (search needs))) (search needs) ((tt, search needs), ((tt, refl), tt))
+returns c = laid-fields ((25, _) ∷ (26, _) ∷ []) _ _
+    (rw (laid-in _ _ _ (c .before .before .before .lay .ensures) (search needs)) at
+    (laid-in _ _ _ (c .lay2 .ensures) (search needs))) (search needs) ((tt, search needs), ((tt, refl), tt))
 
 pub lay-plan-spec : {M : Type 1} → statement M
 lay-plan-spec =

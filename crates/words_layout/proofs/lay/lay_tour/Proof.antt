@@ -8,7 +8,10 @@ use Rattle.words_layout.proofs.lay.lay_tour.Tie as tie
 
 returns : tie.Need-returns
 unfolding stateOf
-returns c = laid-fields ((6, _) ∷ (7, _) ∷ []) _ _ (c .lay-two .ensures) (search needs) ((tt, search needs), ((tt, search needs), tt))
+returns c = laid-fields ((6, _) ∷ (7, _) ∷ []) _ _ (c .lay-two .ensures) (search needs) (
+  (tt, search needs),
+  ((tt, search needs), tt),
+)
 
 pub lay-tour-spec : {M : Type 1} → statement M
 lay-tour-spec =

@@ -8,7 +8,10 @@ use Rattle.words_layout.proofs.lay.lay_tree.Tie as tie
 
 returns : tie.Need-returns
 unfolding stateOf
-returns c = laid-fields ((4, _) ∷ (5, _) ∷ []) _ _ (c .lay-two .ensures) (search needs) ((tt, search needs), ((tt, search needs), tt))
+returns c = laid-fields ((4, _) ∷ (5, _) ∷ []) _ _ (c .lay-two .ensures) (search needs) (
+  (tt, search needs),
+  ((tt, search needs), tt),
+)
 
 pub lay-tree-spec : {M : Type 1} → statement M
 lay-tree-spec =

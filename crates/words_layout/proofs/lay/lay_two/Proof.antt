@@ -11,7 +11,8 @@ lay-requires-2 : tie.Need-lay-requires-2
 lay-requires-2 c κs = tt
 
 returns : tie.Need-returns
-returns c = rw (laid-in _ _ _ (c .before .before .before .before .before .before .lay .ensures) (search needs)) at (laid-in _ _ _ (c .before .before .lay2 .ensures) (search needs))
+returns c = rw (laid-in _ _ _ (c .before .before .before .before .before .before .lay .ensures) (search needs)) at
+    (laid-in _ _ _ (c .before .before .lay2 .ensures) (search needs))
 
 pub lay-two-spec : {M : Type 1} → statement M
 lay-two-spec =

@@ -11,7 +11,12 @@ returns : tie.Need-returns
 unfolding stateOf
 returns c =
     let ws = c .before .before .before .before .args .words .now in
-    rw (number-in 2050 4 0 ws (lit< tt), number-in 2050 4 1 ws (lit< tt), number-in 2050 4 2 ws (lit< tt), number-in 2050 4 3 ws (lit< tt)) refl
+    rw (
+      number-in 2050 4 0 ws (lit< tt),
+      number-in 2050 4 1 ws (lit< tt),
+      number-in 2050 4 2 ws (lit< tt),
+      number-in 2050 4 3 ws (lit< tt),
+    ) refl
 
 pub clock-at-spec : {M : Type 1} → statement M
 clock-at-spec =

@@ -16,7 +16,11 @@ units-at-requires-2 c κs = tt
 
 returns : tie.Need-returns
 unfolding stateOf
-returns c = rw (c .before .before .before .before .arcs-at .ensures .0 (search needs), c .before .before .units-at .ensures .0 (search needs), c .units-at2 .ensures .0 (search needs)) refl
+returns c = rw (
+  c .before .before .before .before .arcs-at .ensures .0 (search needs),
+  c .before .before .units-at .ensures .0 (search needs),
+  c .units-at2 .ensures .0 (search needs),
+) refl
 
 pub order-at-spec : {M : Type 1} → statement M
 order-at-spec = tie.close (tie.spec arcs-at-requires units-at-requires units-at-requires-2 returns)

@@ -19,7 +19,12 @@ units-at-requires-4 c κs = tt
 
 returns : tie.Need-returns
 unfolding stateOf
-returns c = rw (c .before .before .before .before .before .before .units-at .ensures .0 (search needs), c .before .before .before .before .units-at2 .ensures .0 (search needs), c .before .before .units-at3 .ensures .0 (search needs), c .units-at4 .ensures .0 (search needs)) refl
+returns c = rw (
+  c .before .before .before .before .before .before .units-at .ensures .0 (search needs),
+  c .before .before .before .before .units-at2 .ensures .0 (search needs),
+  c .before .before .units-at3 .ensures .0 (search needs),
+  c .units-at4 .ensures .0 (search needs),
+) refl
 
 pub range-at-spec : {M : Type 1} → statement M
 range-at-spec =

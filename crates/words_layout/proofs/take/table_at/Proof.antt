@@ -14,7 +14,11 @@ returns : tie.Need-returns
 unfolding stateOf
 returns c =
     let ws = c .before .before .before .before .args .words .now in
-    rw (number-in 0 2 0 ws (lit< tt), number-in 0 2 1 ws (lit< tt), c .before .before .ends-at .ensures .0 (search needs)) refl
+    rw (
+      number-in 0 2 0 ws (lit< tt),
+      number-in 0 2 1 ws (lit< tt),
+      c .before .before .ends-at .ensures .0 (search needs),
+    ) refl
 
 pub table-at-spec : {M : Type 1} → statement M
 table-at-spec =

@@ -13,15 +13,33 @@ returns c =
     let at-lay-clock = at-lay-range .before .before .before .before .before .before .before in
     let at-run = at-lay-clock .before .before .before in
     let at-clock-at = at-run .before in
-    let at-global-at = at-clock-at .before .before .before .before .before .before .before .before .before .before .before in
+    let at-global-at = at-clock-at .before .before .before .before .before .before .before .before
+    .before .before .before in
     let at-range-at = at-global-at .before .before .before .before .before .before in
     let at-order-at = at-range-at .before .before in
     let at-tree-at = at-order-at .before .before in
     let at-table-at = at-tree-at .before .before in
     let start = at-table-at .before .before in
     let s = stateOf (start .args .words .now) in
-    moved (Rounds.stage s) (start .args .budget) (record { low = s .range .low; high = s .range .high; little = s .range .little; big = s .range .big; least = s .global .low; greatest = s .global .high; clock = s .clock; made = 0 }) _ s _ (start .pre) refl refl
-    (rw (at-clock-at .clock-at .ensures, at-global-at .global-at .ensures, at-range-at .range-at .ensures, at-order-at .order-at .ensures, at-tree-at .tree-at .ensures, at-table-at .table-at .ensures) at (at-run .run .ensures))
+    moved (Rounds.stage s) (start .args .budget)
+    (record {
+      low = s .range .low;
+      high = s .range .high;
+      little = s .range .little;
+      big = s .range .big;
+      least = s .global .low;
+      greatest = s .global .high;
+      clock = s .clock;
+      made = 0;
+    }) _ s _ (start .pre) refl refl
+    (rw (
+      at-clock-at .clock-at .ensures,
+      at-global-at .global-at .ensures,
+      at-range-at .range-at .ensures,
+      at-order-at .order-at .ensures,
+      at-tree-at .tree-at .ensures,
+      at-table-at .table-at .ensures,
+    ) at (at-run .run .ensures))
     (rw (c .lay-global .ensures, at-lay-range .lay-range .ensures, at-lay-clock .lay-clock .ensures) refl)
 
 pub range-stage-spec : {M : Type 1} → statement M

@@ -16,8 +16,13 @@ returns c =
     let at-table-at = at-components-at .before .before in
     let start = at-table-at .before .before in
     let s = stateOf (start .args .words .now) in
-    moved (Rounds.stage s) (start .args .budget) (record { color = s .components .color; clock = s .clock; made = 0 }) _ s _ (start .pre) refl refl
-    (rw (at-clock-at .clock-at .ensures, at-components-at .components-at .ensures, at-table-at .table-at .ensures) at (at-run .run .ensures))
+    moved (Rounds.stage s) (start .args .budget)
+    (record { color = s .components .color; clock = s .clock; made = 0 }) _ s _ (start .pre) refl refl
+    (rw (
+      at-clock-at .clock-at .ensures,
+      at-components-at .components-at .ensures,
+      at-table-at .table-at .ensures,
+    ) at (at-run .run .ensures))
     (rw (c .lay-components .ensures, at-lay-clock .lay-clock .ensures) refl)
 
 pub components-stage-spec : {M : Type 1} → statement M

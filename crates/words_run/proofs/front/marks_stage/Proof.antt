@@ -21,9 +21,30 @@ returns c =
     let at-table-at = at-components-at .before .before in
     let start = at-table-at .before .before in
     let s = stateOf (start .args .words .now) in
-    moved (Rounds.stage s) (start .args .budget) (record { forward = s .order .forward; nd = s .order .nd; jump = s .ranking .jump; sum = s .ranking .sum; clock = s .clock; made = 0 }) _ s _ (start .pre) refl refl
-    (rw (at-clock-at .clock-at .ensures, at-ranking-at .ranking-at .ensures, at-order-at .order-at .ensures, at-tour-at .tour-at .ensures, at-tree-at .tree-at .ensures, at-components-at .components-at .ensures, at-table-at .table-at .ensures) at (at-run .run .ensures))
-    (rw (c .lay-ranking .ensures, at-lay-order .lay-order .ensures, at-lay-clock .lay-clock .ensures, at-order-at .order-at .ensures) refl)
+    moved (Rounds.stage s) (start .args .budget)
+    (record {
+      forward = s .order .forward;
+      nd = s .order .nd;
+      jump = s .ranking .jump;
+      sum = s .ranking .sum;
+      clock = s .clock;
+      made = 0;
+    }) _ s _ (start .pre) refl refl
+    (rw (
+      at-clock-at .clock-at .ensures,
+      at-ranking-at .ranking-at .ensures,
+      at-order-at .order-at .ensures,
+      at-tour-at .tour-at .ensures,
+      at-tree-at .tree-at .ensures,
+      at-components-at .components-at .ensures,
+      at-table-at .table-at .ensures,
+    ) at (at-run .run .ensures))
+    (rw (
+      c .lay-ranking .ensures,
+      at-lay-order .lay-order .ensures,
+      at-lay-clock .lay-clock .ensures,
+      at-order-at .order-at .ensures,
+    ) refl)
 
 pub marks-stage-spec : {M : Type 1} → statement M
 marks-stage-spec =

@@ -16,8 +16,14 @@ returns c =
     let at-table-at = at-ranking-at .before .before in
     let start = at-table-at .before .before in
     let s = stateOf (start .args .words .now) in
-    moved (Rounds.stage s) (start .args .budget) (record { jump = s .ranking .jump; sum = s .ranking .sum; clock = s .clock; made = 0 }) _ s _ (start .pre) refl refl
-    (rw (at-clock-at .clock-at .ensures, at-ranking-at .ranking-at .ensures, at-table-at .table-at .ensures) at (at-run .run .ensures))
+    moved (Rounds.stage s) (start .args .budget)
+    (record { jump = s .ranking .jump; sum = s .ranking .sum; clock = s .clock; made = 0 }) _ s _
+    (start .pre) refl refl
+    (rw (
+      at-clock-at .clock-at .ensures,
+      at-ranking-at .ranking-at .ensures,
+      at-table-at .table-at .ensures,
+    ) at (at-run .run .ensures))
     (rw (c .lay-ranking .ensures, at-lay-clock .lay-clock .ensures) refl)
 
 pub ranking-stage-spec : {M : Type 1} → statement M

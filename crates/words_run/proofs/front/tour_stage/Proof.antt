@@ -19,8 +19,22 @@ returns c =
     let at-table-at = at-tree-at .before .before in
     let start = at-table-at .before .before in
     let s = stateOf (start .args .words .now) in
-    moved (Rounds.stage s) (start .args .budget) (record { next = s .tour .next; pred = s .tour .pred; jump = s .ranking .jump; sum = s .ranking .sum; clock = s .clock; made = 0 }) _ s _ (start .pre) refl refl
-    (rw (at-clock-at .clock-at .ensures, at-ranking-at .ranking-at .ensures, at-tour-at .tour-at .ensures, at-tree-at .tree-at .ensures, at-table-at .table-at .ensures) at (at-run .run .ensures))
+    moved (Rounds.stage s) (start .args .budget)
+    (record {
+      next = s .tour .next;
+      pred = s .tour .pred;
+      jump = s .ranking .jump;
+      sum = s .ranking .sum;
+      clock = s .clock;
+      made = 0;
+    }) _ s _ (start .pre) refl refl
+    (rw (
+      at-clock-at .clock-at .ensures,
+      at-ranking-at .ranking-at .ensures,
+      at-tour-at .tour-at .ensures,
+      at-tree-at .tree-at .ensures,
+      at-table-at .table-at .ensures,
+    ) at (at-run .run .ensures))
     (rw (c .lay-ranking .ensures, at-lay-tour .lay-tour .ensures, at-lay-clock .lay-clock .ensures) refl)
 
 pub tour-stage-spec : {M : Type 1} → statement M

@@ -16,8 +16,17 @@ returns c =
     let levels = components .before .before in
     let start = levels .before .before .before .before in
     let s = stateOf (start .args .words .now) in
-    moved (Rounds.stage s) (start .args .budget) (record { parent = s .tree .parent; dist = s .tree .dist; clock = s .clock; made = 0 }) _ s _ (start .pre) refl refl
-    (rw (run .before .clock-at .ensures, tree .tree-at .ensures, plan .plan-at .ensures, components .components-at .ensures, levels .levels-at .ensures, levels .before .before .table-at .ensures) at (run .run .ensures))
+    moved (Rounds.stage s) (start .args .budget)
+    (record { parent = s .tree .parent; dist = s .tree .dist; clock = s .clock; made = 0 }) _ s _
+    (start .pre) refl refl
+    (rw (
+      run .before .clock-at .ensures,
+      tree .tree-at .ensures,
+      plan .plan-at .ensures,
+      components .components-at .ensures,
+      levels .levels-at .ensures,
+      levels .before .before .table-at .ensures,
+    ) at (run .run .ensures))
     (rw (c .lay-tree .ensures, c .before .before .before .before .before .lay-clock .ensures) refl)
 
 pub tree-stage-spec : {M : Type 1} → statement M

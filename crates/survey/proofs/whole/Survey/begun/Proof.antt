@@ -10,7 +10,19 @@ unfolding begun
 returns c =
     let c4 = c .before .before .before .before in
     let c8 = c4 .before .before .before .before in
-    rw (c .labels .ensures, c .before .aux .ensures, c .before .before .global .ensures, c .before .before .before .range .ensures, c4 .order .ensures, c4 .before .ranking .ensures, c4 .before .before .tour .ensures, c4 .before .before .before .tree .ensures, c8 .unplanned .ensures, c8 .before .components .ensures, c8 .before .before .clock .ensures) refl
+    rw (
+      c .labels .ensures,
+      c .before .aux .ensures,
+      c .before .before .global .ensures,
+      c .before .before .before .range .ensures,
+      c4 .order .ensures,
+      c4 .before .ranking .ensures,
+      c4 .before .before .tour .ensures,
+      c4 .before .before .before .tree .ensures,
+      c8 .unplanned .ensures,
+      c8 .before .components .ensures,
+      c8 .before .before .clock .ensures,
+    ) refl
 
 pub begun-spec : {M : Type 1} → statement M
 begun-spec =

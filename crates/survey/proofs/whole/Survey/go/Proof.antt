@@ -39,16 +39,21 @@ sub-left c = c .before .before .loop .inv .within
 
 -- so many rounds, at least one, bring the run from this turn of the loop to s
 abbrev Done : tie.In-loop Inv-loop μ-loop → ℕ → State → Type 0
-Done t made s = Going (t .before .before .args .budget) (of (t .before .before .args .t1)) (t .before .loop .made + made) s × (1 ≤ made)
+Done t made s = Going (t .before .before .args .budget) (of (t .before .before .args .t1))
+    (t .before .loop .made + made) s × (1 ≤ made)
 
 -- the rounds of the stage that the clock shows
-done : {X : Type 0} {k n : ℕ} {fits : Bool} {clock : X → Clock} {one : X → X} {count : X → ℕ} {into : X → State} (t : tie.In-loop Inv-loop μ-loop)
-    → Stage k n fits clock one count into → (x y : X) → t .before .loop .self .clock .stage ≡ k → count x ≡ 0 → into x ≡ of (t .before .loop .self)
-    → y ≡ stageRun (λ (x : X). fits && inStage n k (clock x)) one (t .before .before .args .budget - t .before .loop .made) x
+done : {X : Type 0} {k n : ℕ} {fits : Bool} {clock : X → Clock} {one : X → X} {count : X → ℕ} {into : X →
+    State} (t : tie.In-loop Inv-loop μ-loop)
+    → Stage k n fits clock one count into → (x y : X) → t .before .loop .self .clock .stage ≡ k → count x ≡ 0 →
+    into x ≡ of (t .before .loop .self)
+    → y ≡ stageRun (λ (x : X). fits && inStage n k (clock x)) one
+    (t .before .before .args .budget - t .before .loop .made) x
     → Done t (count y) (into y)
 done t st x y e none at run =
     let l = t .before in
-    arm st (l .before .args .budget) (of (l .before .args .t1)) (l .loop .made) x y (of (l .loop .self)) _ (l .loop .inv) (t .loop-test .taken) e none at run refl
+    arm st (l .before .args .budget) (of (l .before .args .t1)) (l .loop .made) x y (of (l .loop .self)) _
+    (l .loop .inv) (t .loop-test .taken) e none at run refl
 
 -- ---- the arms: where each has run, and the turn of the loop that it belongs to
 
@@ -115,44 +120,64 @@ turn-10 c = ran-10 c .before .before .before .before .before .before .before .be
 -- ---- what each arm brings about
 
 done-1 : (c : tie.After-struct-known Inv-loop μ-loop)
-    → Done (turn-1 c .before .before) (ran-1 c .run .result .made) (Components.into (of (turn-1 c .before .before .before .loop .self)) (ran-1 c .run .result))
-done-1 c = done (turn-1 c .before .before) (Components.stage (of (turn-1 c .before .before .before .loop .self))) _ _ (turn-1 c .match .keys1) refl refl (ran-1 c .run .ensures)
+    → Done (turn-1 c .before .before) (ran-1 c .run .result .made)
+    (Components.into (of (turn-1 c .before .before .before .loop .self)) (ran-1 c .run .result))
+done-1 c = done (turn-1 c .before .before) (Components.stage (of (turn-1 c .before .before .before .loop .self))) _ _
+    (turn-1 c .match .keys1) refl refl (ran-1 c .run .ensures)
 
 done-2 : (c : tie.After-struct-known2 Inv-loop μ-loop)
-    → Done (turn-2 c .before .before) (ran-2 c .run2 .result .made) (Tree.into (of (turn-2 c .before .before .before .loop .self)) (ran-2 c .run2 .result))
-done-2 c = done (turn-2 c .before .before) (Tree.stage (of (turn-2 c .before .before .before .loop .self))) _ _ (turn-2 c .match .keys2) refl refl (ran-2 c .run2 .ensures)
+    → Done (turn-2 c .before .before) (ran-2 c .run2 .result .made)
+    (Tree.into (of (turn-2 c .before .before .before .loop .self)) (ran-2 c .run2 .result))
+done-2 c = done (turn-2 c .before .before) (Tree.stage (of (turn-2 c .before .before .before .loop .self))) _ _
+    (turn-2 c .match .keys2) refl refl (ran-2 c .run2 .ensures)
 
 done-3 : (c : tie.After-struct-known3 Inv-loop μ-loop)
-    → Done (turn-3 c .before .before) (ran-3 c .run3 .result .made) (Tour.into (of (turn-3 c .before .before .before .loop .self)) (ran-3 c .run3 .result))
-done-3 c = done (turn-3 c .before .before) (Tour.stage (of (turn-3 c .before .before .before .loop .self))) _ _ (turn-3 c .match .keys3) refl refl (ran-3 c .run3 .ensures)
+    → Done (turn-3 c .before .before) (ran-3 c .run3 .result .made)
+    (Tour.into (of (turn-3 c .before .before .before .loop .self)) (ran-3 c .run3 .result))
+done-3 c = done (turn-3 c .before .before) (Tour.stage (of (turn-3 c .before .before .before .loop .self))) _ _
+    (turn-3 c .match .keys3) refl refl (ran-3 c .run3 .ensures)
 
 done-4 : (c : tie.After-struct-known4 Inv-loop μ-loop)
-    → Done (turn-4 c .before .before) (ran-4 c .run4 .result .made) (Ranking.into (of (turn-4 c .before .before .before .loop .self)) (ran-4 c .run4 .result))
-done-4 c = done (turn-4 c .before .before) (Ranking.stage (of (turn-4 c .before .before .before .loop .self))) _ _ (turn-4 c .match .keys4) refl refl (ran-4 c .run4 .ensures)
+    → Done (turn-4 c .before .before) (ran-4 c .run4 .result .made)
+    (Ranking.into (of (turn-4 c .before .before .before .loop .self)) (ran-4 c .run4 .result))
+done-4 c = done (turn-4 c .before .before) (Ranking.stage (of (turn-4 c .before .before .before .loop .self))) _ _
+    (turn-4 c .match .keys4) refl refl (ran-4 c .run4 .ensures)
 
 done-5 : (c : tie.After-struct-known5 Inv-loop μ-loop)
-    → Done (turn-5 c .before .before) (ran-5 c .run5 .result .made) (Marks.into (of (turn-5 c .before .before .before .loop .self)) (ran-5 c .run5 .result))
-done-5 c = done (turn-5 c .before .before) (Marks.stage (of (turn-5 c .before .before .before .loop .self))) _ _ (turn-5 c .match .keys5) refl refl (ran-5 c .run5 .ensures)
+    → Done (turn-5 c .before .before) (ran-5 c .run5 .result .made)
+    (Marks.into (of (turn-5 c .before .before .before .loop .self)) (ran-5 c .run5 .result))
+done-5 c = done (turn-5 c .before .before) (Marks.stage (of (turn-5 c .before .before .before .loop .self))) _ _
+    (turn-5 c .match .keys5) refl refl (ran-5 c .run5 .ensures)
 
 done-6 : (c : tie.After-struct-known6 Inv-loop μ-loop)
-    → Done (turn-6 c .before .before) (ran-6 c .run6 .result .made) (Places.into (of (turn-6 c .before .before .before .loop .self)) (ran-6 c .run6 .result))
-done-6 c = done (turn-6 c .before .before) (Places.stage (of (turn-6 c .before .before .before .loop .self))) _ _ (turn-6 c .match .keys6) refl refl (ran-6 c .run6 .ensures)
+    → Done (turn-6 c .before .before) (ran-6 c .run6 .result .made)
+    (Places.into (of (turn-6 c .before .before .before .loop .self)) (ran-6 c .run6 .result))
+done-6 c = done (turn-6 c .before .before) (Places.stage (of (turn-6 c .before .before .before .loop .self))) _ _
+    (turn-6 c .match .keys6) refl refl (ran-6 c .run6 .ensures)
 
 done-7 : (c : tie.After-struct-known7 Inv-loop μ-loop)
-    → Done (turn-7 c .before .before) (ran-7 c .run7 .result .made) (Range.into (of (turn-7 c .before .before .before .loop .self)) (ran-7 c .run7 .result))
-done-7 c = done (turn-7 c .before .before) (Range.stage (of (turn-7 c .before .before .before .loop .self))) _ _ (turn-7 c .match .keys7) refl refl (ran-7 c .run7 .ensures)
+    → Done (turn-7 c .before .before) (ran-7 c .run7 .result .made)
+    (Range.into (of (turn-7 c .before .before .before .loop .self)) (ran-7 c .run7 .result))
+done-7 c = done (turn-7 c .before .before) (Range.stage (of (turn-7 c .before .before .before .loop .self))) _ _
+    (turn-7 c .match .keys7) refl refl (ran-7 c .run7 .ensures)
 
 done-8 : (c : tie.After-struct-known8 Inv-loop μ-loop)
-    → Done (turn-8 c .before .before) (ran-8 c .run8 .result .made) (Joins.into (of (turn-8 c .before .before .before .loop .self)) (ran-8 c .run8 .result))
-done-8 c = done (turn-8 c .before .before) (Joins.stage (of (turn-8 c .before .before .before .loop .self))) _ _ (turn-8 c .match .keys8) refl refl (ran-8 c .run8 .ensures)
+    → Done (turn-8 c .before .before) (ran-8 c .run8 .result .made)
+    (Joins.into (of (turn-8 c .before .before .before .loop .self)) (ran-8 c .run8 .result))
+done-8 c = done (turn-8 c .before .before) (Joins.stage (of (turn-8 c .before .before .before .loop .self))) _ _
+    (turn-8 c .match .keys8) refl refl (ran-8 c .run8 .ensures)
 
 done-9 : (c : tie.After-struct-known9 Inv-loop μ-loop)
-    → Done (turn-9 c .before .before) (ran-9 c .run9 .result .made) (Classes.into (of (turn-9 c .before .before .before .loop .self)) (ran-9 c .run9 .result))
-done-9 c = done (turn-9 c .before .before) (Classes.stage (of (turn-9 c .before .before .before .loop .self))) _ _ (turn-9 c .match .keys9) refl refl (ran-9 c .run9 .ensures)
+    → Done (turn-9 c .before .before) (ran-9 c .run9 .result .made)
+    (Classes.into (of (turn-9 c .before .before .before .loop .self)) (ran-9 c .run9 .result))
+done-9 c = done (turn-9 c .before .before) (Classes.stage (of (turn-9 c .before .before .before .loop .self))) _ _
+    (turn-9 c .match .keys9) refl refl (ran-9 c .run9 .ensures)
 
 done-10 : (c : tie.After-struct-known10 Inv-loop μ-loop)
-    → Done (turn-10 c .before .before) (ran-10 c .run10 .result .made) (Labels.into (of (turn-10 c .before .before .before .loop .self)) (ran-10 c .run10 .result))
-done-10 c = done (turn-10 c .before .before) (Labels.stage (of (turn-10 c .before .before .before .loop .self))) _ _ (turn-10 c .match .keys10) refl refl (ran-10 c .run10 .ensures)
+    → Done (turn-10 c .before .before) (ran-10 c .run10 .result .made)
+    (Labels.into (of (turn-10 c .before .before .before .loop .self)) (ran-10 c .run10 .result))
+done-10 c = done (turn-10 c .before .before) (Labels.stage (of (turn-10 c .before .before .before .loop .self))) _ _
+    (turn-10 c .match .keys10) refl refl (ran-10 c .run10 .ensures)
 
 -- ---- the needs of the arms
 
@@ -270,7 +295,8 @@ returns c =
 returns-2 : tie.Need-returns-2 Inv-loop μ-loop
 returns-2 c =
     let l = c .before in
-    spent (l .before .args .budget) (of (l .before .args .t1)) (l .loop .made) (of (l .loop .self)) (l .loop .inv) (c .loop-test .left)
+    spent (l .before .args .budget) (of (l .before .args .t1)) (l .loop .made) (of (l .loop .self)) (l .loop .inv)
+    (c .loop-test .left)
 
 pub go-spec : {M : Type 1} → statement M
 go-spec =

@@ -12,12 +12,14 @@ returns : tie.Need-returns
 returns c =
     let a = c .before .before .before .args in
     let r = c .before .refusal in
-    answered-refused (refusalAs (a .fresh) (a .units) (a .table .now) (a .levels .now)) (r .result) (of (a .self)) _ _ (r .ensures) (c .if1 .taken)
+    answered-refused (refusalAs (a .fresh) (a .units) (a .table .now) (a .levels .now)) (r .result) (of (a .self)) _ _
+    (r .ensures) (c .if1 .taken)
 
 loaded-requires : tie.Need-loaded-requires
 loaded-requires c κs =
     let a = c .before .before .before .args in
-    as-accepted (a .fresh) (a .units) (a .table .now) (a .levels .now) (sym (c .before .refusal .ensures) ∙ c .if1 .left)
+    as-accepted (a .fresh) (a .units) (a .table .now) (a .levels .now) (sym (c .before .refusal .ensures)
+    ∙ c .if1 .left)
 
 returns-2 : tie.Need-returns-2
 returns-2 c =

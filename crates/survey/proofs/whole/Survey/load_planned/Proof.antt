@@ -13,7 +13,8 @@ unfolding plannedLoadAnswer
 returns c =
     let a = c .before .before .before .before .args in
     let r = c .before .refusal in
-    answered-refused (plannedLoadRefusal (record { units = a .units; words = a .table .now; levels = a .levels .now }) (a .parents .now)) (r .result) (of (a .self)) _ _ (r .ensures) (c .if1 .taken)
+    answered-refused (plannedLoadRefusal (record { units = a .units; words = a .table .now; levels = a .levels .now })
+    (a .parents .now)) (r .result) (of (a .self)) _ _ (r .ensures) (c .if1 .taken)
 
 drawn-requires : tie.Need-drawn-requires
 drawn-requires c κs = sym (c .before .refusal .ensures) ∙ c .if1 .left

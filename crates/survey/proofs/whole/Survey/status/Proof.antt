@@ -9,7 +9,8 @@ use Rattle.survey.proofs.whole.Survey.status.Statement.{statement}
 use Rattle.survey.proofs.whole.Survey.status.Tie as tie
 
 returns : tie.Need-returns
-returns c = status-refused (of (c .before .before .args .self)) (sym (c .before .well-formed .ensures) ∙ not-true _ (c .if1 .taken))
+returns c = status-refused (of (c .before .before .args .self)) (sym (c .before .well-formed .ensures)
+    ∙ not-true _ (c .if1 .taken))
 
 returns-2 : tie.Need-returns-2
 returns-2 c =

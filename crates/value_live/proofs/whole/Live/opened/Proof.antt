@@ -30,7 +30,8 @@ returns-2 c =
     let r = c .before .before .refusal in
     let a = c .before .before .before .before .args in
     let x : Input = record { units = a .units; words = a .words .now; levels = a .levels .now } in
-    rw (c .made2 .ensures) (answer-made (openRefusal x) (r .result) unopened (liveOf x) (r .ensures) (c .before .if1 .left))
+    rw (c .made2 .ensures) (answer-made (openRefusal x) (r .result) unopened (liveOf x) (r .ensures)
+    (c .before .if1 .left))
 
 pub opened-spec : {M : Type 1} → statement M
 opened-spec =
