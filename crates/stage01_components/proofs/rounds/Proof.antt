@@ -48,6 +48,7 @@ loop-again : tie.Need-loop-again Inv-loop μ-loop
 unfolding one
 loop-again c =
     let at-round = c .before .before .before .before in
+    let t = at-round .before .before in
     let at-loop = at-round .before .before .before .before in
     let g = go t in (
       search (at-round .round .ok, needs),

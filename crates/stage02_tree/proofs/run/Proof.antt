@@ -36,6 +36,7 @@ sub-remaining c = omega (arith, go (c .before) .below)
 
 remaining-requires : tie.Need-remaining-requires Inv-loop μ-loop
 remaining-requires c κs =
+    let t = c .before in
     let start = c .before .before .before .before .before .before .before .before .before in
     let g = go t in
     (g .fit, g .inside, omega (arith, g .below, start .fits .budget))
@@ -47,6 +48,7 @@ returns c =
 
 round-requires : tie.Need-round-requires Inv-loop μ-loop
 round-requires c κs =
+    let t = c .before in
     let at-links-fit-arg = c .before .before .before .before .before .before .before .before in
     let start = at-links-fit-arg .before in
     let g = go t in

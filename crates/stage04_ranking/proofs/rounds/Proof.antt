@@ -41,6 +41,7 @@ unfolding one rankingEnds
 loop-again c =
     let at-ticked = c .before .before .before in
     let at-requests = at-ticked .before in
+    let i = at-requests .before .before in
     let at-loop = at-requests .before .before .before .before in
     let start = at-loop .before in
     let g = go i in

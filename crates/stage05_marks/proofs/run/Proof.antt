@@ -46,6 +46,7 @@ unfolding one
 loop-again c =
     let at-if2 = c .before .before .before in
     let at-ticked = at-if2 .before .before in
+    let i = at-ticked .before .before in
     let at-loop = at-ticked .before .before .before .before in
     let g = go i in
     let first = eq-eqb (at-loop .loop .c .made) 0 (at-if2 .if2 .taken) in
@@ -77,6 +78,7 @@ loop-again-2 c =
     let at-descend = c .before .before .before .before in
     let at-if2 = at-descend .before .before .before in
     let at-ticked = at-if2 .before .before in
+    let i = at-ticked .before .before in
     let at-loop = at-ticked .before .before .before .before in
     let g = go i in
     let later = ne-eqb (at-loop .loop .c .made) 0 (at-if2 .if2 .left) in

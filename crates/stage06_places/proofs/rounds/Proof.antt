@@ -49,6 +49,7 @@ loop-again c =
     let at-ticked = at-number-if .before .before .before in
     let at-is-last = at-ticked .before in
     let at-requests = at-is-last .before in
+    let i = at-requests .before .before in
     let at-loop = at-requests .before .before .before .before in
     let start = at-loop .before in
     let g = go i in

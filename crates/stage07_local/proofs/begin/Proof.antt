@@ -70,6 +70,7 @@ returns-2 c =
     let at-locals = at-segments-begin .before .before .before .before .before .before .before in
     let at-firsts = at-locals .before .before in
     let at-firsts-arg = at-firsts .before in
+    let e = at-firsts-arg .before in
     let start = at-firsts-arg .before .before .before .before .before in
     let a = start .args in
     let on = passed e in

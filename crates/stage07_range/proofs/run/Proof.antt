@@ -71,6 +71,7 @@ unfolding rangeEnds
 loop-again c =
     let at-if2 = c .before .before .before .before .before .before .before in
     let at-ticked = at-if2 .before .before in
+    let i = at-ticked .before .before in
     let at-loop = at-ticked .before .before .before .before in
     let at-lg = at-loop .before in
     let g = go i in
@@ -98,6 +99,7 @@ unfolding rangeEnds
 loop-again-2 c =
     let at-if2 = c .before .before .before .before .before .before .before .before in
     let at-ticked = at-if2 .before .before in
+    let i = at-ticked .before .before in
     let at-loop = at-ticked .before .before .before .before in
     let at-lg = at-loop .before in
     let g = go i in

@@ -40,6 +40,7 @@ returns-2 c =
     let at-components-at = at-tree-at .before in
     let at-labels-at = at-components-at .before in
     let at-if1 = at-labels-at .before in
+    let r = at-if1 .before in
     let at-clock-at = at-if1 .before .before .before in
     let at-table-at = at-clock-at .before in
     let start = at-table-at .before .before in

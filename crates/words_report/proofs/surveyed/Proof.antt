@@ -72,6 +72,7 @@ returns-3 : tie.Need-returns-3
 returns-3 c =
     let at-report = c .before .before .before in
     let start = at-report .before .before .before in
+    let e = start .before .before .before in
     let start-10 = start .before .before .before .before in
     let at-if1 = start-10 .before .before in
     let told = rw (ended (start)) at (at-report .report .ensures .0) in
@@ -91,6 +92,7 @@ returns-4 : tie.Need-returns-4
 returns-4 c =
     let at-report = c .before .before .before in
     let start = at-report .before .before .before in
+    let e = start .before .before .before in
     let start-10 = start .before .before .before .before in
     let at-if1 = start-10 .before .before in
     let told = rw (ended (start)) at (at-report .report .ensures .0) in

@@ -150,6 +150,7 @@ rounds-requires : tie.Need-rounds-requires Inv-loop μ-loop
 rounds-requires c κs =
     let at-if3 = c .before .before .before in
     let at-if2 = at-if3 .before in
+    let k = at-if2 .before .before in
     let at-loop = at-if2 .before .before .before .before .before in
     let from = rw (shown k) at (kept-exact _ .0 (at-loop .loop .inv .well) .from) in
     (shown k, (omega (arith, from, at-if3 .if3 .left, at-if2 .if2 .left), omega (arith, c .before .if5 .taken)))

@@ -85,6 +85,7 @@ late : (c : tie.After-link-refusal) → c .link-refusal .result
     .before .before .before .before .before .before .before
     .before .before .before .before .before .args .t1))
 late c =
+    let e = c .before .before .before .before .before in
     let start = c .before .before .before .before .before .before .before in
     let start-14 = start .before .before .before .before .before .before .before in
     let a = start-14 .args in
@@ -109,6 +110,7 @@ place-in-requires c κs =
 returns-2 : tie.Need-returns-2
 unfolding addAnswer
 returns-2 c =
+    let q = c .before in
     let start = c .before .before .before .before .before .before .before .before .before .before .before
     .before .before .before .before in
     let a = start .args in
@@ -117,6 +119,7 @@ returns-2 c =
 
 longer-requires : tie.Need-longer-requires
 longer-requires c κs =
+    let q = c .before in
     let start = c .before .before .before .before .before .before .before .before .before .before .before
     .before .before .before .before in
     let a = start .args in
@@ -127,6 +130,7 @@ longer-requires c κs =
 returns-3 : tie.Need-returns-3
 unfolding addAnswer
 returns-3 c =
+    let q = c .before .before in
     let start = c .before .before .before .before .before .before .before .before .before .before .before
     .before .before .before .before .before in
     let a = start .args in

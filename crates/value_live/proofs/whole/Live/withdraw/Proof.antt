@@ -68,6 +68,7 @@ late : (c : tie.After-pair-refusal) → c .pair-refusal .result
     .before .before .before .before .before .before .before .before .before
     .before .before .before .before .before .args .t1))
 late c =
+    let e = c .before .before .before .before .before in
     let start = c .before .before .before .before .before .before .before in
     let start-14 = start .before .before .before .before .before .before .before in
     let a = start-14 .args in
@@ -92,6 +93,7 @@ place-in-requires c κs =
 returns-2 : tie.Need-returns-2
 unfolding withdrawAnswer
 returns-2 c =
+    let q = c .before in
     let start = c .before .before .before .before .before .before .before .before .before .before .before
     .before .before .before .before in
     let a = start .args in
@@ -100,6 +102,7 @@ returns-2 c =
 
 shorter-requires : tie.Need-shorter-requires
 shorter-requires c κs =
+    let q = c .before in
     let start = c .before .before .before .before .before .before in
     let start-15 = start .before .before .before .before .before .before .before .before .before in
     let a = start-15 .args in (
@@ -111,6 +114,7 @@ shorter-requires c κs =
 returns-3 : tie.Need-returns-3
 unfolding withdrawAnswer
 returns-3 c =
+    let q = c .before .before in
     let at-place-in = c .before .before .before in
     let start = at-place-in .before .before .before .before .before .before .before .before .before
     .before .before .before .before in
