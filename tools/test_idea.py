@@ -52,7 +52,7 @@ class Page(unittest.TestCase):
                 self.assertTrue(self.stands(quoted))
 
     def test_a_name_that_is_not_there(self):
-        for missing in ("theory_graph/Splice.no-such", "theory_graph/Nowhere.blocks", "no_crate/Blocks.blocks", "no_crate"):
+        for missing in ("theory_graph/Splice.none", "theory_graph/Nowhere.blocks", "no_crate/Rings.Ring", "no_crate"):
             self.assertFalse(self.stands(missing))
 
     def test_each_section_ends_with_its_theorems(self):
