@@ -50,6 +50,7 @@ def parts_of(text):
     """The tables and paragraphs of a document, each under its headings; **Bold.** at its front is a heading too."""
     heads, found = {}, []
     text = re.sub(r"(?ms)^```.*?^```", "", text)
+    text = re.sub(r"(?m)^([^|\n].*)\n(?=\|)", r"\1\n\n", text)
     for chunk in re.split(r"\n\s*\n", text):
         chunk = chunk.strip("\n")
         titled = re.match(r"(#+) (.*)", chunk)

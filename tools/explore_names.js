@@ -73,9 +73,13 @@ function called(path, crate) {
   return null;
 }
 
-// where a word in a file leads to
-function wayTo(word, kind, key, file) {
+// where a word in a file leads to; in code a word right before a bracket is a call, and no name of the logic
+function wayTo(word, kind, key, file, call) {
   const uses = usesOf(file);
+  if (call && !word.includes("::")) {
+    if (uses.code.has(word)) return called(uses.code.get(word), key.split("/")[0]);
+    return own(file.d, word) ? `f/${key}.${word}` : null;
+  }
   const dot = word.indexOf(".");
   const front = word.slice(0, dot);
   if (dot > 0 && uses.modules.has(front)) return addressOf(uses.modules.get(front), word.slice(dot + 1));
@@ -93,7 +97,8 @@ function linkedLine(code, kind, key, file) {
   for (const found of code.matchAll(word)) {
     if (code[found.index - 1] === ".") continue;
     for (let name = found[0]; name; name = name.slice(0, Math.max(name.lastIndexOf("."), 0))) {
-      const way = wayTo(name, kind, key, file);
+      const call = kind === "f" && code[found.index + name.length] === "(";
+      const way = wayTo(name, kind, key, file, call);
       if (way) {
         shown += safe(code.slice(last, found.index)) + anchor(way, safe(name));
         last = found.index + name.length;

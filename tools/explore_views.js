@@ -218,6 +218,7 @@ ${line("header", call.header ? `returns ${call.header}` : "gives no numbers")}`)
     + "<h3>contract by value</h3>" + (call.value.map((way) => block(way, 3)).join("") || none("not found by value"))
     + "<h3>contract from C</h3>" + (call.c.map((way) => block(way, 3)).join("") || none("no function for C"))
     + section(`<h3>stack</h3>${measured(call.stack, `docs/EVIDENCE.md gives ${nothing}`)}
+<p class="part">by value: no figure for one call; ${anchor("calls", "what every call costs")}</p>
 <h3>cost</h3>${call.words.map((text) => `<p>docs/MANUAL.md: ${text}</p>`).join("")}
 ${measured(call.costs, `docs/EVIDENCE.md gives ${nothing}; ${anchor("calls", "what every call costs")}`)}
 ${call.tried.length ? `<h3>tried</h3>${measured(call.tried, "")}` : ""}`)

@@ -51,7 +51,7 @@ def leap():
 
 def ears():
     """An order with an ear put in, and the ring that two walks along it give."""
-    sheet = Sheet("An order of units, an ear put in, and a ring through two links", 640, 330)
+    sheet = Sheet("An order of units, an ear put in, and a ring through two links", 640, 300)
     names, xs = ["a", "u", "x", "v", "y", "b"], [60, 150, 240, 400, 490, 580]
     at = dict(zip(names, [(x, 96) for x in xs]))
     links = [("a", "u", 0), ("u", "x", 0), ("x", "v", 0), ("v", "y", 0), ("y", "b", 0), ("a", "b", 38)]

@@ -203,8 +203,8 @@ def sides():
         sheet.unit((x, y), name)
     sheet.unit(b, "b", PALE)
     sheet.line((104, 226), (176, 226), RED, 3, True)
-    sheet.bow((388, 224), (386, 62), -14, RED, 3, True)
-    for place in ((104, 226), (176, 226), (388, 224), (386, 60)):
+    sheet.line((396, 236), (392, 54), RED, 3, True)
+    for place in ((104, 226), (176, 226), (396, 236), (392, 54)):
         sheet.put(f'<circle cx="{place[0]}" cy="{place[1]}" r="5" fill="{INK}"/>')
     notes = ["A link that does not touch b", "joins units of one class:", "",
              "below t and below s: case 2, and", "case 3 all the way up to t and s;", "",

@@ -35,11 +35,12 @@ def data_in(page):
 
 def refusals():
     """Of each function for C the numbers that the manual's table of calls gives, in order."""
-    found = {}
-    rows = contents("docs", "MANUAL.md").split("from C: `link_survey_`", 1)[1].split("\n\n", 1)[0]
-    for row in rows.split("\n")[2:]:
-        _, named, numbers = row.strip("| ").rsplit("|", 2)
-        found["link_survey_" + named.strip(" `")] = [int(n) for n in re.findall(r"\d+", numbers)]
+    found, inside = {}, False
+    for line in contents("docs", "MANUAL.md").split("\n"):
+        cells = [cell.strip() for cell in line.strip().strip("|").split("|")]
+        inside = line.startswith("|") and (inside or "refusals" in cells[-1])
+        if inside and re.fullmatch(r"`\w+`", cells[1]):
+            found["link_survey_" + cells[1].strip("`")] = [int(n) for n in re.findall(r"\d+", cells[-1])]
     return found
 
 
