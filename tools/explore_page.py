@@ -163,6 +163,26 @@ def holds(root):
     return found
 
 
+def idea(root, links):
+    """docs/IDEA.md, its names linked and its drawings inside; each section begins with its heading."""
+    path = os.path.join(root, "docs", "IDEA.md")
+    if not os.path.exists(path):
+        return []
+    shown = []
+    for chunk in re.split(r"\n\s*\n", contents(path).strip()):
+        titled, drawn = re.match(r"#+ (.*)", chunk), re.match(r"!\[.*\]\((.*)\)", chunk)
+        if titled:
+            shown.append(f"<h3>{links.html(titled[1])}</h3>")
+        elif drawn:
+            svg = contents(os.path.join(root, "docs", drawn[1]))
+            shown[-1] += '<div class="figure wide">' + re.sub(r' xmlns="[^"]*"', "", svg) + "</div>"
+        elif chunk.startswith("*") and chunk.endswith("*"):
+            shown[-1] += f"<p><i>{links.html(chunk[1:-1])}</i></p>"
+        else:
+            shown[-1] += f"<p>{links.html(chunk)}</p>"
+    return shown
+
+
 def data_of(root):
     tree = Tree(root)
     documents, links, reach = Documents(tree), Links(tree), Reach(tree)
@@ -185,7 +205,7 @@ def data_of(root):
         "edits": {e.key: [e.said, e.file, e.line + 1, e.old, e.new, e.block] for e in tree.edits.values()},
         "crates": {name: {"needs": needs, "holds": links.html(known.get(name, [""])[0]), "proofs": tree.proofs[name]}
                    for name, needs in tree.needs.items()},
-        "rooms": crates, "drawing": rooms, "sentences": told, "behind": behind, "calls": calls,
+        "idea": idea(root, links), "rooms": crates, "drawing": rooms, "sentences": told, "behind": behind, "calls": calls,
         "causes": {number: links.html(cause) for number, cause in documents.causes.items()},
         "costs": [shown(links, part) for part in documents.common_costs()],
         "speeds": [[links.html(t.part[-1]), table_html(links, t)] for t in documents.speeds()],
@@ -210,7 +230,7 @@ def html_of(root):
 <header>
 <h1><a href="#">Link survey: the proof</a></h1>
 <input id="search" type="search" placeholder="a sentence, a name or a number" aria-label="search" autocomplete="off">
-<nav><a href="#sentences">sentences</a> <a href="#calls">calls</a> <a href="#numbers">numbers</a>
+<nav><a href="#idea">idea</a> <a href="#sentences">sentences</a> <a href="#calls">calls</a> <a href="#numbers">numbers</a>
 <a href="#rooms">rooms</a> <a href="#edits">edits</a></nav>
 </header>
 <main id="view"><noscript>This page is shown by its script.</noscript></main>

@@ -94,9 +94,12 @@ const views = {
 <p>${plural(data.sentences.length, "sentence")} of docs/PROOFS.md, each with what keeps it as it stands in the source;
 ${plural(data.calls.length, "public call")}, ${plural(Object.keys(data.edits).length, "edit")} that must fail,
 ${plural(Object.keys(data.crates).length, "crate")}. Search above, or begin with
-${anchor("sentences", "the sentences")}, ${anchor("calls", "the calls")},
+${anchor("idea", "the proof in words")}, ${anchor("sentences", "the sentences")}, ${anchor("calls", "the calls")},
 ${anchor("numbers", "the numbers of refusals")} or ${anchor("rooms", "the rooms")}.</p>`)
     + firsts(),
+
+  idea: () => (data.idea.length ? `<h2>docs/IDEA.md</h2>${data.idea.map((part) => section(part)).join("")}`
+    : none("docs/IDEA.md is not in the tree.")),
 
   sentences: () => {
     let last = "";

@@ -142,6 +142,16 @@ class Made(unittest.TestCase):
                     _, _, line, body, _, _ = self.data["code"][key]["d"][function]
                     self.assertIn("ensures", "\n".join(self.data["code"][key]["t"].split("\n")[line:body]))
 
+    def test_the_idea(self):
+        """The proof in words is there, section by section, each drawing in its place and each name linked."""
+        sections = re.split(r"(?m)^#+ ", contents("docs", "IDEA.md"))[1:]
+        self.assertEqual(len(self.data["idea"]), len(sections))
+        for shown, written in zip(self.data["idea"], sections):
+            self.assertIn(html.escape(written.split("\n")[0], quote=False), shown)
+            self.assertEqual(shown.count("<svg"), written.count("]("))
+            for name in re.findall(r"`(\w+/[A-Z]\w*\.(?!md`)[^`\s.]+)`", written):
+                self.assertTrue(re.search(rf'<a href="#d/[^"]+"><code>{re.escape(name)}</code>', shown), name)
+
     def test_stack_is_the_evidence(self):
         evidence = contents("docs", "EVIDENCE.md").split("## Stack", 1)[1].split("\n## ", 1)[0]
         figures = dict(re.findall(r"(?m)^\| `(link_survey_\w+)` \| ([\d,]+) \|", evidence))
@@ -341,7 +351,7 @@ done({{ name: asked[0], words: asked[1], none: asked[2] }});""")
     def test_it_fits_a_phone(self):
         found = self.run_in("""
 const wide = {};
-for (const hash of ["", "sentences", "calls", "c/0", "numbers", "rooms", "edits", "s/20"]) {
+for (const hash of ["", "idea", "sentences", "calls", "c/0", "numbers", "rooms", "edits", "s/20"]) {
   location.hash = hash;
   await wait();
   wide[hash] = document.documentElement.scrollWidth - document.documentElement.clientWidth;
