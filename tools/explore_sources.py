@@ -41,7 +41,8 @@ class File:
     path: str
     lines: list
     blocks: dict = field(default_factory=dict)  # by name
-    members: dict = field(default_factory=dict)  # a field or constructor, and the block that has it
+    members: dict = field(default_factory=dict)  # a field or constructor, and the first block that has it
+    pairs: list = field(default_factory=list)  # each block with each of its fields or constructors
     uses: dict = field(default_factory=dict)  # a name used here: (crate, module, name)
     aliases: dict = field(default_factory=dict)  # a module used here by name: (crate, module)
     imports: dict = field(default_factory=dict)  # a name of code used here: its path
@@ -134,8 +135,9 @@ def module_of(crate, name, path, relative):
 
 def member(file, block, line):
     found = MEMBER.match(line)
-    if found and found[1] not in file.blocks:
+    if found:
         file.members.setdefault(found[1], block.name)
+        file.pairs.append((block.name, found[1]))
 
 
 def signature(lines, at):
