@@ -106,7 +106,8 @@ def data_of(root):
         "edits": {e.key: [e.said, e.file, e.line + 1, e.old, e.new, e.block] for e in tree.edits.values()},
         "crates": {name: {"needs": needs, "holds": links.html(known.get(name, [""])[0]), "proofs": tree.proofs[name]}
                    for name, needs in tree.needs.items()},
-        "idea": idea(root, links), "rooms": crates, "drawing": rooms, "sentences": told, "behind": behind, "calls": calls,
+        "idea": idea(root, links), "rooms": crates, "drawing": rooms,
+        "sentences": told, "behind": behind, "calls": calls,
         "causes": {number: links.html(cause) for number, cause in documents.causes.items()},
         "costs": [shown(links, part) for part in documents.common_costs()],
         "speeds": [[links.html(t.part[-1]), table_html(links, t)] for t in documents.speeds()],
@@ -131,8 +132,8 @@ def html_of(root):
 <header>
 <h1><a href="#">Link survey: the proof</a></h1>
 <input id="search" type="search" placeholder="a sentence, a name or a number" aria-label="search" autocomplete="off">
-<nav><a href="#idea">idea</a> <a href="#sentences">sentences</a> <a href="#calls">calls</a> <a href="#numbers">numbers</a>
-<a href="#rooms">rooms</a> <a href="#edits">edits</a></nav>
+<nav><a href="#idea">idea</a> <a href="#sentences">sentences</a> <a href="#calls">calls</a>
+<a href="#numbers">numbers</a> <a href="#rooms">rooms</a> <a href="#edits">edits</a></nav>
 </header>
 <main id="view"><noscript>This page is shown by its script.</noscript></main>
 <script type="application/json" id="data">{written}</script>
