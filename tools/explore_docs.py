@@ -108,7 +108,7 @@ class Documents:
         self.tree = tree
         self.manual = parts_of(contents(os.path.join(root, "docs", "MANUAL.md")))
         self.evidence = parts_of(contents(os.path.join(root, "docs", "EVIDENCE.md")))
-        self.headers = self.prototypes(root)
+        self.headers = self.returned(root)
         self.replies = self.rows(self.manual, "call", "replies")
         self.functions = self.rows(self.manual, "function", "writes")
         self.causes = {int(row[0]): row[1] for row in self.rows(self.manual, "number", "cause") if row[0].isdigit()}
@@ -121,7 +121,7 @@ class Documents:
                 for row in p.rows]
 
     @staticmethod
-    def prototypes(root):
+    def returned(root):
         """Of each function that a header declares the numbers that its comment gives."""
         found = {}
         folder = os.path.join(root, "include")

@@ -108,7 +108,7 @@ def opened(lines, at):
 
 
 def module_of(crate, name, path, relative):
-    """The names of a module, those in its sections too; helpers under `where` are no names of it."""
+    """The names of a module, those in its sections too; what stands under `where` is no name of it."""
     lines = contents(path).rstrip("\n").split("\n")
     file = File(crate, name, relative, lines)
     uses_of(lines, file)
