@@ -104,7 +104,7 @@ fn marked(marks: &[u16]) -> u16 {
 fn part(words: &[u16], label: &[u16], c: u16) -> u16 {
     let mut marks = [0u16; 256];
     mark(words, label, c, &mut marks);
-    table_values::less(marked(&marks), 1)
+    base_choice::difference(marked(&marks), 1)
 }
 
 // How many labels there are: positions that are their own.
@@ -179,7 +179,7 @@ fn told(s: Survey, units: u16, links: u16, words: &[u16]) {
     let all = parts(links, words, &label, at, &mut line);
     let summed = more(all.sum, all.end, &mut line);
     let last = more(
-        table_values::less(units, groups(s, units)),
+        base_choice::difference(units, groups(s, units)),
         summed,
         &mut line,
     );

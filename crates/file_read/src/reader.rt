@@ -1,6 +1,6 @@
 // Reading a file with a cursor that goes from line to line: why it is refused, and its ends and levels laid down.
 ghost use mathlib.Core.Path.{_≡_};
-ghost use mathlib.Core.Bool.{false, cond, not, _||_};
+ghost use mathlib.Core.Bool.{false, cond, not};
 ghost use mathlib.Core.List.{_++_};
 ghost use Prim.Native.Nat.{_+_, _*_, _≤_, _<_};
 ghost use lib.Dec.{eqb};
@@ -22,13 +22,6 @@ fn bad_level_at(t: &[u8], file: &[u8], at: usize) -> bool
     crate::judge::bad_level(marks::byte_at(t, file, at + 10))
 }
 
-// One of the tests holds.
-fn either(x: bool, y: bool) -> bool
-    ensures { λ r. ⌜ r ≡ (x || y) ⌝ }
-{
-    if x { true } else { y }
-}
-
 // The number of the first cause among 1, 2, 3, 6, 16, 14; 0 where there is none. The walk goes on past a broken order:
 // a faulty line comes first.
 pub(crate) fn refusal(t: &[u8], file: &[u8], places: usize, spaces: usize) -> u8
@@ -47,7 +40,7 @@ pub(crate) fn refusal(t: &[u8], file: &[u8], places: usize, spaces: usize) -> u8
         }
         last = at;
         if kind == kinds::LINK {
-            outside = either(outside, bad_level_at(t, file, at));
+            outside = base_choice::either(outside, bad_level_at(t, file, at));
             order = crate::judge::next_order(order, kinds::LINK);
             links += 1;
             at += crate::judge::line_length(kinds::LINK);

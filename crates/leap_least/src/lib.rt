@@ -31,7 +31,7 @@ pub fn leap(
     let found = leap_search::found(units, pairs, ends, &mut new);
     let rounds = rounds_in(clock.made, found.rounds);
     let covered = covers(rounds, budget, most, clock, made);
-    if !table_values::both(found.right, covered) {
+    if !base_choice::both(found.right, covered) {
         return Landed {
             right: false,
             value,
@@ -68,7 +68,7 @@ fn rounds_in(made: u16, rounds: u16) -> u32
     ensures few { λ r. ⌜ r ≤ 65536 ⌝ }
 {
     if made == 0 {
-        table_values::greatest_of(rounds, 1) as u32 + 1
+        base_choice::greatest_of(rounds, 1) as u32 + 1
     } else {
         rounds as u32 + 1
     }
@@ -83,7 +83,7 @@ fn passed(rounds: u32, clock: Clock) -> Clock
         stage: clock.stage + 1,
         made: 0,
         rounds: limited(clock.rounds as u32 + rounds),
-        requests: table_values::least_of(clock.requests, Clock::MAX_REQUESTS),
+        requests: base_choice::least_of(clock.requests, Clock::MAX_REQUESTS),
     }
 }
 

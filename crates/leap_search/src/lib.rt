@@ -14,8 +14,8 @@ pub fn found(units: u16, pairs: u16, ends: &[u16], value: &mut [u16; 256]) -> Ar
         Found units pairs (now (ends .entry)) (now (value .entry)) (now (value .exit)) (r .rounds)) ⌝ }
     ensures stays { λ r. ⌜ (r .right ≡ false → now (value .exit) ≡ now (value .entry)) ⌝ }
 {
-    let most = table_values::least_of(units, 256);
-    let count = table_values::least_of(pairs, 1280);
+    let most = base_choice::least_of(units, 256);
+    let count = base_choice::least_of(pairs, 1280);
     if ends.len() < 2 * (count as usize) {
         return Arrived {
             right: false,

@@ -2,7 +2,7 @@
 use super::chains;
 ghost use mathlib.Core.Path.{_≡_};
 ghost use mathlib.Core.Bool.{cond};
-ghost use Prim.Native.Nat.{ℕ, _*_, _≤_, _<_};
+ghost use Prim.Native.Nat.{ℕ, _*_, _<_};
 ghost use lib.Dec.{eqb};
 ghost use lib.ListN.{length, getD};
 ghost use Rattle.base_lists.specs.Folds.{count};
@@ -45,11 +45,11 @@ fn next_up<'a>(units: u16, near: &'a [u16], wait: &'a [u16]) -> u16
     let mut v = 0;
     while v < units {
         let i = v as usize;
-        let may = table_values::both(
+        let may = base_choice::both(
             base_slices::word(near, i) != 0,
             base_slices::word(wait, i) == 0,
         );
-        least = table_values::least_of(least, table_values::choose(may, v, units));
+        least = base_choice::least_of(least, base_choice::choose(may, v, units));
         v += 1;
     }
     least

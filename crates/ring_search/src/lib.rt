@@ -1,6 +1,5 @@
 // The ring through two links (T-04), over plain tables and a test of which links count (T-08): a link counts where its
 // mark is 0 or missing.
-ghost use mathlib.Core.Path.{_≡_};
 ghost use Rattle.theory_ears.specs.Present.{sure};
 ghost use Rattle.theory_ears.specs.Found.{RingTold};
 use ring_tables::counts;
@@ -40,8 +39,8 @@ pub fn ring<'a>(
     let c = end_a(ends, k);
     let d = end_b(ends, k);
     let up = tables::at(&pos, c) < tables::at(&pos, d);
-    let from = table_values::choose(up, c, d);
-    let to = table_values::choose(up, d, c);
+    let from = base_choice::choose(up, c, d);
+    let to = base_choice::choose(up, d, c);
     closing::close(
         units,
         &low,

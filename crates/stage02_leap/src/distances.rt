@@ -52,10 +52,10 @@ pub fn tested<'a>(
     ensures { λ r. ⌜ (r .right ≡ true → Leapt units links made (r .last) (now (ends .entry))
         (now (levels .entry)) parent dist (r .parent) (r .dist)) ⌝ }
 {
-    let fits = table_values::both(units <= 256, bounds::links_fit(units, links, ends));
+    let fits = base_choice::both(units <= 256, bounds::links_fit(units, links, ends));
     let top = base_slices::word(far, tip as usize);
-    let within = table_values::both(tip < units, top < units);
-    if !table_values::both(fits, within) {
+    let within = base_choice::both(tip < units, top < units);
+    if !base_choice::both(fits, within) {
         return Leap {
             parent,
             dist,
@@ -66,15 +66,15 @@ pub fn tested<'a>(
     let last = top + 1;
     let near = nearest(links, ends, levels, far);
     let new = settle(units, made, last, far, &near.best, parent, dist);
-    let begun = table_values::both(1 <= made, made <= last);
-    let wrong = table_values::either(near.apart, new.stray);
+    let begun = base_choice::both(1 <= made, made <= last);
+    let wrong = base_choice::either(near.apart, new.stray);
     let new_parent = new.parent;
     let new_dist = new.dist;
     Leap {
         parent: new_parent,
         dist: new_dist,
         last,
-        right: table_values::both(begun, !wrong),
+        right: base_choice::both(begun, !wrong),
     }
 }
 
@@ -97,7 +97,7 @@ fn nearest<'a>(links: u16, ends: &'a [u16], levels: &'a [i16], far: &'a [u16]) -
         let b = ends[place + 1];
         let level = levels[pos];
         let gap = offer_nearer(far, level, a, b, &mut held, &mut best);
-        wide = table_values::either(wide, gap);
+        wide = base_choice::either(wide, gap);
         j += 1;
     }
     Parents { best, apart: wide }
@@ -163,11 +163,11 @@ fn settle<'a>(
         let at = v as usize;
         let d = far[at];
         let best = cand[at];
-        let x = table_values::choose(to_visit(made, d), best, parent[at]);
+        let x = base_choice::choose(to_visit(made, d), best, parent[at]);
         let off = strays(made, last, d, best, dist[at]);
         new_parent[at] = x;
         new_dist[at] = d;
-        stray = table_values::either(stray, off);
+        stray = base_choice::either(stray, off);
         v += 1;
     }
     Settled {
@@ -181,17 +181,17 @@ fn settle<'a>(
 fn to_visit(made: u16, d: u16) -> bool
     ensures { λ r. ⌜ r ≡ (leb made d && not (eqb d 65535)) ⌝ }
 {
-    table_values::both(made <= d, d != ABSENT)
+    base_choice::both(made <= d, d != ABSENT)
 }
 
 // Whether a unit's distance goes wrong.
 fn strays(made: u16, last: u16, d: u16, best: u16, known: u16) -> bool
     ensures { λ r. ⌜ r ≡ strays made last d best known ⌝ }
 {
-    let reached = table_values::either(d == ABSENT, table_values::both(d < last, best != ABSENT));
-    !table_values::pick(
+    let reached = base_choice::either(d == ABSENT, base_choice::both(d < last, best != ABSENT));
+    !base_choice::pick(
         d < made,
         known == d,
-        table_values::both(known == ABSENT, reached),
+        base_choice::both(known == ABSENT, reached),
     )
 }

@@ -21,8 +21,8 @@ pub fn leap<'a>(
     ensures { λ r. ⌜ (r .right ≡ true → Leapt units links made (r .last) (now (ends .entry))
         (now (levels .entry)) parent dist (r .parent) (r .dist)) ⌝ }
 {
-    let count = table_values::least_of(units, 256);
-    let most = table_values::least_of(links, 1024);
+    let count = base_choice::least_of(units, 256);
+    let most = base_choice::least_of(links, 1024);
     let found = ahead::distances(count, most, made, ends, dist);
     distances::tested(
         units,

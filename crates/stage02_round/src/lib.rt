@@ -41,8 +41,8 @@ pub fn round<'a>(
     ensures ends { λ r. ⌜ r .ends ≡ treeEnds (min units 256) (min links 1024) made (wrapped (now (ends .entry)))
         (now (levels .entry)) (now (color .entry)) dist ⌝ }
 {
-    let count = table_values::least_of(units, 256);
-    let most = table_values::least_of(links, 1024);
+    let count = base_choice::least_of(units, 256);
+    let most = base_choice::least_of(links, 1024);
     let cand = chosen(most, made, ends, levels, &dist);
     visit(count, made, color, &cand, parent, dist)
 }
@@ -93,7 +93,7 @@ fn offer_both(
 {
     let from_a = was_visited(made, dist, a);
     let from_b = was_visited(made, dist, b);
-    if table_values::either(from_a, from_b) {
+    if base_choice::either(from_a, from_b) {
         choice::offer_if(from_b, held, best, a, level, b);
         choice::offer_if(from_a, held, best, b, level, a);
     }
@@ -105,7 +105,7 @@ fn was_visited(made: u16, dist: &[u16], w: u16) -> bool
     ensures { λ r. ⌜ r ≡ visitedBefore made (now (dist .entry)) w ⌝ }
 {
     let at = w as usize;
-    dist[at] == table_values::less(made, 1)
+    dist[at] == base_choice::difference(made, 1)
 }
 
 // The round, from the chosen parents: one pass over the units, without branches.
@@ -131,12 +131,12 @@ fn visit<'a>(
         let at = v as usize;
         let visited = visits(made, color, &dist, cand, v);
         let best = cand[at];
-        let taken = table_values::choose(made == 0, ABSENT, best);
-        let x = table_values::choose(visited, taken, parent[at]);
-        let d = table_values::choose(visited, made, dist[at]);
+        let taken = base_choice::choose(made == 0, ABSENT, best);
+        let x = base_choice::choose(visited, taken, parent[at]);
+        let d = base_choice::choose(visited, made, dist[at]);
         new_parent[at] = x;
         new_dist[at] = d;
-        any = table_values::either(any, visited);
+        any = base_choice::either(any, visited);
         v += 1;
     }
     After {
@@ -153,6 +153,6 @@ fn visits<'a>(made: u16, color: &'a [u16], dist: &'a [u16], cand: &'a [u16], v: 
 {
     let at = v as usize;
     let best = cand[at];
-    let later = table_values::both(dist[at] == ABSENT, best != ABSENT);
-    table_values::pick(made == 0, color[at] == v, later)
+    let later = base_choice::both(dist[at] == ABSENT, best != ABSENT);
+    base_choice::pick(made == 0, color[at] == v, later)
 }

@@ -23,7 +23,7 @@ pub fn take_over<'a>(
     ensures parents { λ r. ⌜ r .parent ≡ plannedParents (min units 256) (now (plan .entry)) parent ⌝ }
     ensures dists { λ r. ⌜ r .dist ≡ plannedDists (min units 256) (now (plan .entry)) (now (color .entry)) dist ⌝ }
 {
-    let count = table_values::least_of(units, 256);
+    let count = base_choice::least_of(units, 256);
     unit_by_unit(count, plan, color, parent, dist)
 }
 

@@ -58,7 +58,7 @@ fn in_by<'a>(parent: &'a [u16], eldest: &'a [u16], past: &'a [u16], v: u16) -> u
     let p = parent[at];
     let w = turn_to(past[at], eldest[at], p, p);
     let x = arc_word(tables::at(parent, w) == v, v, w);
-    table_values::choose(p == ABSENT, ABSENT, x)
+    base_choice::choose(p == ABSENT, ABSENT, x)
 }
 
 // Of the arc out of `v`.
@@ -71,17 +71,17 @@ fn out_by<'a>(parent: &'a [u16], eldest: &'a [u16], later: &'a [u16], v: u16) ->
     let own = tables::at(parent, p);
     let w = turn_to(later[at], tables::at(eldest, p), own, v);
     let x = arc_word(tables::at(parent, w) == p, p, w);
-    table_values::choose(p == ABSENT, ABSENT, x)
+    base_choice::choose(p == ABSENT, ABSENT, x)
 }
 
 // The neighbour after `u`, from the first child past `u`, the first child, and the parent.
 fn turn_to(later: u16, eldest: u16, own: u16, u: u16) -> u16
     ensures { λ r. ⌜ r ≡ turnTo later eldest own u ⌝ }
 {
-    let greater = table_values::least_of(later, table_values::choose(u < own, own, ABSENT));
-    table_values::choose(
+    let greater = base_choice::least_of(later, base_choice::choose(u < own, own, ABSENT));
+    base_choice::choose(
         greater == ABSENT,
-        table_values::least_of(eldest, own),
+        base_choice::least_of(eldest, own),
         greater,
     )
 }

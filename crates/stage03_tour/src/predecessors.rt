@@ -44,7 +44,7 @@ pub(crate) fn pred_round<'a>(
         let at = 2 * (v as usize);
         let x = pred_in(parent, &child, &first, v);
         let y = pred_out(parent, &first, v);
-        let z = table_values::choose(parent[v as usize] != ABSENT, 1, 0);
+        let z = base_choice::choose(parent[v as usize] != ABSENT, 1, 0);
         new_pred[at] = x;
         new_pred[at + 1] = y;
         new_jump[at] = x;
@@ -84,9 +84,9 @@ fn pred_in<'a>(parent: &'a [u16], child: &'a [u16], first: &'a [u16], v: u16) ->
 {
     let at = v as usize;
     let p = parent[at];
-    let starts = table_values::both(tables::at(parent, p) == ABSENT, tables::at(child, p) == v);
-    table_values::choose(
-        table_values::both(p != ABSENT, !starts),
+    let starts = base_choice::both(tables::at(parent, p) == ABSENT, tables::at(child, p) == v);
+    base_choice::choose(
+        base_choice::both(p != ABSENT, !starts),
         first[2 * at],
         ABSENT,
     )
@@ -98,5 +98,5 @@ fn pred_out<'a>(parent: &'a [u16], first: &'a [u16], v: u16) -> u16
     ensures { λ r. ⌜ r ≡ predOut (now (parent .entry)) (now (first .entry)) v ⌝ }
 {
     let at = v as usize;
-    table_values::choose(parent[at] != ABSENT, first[2 * at + 1], ABSENT)
+    base_choice::choose(parent[at] != ABSENT, first[2 * at + 1], ABSENT)
 }

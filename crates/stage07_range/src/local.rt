@@ -52,7 +52,7 @@ fn hear_off<'a>(
 {
     let at_a = a as usize;
     let at_b = b as usize;
-    let off = table_values::both(parent[at_a] != b, parent[at_b] != a);
+    let off = base_choice::both(parent[at_a] != b, parent[at_b] != a);
     if !off {
         return;
     }

@@ -17,13 +17,13 @@ pub fn of<'a>(units: u16, parent: &'a [u16; 256], parents: &'a [u16; 256]) -> [u
     ensures { λ r. ⌜ ((u : ℕ) → u < 256 →
         getD r u 0 ≡ cond (ltb u (min units 256)) (headOf (now (parent .entry)) (now (parents .entry)) u) ABSENT) ⌝ }
 {
-    let count = table_values::least_of(units, 256);
+    let count = base_choice::least_of(units, 256);
     let mut new = tables::blank();
     let mut u = 0;
     while u < count {
         let at = u as usize;
-        let alone = table_values::either(parents[at] == 0, parent[at] == ABSENT);
-        new[at] = table_values::choose(alone, u, parent[at]);
+        let alone = base_choice::either(parents[at] == 0, parent[at] == ABSENT);
+        new[at] = base_choice::choose(alone, u, parent[at]);
         u += 1;
     }
     new
@@ -48,13 +48,13 @@ pub fn least<'a>(
     ensures { λ r. ⌜ r ≡ over (min units 256)
         (leastOf (now (parent .entry)) (now (told .entry)) (now (t .entry))) old ⌝ }
 {
-    let count = table_values::least_of(units, 256);
+    let count = base_choice::least_of(units, 256);
     let mut new = old;
     let mut v = 0;
     while v < count {
         let at = v as usize;
-        let x = table_values::least_of(t[at], told[at]);
-        new[at] = table_values::choose(parent[at] == ABSENT, ABSENT, x);
+        let x = base_choice::least_of(t[at], told[at]);
+        new[at] = base_choice::choose(parent[at] == ABSENT, ABSENT, x);
         v += 1;
     }
     new

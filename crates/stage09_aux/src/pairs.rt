@@ -24,8 +24,8 @@ pub fn joins<'a>(
         (now (parents .entry))) ⌝ }
     ensures room { λ _. ⌜ length (now (pairs .exit)) ≡ 2560 ⌝ }
 {
-    let most = table_values::least_of(links, 1024);
-    let all = table_values::least_of(units, 256);
+    let most = base_choice::least_of(links, 1024);
+    let all = base_choice::least_of(units, 256);
     let count = of_links(most, ends, parent, linked, pairs);
     of_parents(all, parent, parents, pairs, count)
 }
@@ -91,7 +91,7 @@ fn of_parents<'a>(
 fn no_roots(parent: &[u16; 256], a: u16, b: u16) -> bool
     ensures { λ r. ⌜ r ≡ (not (isRoot (now (parent .entry)) a) && not (isRoot (now (parent .entry)) b)) ⌝ }
 {
-    table_values::both(
+    base_choice::both(
         tables::at(parent, a) != ABSENT,
         tables::at(parent, b) != ABSENT,
     )
@@ -106,5 +106,5 @@ fn push(counts: bool, a: u16, b: u16, pairs: &mut [u16], count: u16) -> u16
     let at = 2 * (count as usize);
     pairs[at] = a;
     pairs[at + 1] = b;
-    table_values::choose(counts, count + 1, count)
+    base_choice::choose(counts, count + 1, count)
 }

@@ -42,7 +42,7 @@ pub fn run<'a>(
         (one units links (now (ends .entry)) (now (parent .entry)) (now (linked .entry)) (now (parents .entry))) budget
         (record { color = color; clock = clock; made = 0 }) ⌝ }
 {
-    let fits = table_values::both(
+    let fits = base_choice::both(
         bounds::links_fit(units, links, ends),
         bounds::names_ok(units as u32, parent),
     );
@@ -101,7 +101,7 @@ fn leapt<'a>(
         (record { color = color; clock = clock; made = 0 })) ⌝ }
 {
     let goes_on = stage_clock::goes_on(fit, units, 9, 0, budget, clock);
-    if !table_values::both(pays(units, budget, clock.made, parents), goes_on) {
+    if !base_choice::both(pays(units, budget, clock.made, parents), goes_on) {
         return Landed {
             right: false,
             value: color,
@@ -131,7 +131,7 @@ fn pays(units: u16, budget: u16, made: u16, parents: &[u16; 256]) -> bool
     if made != 0 {
         return false;
     }
-    if table_values::either(units < 32, budget < units) {
+    if base_choice::either(units < 32, budget < units) {
         return false;
     }
     some_joins(parents)
@@ -142,7 +142,7 @@ fn some_joins(parents: &[u16; 256]) -> bool {
     let mut some = false;
     let mut u = 0;
     while u < 256 {
-        some = table_values::either(some, parents[u] != 0);
+        some = base_choice::either(some, parents[u] != 0);
         u += 1;
     }
     some
@@ -171,7 +171,7 @@ fn over_pairs<'a>(
     let count = stage09_aux::pairs::joins(units, links, ends, parent, linked, parents, &mut table);
     let value = propagation::said(units, 0, color);
     let said = stage09_aux::heads::without_roots(units, parent, value);
-    let most = table_values::greatest_of(2, table_values::less(units, 1));
+    let most = base_choice::greatest_of(2, base_choice::difference(units, 1));
     leap_least::leap(units, count, &table, most, budget, said, clock, 0)
 }
 

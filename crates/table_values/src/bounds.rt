@@ -64,7 +64,7 @@ fn top(more: u16, t: &[u16]) -> u16
     let mut i = 0;
     while i < t.len() {
         let x = std::num::wrapping_add_u16(t[i], more);
-        greatest = super::greatest_of(greatest, x);
+        greatest = base_choice::greatest_of(greatest, x);
         i += 1;
     }
     greatest

@@ -30,7 +30,7 @@ pub(crate) fn scan(units: u16, parent: &[u16]) -> Siblings
         let p = parent[at];
         let own = tables::at(parent, p);
         let next = tables::at(&eldest, p);
-        let first = table_values::choose(own < w, w, tables::at(&past, p));
+        let first = base_choice::choose(own < w, w, tables::at(&past, p));
         later[at] = next;
         tables::store(&mut eldest, p, w);
         tables::store(&mut past, p, first);
