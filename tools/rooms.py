@@ -5,7 +5,7 @@
     python3 tools/rooms.py --write    writes the table in docs/ARCHITECTURE.md, docs/CRATES.md and docs/EDITS.md
 
 The first word of a crate's name is its room. The lists are made from crates.txt, from the comment that each crate's
-lib.rt or main.rt begins with, and from the first line of each edit; tools/test_docs.py holds the documents to them.
+lib.rt or main.rt begins with, and from the first line of each edit; tools/test_house.py holds the documents to them.
 """
 import glob
 import os
