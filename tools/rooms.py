@@ -1,21 +1,14 @@
 #!/usr/bin/env python3
-"""The rooms of the house: what each may know, and the lists of crates and of must-fail edits in the documents.
+"""The rooms of the house and what each may know: python3 tools/rooms.py says which crate knows one that it may not.
 
-    python3 tools/rooms.py            says which crate knows a room that it may not
-    python3 tools/rooms.py --write    writes the table in docs/ARCHITECTURE.md, docs/CRATES.md and docs/EDITS.md
-
-The first word of a crate's name is its room. The lists are made from crates.txt, from the comment that each crate's
-lib.rt or main.rt begins with, and from the first line of each edit; tools/test_house.py holds the documents to them.
+The first word of a crate's name is its room; what a crate names stands in crates.txt.
 """
-import glob
 import os
 import re
 import sys
-import textwrap
 from collections import namedtuple
 
 ROOT = os.path.dirname(os.path.dirname(os.path.abspath(__file__)))
-WIDTH = 120
 KIT = ("check", "libc", "io", "os")  # crates of the toolchain
 
 # names: a regular expression for the names of its crates; knows: the rooms that its crates may name, beside itself
@@ -62,24 +55,6 @@ EXCEPTIONS = {
     ("words_requests", "value_doubtful"): "the call on words keeps the promise of the call by value",
     ("survey_c", "value_lifting"): "the call from C keeps the promise of the call by value",
 }
-
-CRATES_HEAD = """\
-# The crates
-
-Written by `python3 tools/rooms.py --write` from `crates.txt` and from the comment at the head of each crate's `lib.rt`
-or `main.rt`; do not edit it. `docs/ARCHITECTURE.md` says what each room may know.
-
-"""
-
-EDITS_HEAD = """\
-# Programs that must fail
-
-Written by `python3 tools/rooms.py --write` from the first line of each edit; do not edit it.
-
-Each of these {count} edits makes a wrong program, or a wrong definition, of the same shape. `rt must-fail` applies it
-to a copy of its crate, and the prover must refuse it. `docs/PROOFS.md` has document 01's own failing versions.
-
-"""
 
 
 def contents(path):
@@ -131,90 +106,6 @@ def sentence(crate):
     return " ".join(said)
 
 
-def edits(crate):
-    """Each must-fail edit's name and its first line."""
-    paths = sorted(glob.glob(os.path.join(ROOT, "crates", crate, "must-fail", "*.edit")))
-    return [(os.path.basename(path)[:-5], contents(path).split("\n", 1)[0].strip()) for path in paths]
-
-
-def item(text):
-    return textwrap.fill(text, WIDTH, initial_indent="- ", subsequent_indent="  ", break_long_words=False,
-                         break_on_hyphens=False)
-
-
-def known(room):
-    """The rooms that a room may know, in words."""
-    above = [other.name for other in ROOMS[:ROOMS.index(room)]]
-    missing = [name for name in above if name not in room.knows]
-    if not room.knows:
-        return "nothing else"
-    if len(above) < 3 or len(missing) > 1:
-        return ", ".join(room.knows)
-    return "all above" + (f" but {missing[0]}" if missing else "")
-
-
-def rooms_table(deps):
-    """The table of rooms in docs/ARCHITECTURE.md, and the exceptions."""
-    lines = ["| room | crates | holds | may know |", "|---|---|---|---|"]
-    for room in ROOMS:
-        count = sum(1 for crate in deps if room_of(crate) is room)
-        lines.append(f"| {room.name} | {count} | {room.holds} | {known(room)} |")
-    lines += ["", "A room is the first word of its crates' names, save for these:", ""]
-    lines += [item(f"{room.name}: {room.title}") for room in ROOMS if room.title != f"`{room.name}_`"]
-    lines += ["", "Exceptions, each with its reason:", ""]
-    reasons = {}
-    for (crate, other), why in EXCEPTIONS.items():
-        reasons.setdefault((crate, why), []).append(f"`{other}`")
-    lines += [item(f"`{crate}` knows {', '.join(others)}: {why}.") for (crate, why), others in reasons.items()]
-    return "\n".join(lines)
-
-
-def by_room(deps, entry):
-    """A heading for each room, and under it what entry gives for each of its crates, in the order of crates.txt."""
-    parts = []
-    for room in ROOMS:
-        said = [entry(crate) for crate in deps if room_of(crate) is room]
-        said = [text for text in said if text]
-        if said:
-            parts.append(f"## {room.title}\n\n{room.holds[0].upper()}{room.holds[1:]}.\n\n" + "\n".join(said))
-    return "\n\n".join(parts) + "\n"
-
-
-def crates_page(deps):
-    def entry(crate):
-        stands = ", ".join(f"`{other}`" for other in deps[crate] if other in deps)
-        return item(f"`{crate}`: {sentence(crate)}" + (f" Stands on {stands}." if stands else ""))
-
-    return CRATES_HEAD + by_room(deps, entry)
-
-
-def edits_page(deps):
-    def entry(crate):
-        said = edits(crate)
-        if not said:
-            return ""
-        rows = [item(f"`{crate}/must-fail/{name}`: {text}") for name, text in said]
-        return "\n".join([f"### {crate}", ""] + rows + [""])
-
-    count = sum(len(edits(crate)) for crate in deps)
-    return re.sub(r"\n{3,}", "\n\n", EDITS_HEAD.format(count=count) + by_room(deps, entry))
-
-
-BEGIN, END = "<!-- rooms: tools/rooms.py writes what stands here -->", "<!-- end of rooms -->"
-
-
-def pages():
-    """Each document that is written or has a part that is, with what it should hold."""
-    deps = dependencies()
-    page = contents("docs/ARCHITECTURE.md")
-    before, after = page.split(BEGIN)[0], page.split(END)[1]
-    return {
-        "docs/ARCHITECTURE.md": f"{before}{BEGIN}\n\n{rooms_table(deps)}\n\n{END}{after}",
-        "docs/CRATES.md": crates_page(deps),
-        "docs/EDITS.md": edits_page(deps),
-    }
-
-
 def faults():
     """What is wrong with the rooms, in words."""
     deps = dependencies()
@@ -234,10 +125,6 @@ def main():
     found = faults()
     for fault in found:
         print(fault)
-    if not found and "--write" in sys.argv[1:]:
-        for path, text in pages().items():
-            with open(os.path.join(ROOT, path), "w", encoding="utf-8") as file:
-                file.write(text)
     return 1 if found else 0
 
 

@@ -1,6 +1,6 @@
 """The house and its documents: python3 tools/test_house.py
 
-What each room may know, the lists that tools/rooms.py writes, and what documents say by name: functions, modules and
+What each room may know, the lists that tools/lists.py writes, and what documents say by name: functions, modules and
 crates, decisions by number, words of the glossary, versions of the header.
 """
 # needs no build
@@ -9,6 +9,7 @@ import os
 import re
 import unittest
 
+import lists
 import rooms
 
 ROOT = rooms.ROOT
@@ -47,8 +48,8 @@ class Rooms(unittest.TestCase):
         self.assertEqual(rooms.faults(), [])
 
     def test_pages(self):
-        """The lists of rooms, crates and edits are as made now (python3 tools/rooms.py --write makes them anew)."""
-        for path, text in rooms.pages().items():
+        """The lists in the documents are as made now (python3 tools/lists.py --write makes them anew)."""
+        for path, text in lists.pages().items():
             with self.subTest(path):
                 self.assertEqual(contents(path), text)
 
