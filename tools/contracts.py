@@ -31,7 +31,7 @@ def owner(text, at):
 
 
 def module(crate, path):
-    """The public module that a file is, with `::`; nothing for lib.rt and for a module whose functions are handed on."""
+    """The public module that a file is, with `::`; nothing for lib.rt and for a private module."""
     stem = os.path.splitext(os.path.basename(path))[0]
     root = os.path.join(ROOT, "crates", crate, "src", "lib.rt")
     public = os.path.exists(root) and re.search(rf"(?m)^pub mod {stem};", contents(root))

@@ -39,7 +39,7 @@ CONTRACTS_HEAD = """\
 # Public functions and their promises
 
 Written by `python3 tools/lists.py --write`; do not edit it. For each public function the definitions that its `ensures`
-names; the promise itself stands above the function's body in `crates/NAME/src`. None has a `requires`. A function
+names; the promise itself stands above the function's body, in `src` of its crate. None has a `requires`. A function
 without a definition here says its promise in plain arithmetic.
 
 """
