@@ -3,13 +3,14 @@
 
 The first word of a crate's name is its room; what a crate names stands in crates.txt.
 """
+import glob
 import os
 import re
 import sys
 from collections import namedtuple
 
 ROOT = os.path.dirname(os.path.dirname(os.path.abspath(__file__)))
-KIT = ("check", "libc", "io", "os")  # crates of the toolchain
+CODELESS = ("spec", "theory")  # rooms without a function
 
 # names: a regular expression for the names of its crates; knows: the rooms that its crates may name, beside itself
 Room = namedtuple("Room", "name title names holds knows")
@@ -39,7 +40,7 @@ ROOMS = [
          ("base", "table", "file", "spec", "theory", "stages", "report", "requests")),
     Room("programs", "`link_survey`, `small_sites`, `check_`", r"link_survey|small_sites|check_\w+",
          "the program, the list of small sites, programs that compare",
-         ("base", "table", "file", "spec", "stages", "report", "requests", "value", "words")),
+         ("base", "table", "file", "spec", "report", "requests", "value", "words")),
 ]
 
 # Crates that know one more room or stage, and why.
@@ -106,6 +107,11 @@ def sentence(crate):
     return " ".join(said)
 
 
+def has_functions(crate):
+    paths = glob.glob(os.path.join(ROOT, "crates", crate, "src", "**", "*.rt"), recursive=True)
+    return any(re.search(r"(?m)^\s*(?:pub )?fn ", contents(path)) for path in paths)
+
+
 def faults():
     """What is wrong with the rooms, in words."""
     deps = dependencies()
@@ -116,6 +122,8 @@ def faults():
     found += [f"{crate} may not know {other}" for crate, other in over if (crate, other) not in EXCEPTIONS]
     idle = [pair for pair in EXCEPTIONS if pair not in over]
     found += [f"{crate} no longer knows {other}: the exception can go" for crate, other in idle]
+    coded = [crate for crate in deps if room_of(crate).name in CODELESS and has_functions(crate)]
+    found += [f"{crate} has a function, and its room has no code" for crate in coded]
     silent = [crate for crate in deps if not sentence(crate)]
     found += [f"{crate} says nothing of itself: its lib.rt or main.rt begins without a comment" for crate in silent]
     return found

@@ -58,6 +58,8 @@ class Rooms(unittest.TestCase):
         against = "words_run survey, value_ring words_layout, table_values spec_rules, stage06_places stage04_ranking"
         for pair in against.split(", "):
             self.assertFalse(rooms.may_know(*pair.split()))
+        self.assertFalse(rooms.has_functions("spec_state"))
+        self.assertTrue(rooms.has_functions("stage_clock"))
         for pair in "words_run stage01_components, stage07_range stage07_local, survey table".split(", "):
             self.assertTrue(rooms.may_know(*pair.split()))
 
