@@ -27,7 +27,7 @@ ROOMS = [
          ("base", "table", "spec")),
     Room("stages", "`load_`, `stage01_` to `stage10_`, `stage_clock`, `leap_`",
          r"(load|leap)_\w+|stage\d\d_\w+|stage_clock",
-         "what a load sets; one crate a stage, with its helpers; many rounds at once", ("base", "table", "spec")),
+         "what a load sets; a crate for each stage and those under it; many rounds at once", ("base", "table", "spec")),
     Room("report", "`report_`", r"report_\w+", "flags, lines and the report from plain tables; what the program prints",
          ("base", "table", "file", "spec")),
     Room("requests",
