@@ -40,7 +40,7 @@ CONTRACTS_HEAD = """\
 
 Written by `python3 tools/lists.py --write`; do not edit it. For each public function the definitions that its `ensures`
 names; the promise itself stands above the function's body, in `src` of its crate. None has a `requires`. A function
-without a definition here says its promise in plain arithmetic.
+without a definition here says its promise by lists and arithmetic alone.
 
 """
 
@@ -149,13 +149,14 @@ def main():
     found = faults()
     for fault in found:
         print(fault)
+    write = "--write" in sys.argv[1:]
     stale = [] if found else [(path, text) for path, text in pages().items() if not agrees(path, text)]
     for path, text in stale:
-        print(f"{path}: not as made from the sources")
-        if "--write" in sys.argv[1:]:
+        print(f"{path}: " + ("written" if write else "not as made from the sources"))
+        if write:
             with open(os.path.join(ROOT, path), "w", encoding="utf-8") as file:
                 file.write(text)
-    return 1 if found or stale else 0
+    return 1 if found or (stale and not write) else 0
 
 
 if __name__ == "__main__":
