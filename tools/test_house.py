@@ -91,13 +91,13 @@ class Names(unittest.TestCase):
 
 
 class Decisions(unittest.TestCase):
-    NUMBER = r"[DUVW]\d+|T-\d\d[a-z]"
+    NUMBER = r"[DUVW]\d+|C\d(?!\d)|T-\d\d[a-z]"
 
     def test_numbers(self):
         """Each decision stands once, without a gap, and a document that gives its number finds it."""
         stand = re.findall(rf"(?m)^### ({self.NUMBER})\. ", contents("docs/DECISIONS.md"))
         self.assertEqual(len(stand), len(set(stand)))
-        for letter in "DUVW":
+        for letter in "CDUVW":
             numbers = [int(number[1:]) for number in stand if number[0] == letter]
             self.assertEqual(sorted(numbers), list(range(1, len(numbers) + 1)))
         for document in DOCUMENTS:
