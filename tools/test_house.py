@@ -120,6 +120,14 @@ class Glossary(unittest.TestCase):
                 self.assertIn(name, found)
 
 
+class Opening(unittest.TestCase):
+    def test_list(self):
+        """README.md opens with the list that docs/FOREMAN.md has of the same site, which tools/test_survey.py makes."""
+        lists = re.findall(r"(?m)(?:^    .*\n)+", contents("README.md"))
+        self.assertIn("units cut off", lists[0])
+        self.assertIn(lists[0], contents("docs/FOREMAN.md"))
+
+
 class Versions(unittest.TestCase):
     def test_changelog(self):
         """CHANGELOG.md tells every version of the header."""
