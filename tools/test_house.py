@@ -60,14 +60,14 @@ class Rooms(unittest.TestCase):
             self.assertFalse(rooms.may_know(*pair.split()))
         self.assertFalse(rooms.has_functions("spec_state"))
         self.assertTrue(rooms.has_functions("stage_clock"))
-        for pair in "words_run stage01_components, stage07_range stage07_local, survey table".split(", "):
+        for pair in "words_run stage01_components, stage07_range stage07_segments, survey table".split(", "):
             self.assertTrue(rooms.may_know(*pair.split()))
 
 
 class Names(unittest.TestCase):
-    def each(self, pattern, there):
+    def each(self, pattern, there, documents=DOCUMENTS):
         """Every quoted text of the pattern names something that is there."""
-        tried = [(document, re.fullmatch(pattern, text)) for document in DOCUMENTS for text in quoted(document)]
+        tried = [(document, re.fullmatch(pattern, text)) for document in documents for text in quoted(document)]
         found = [(document, match) for document, match in tried if match]
         self.assertTrue(found)
         for document, match in found:
@@ -85,9 +85,10 @@ class Names(unittest.TestCase):
         self.each(r"(\w+)/(src|specs|proofs)/([\w./-]+)", there)
 
     def test_crates(self):
-        """A name that begins with a room's word is a crate's, or a function's."""
+        """A name that begins with a room's word is a crate's, or a function's; EVIDENCE has names as measured."""
         room = r"(?:base|table|file|spec|theory|load|stage\d\d|leap|report|ring|value|words|check)_[a-z0-9_]+"
-        self.each(room, lambda m: m[0] in CRATES or any(has(crate, m[0]) for crate in CRATES))
+        others = [document for document in DOCUMENTS if not document.endswith("EVIDENCE.md")]
+        self.each(room, lambda m: m[0] in CRATES or any(has(crate, m[0]) for crate in CRATES), others)
 
 
 class Decisions(unittest.TestCase):

@@ -1,11 +1,12 @@
 // The rest of stage 2's rounds at once: a search finds distances ahead of them, and tests say whether these are right.
 // The search is proved to end and to stay within its tables, no more.
-use stage02_distances::Leap;
+use distances::Leap;
 ghost use mathlib.Core.Path.{_≡_};
 ghost use mathlib.Core.Bool.{true};
-ghost use Rattle.stage02_distances.specs.Goal.{Leapt};
+ghost use Rattle.stage02_leap.specs.Goal.{Leapt};
 
 mod ahead;
+mod distances;
 
 // From the round after `made` rounds on.
 pub fn leap<'a>(
@@ -23,7 +24,7 @@ pub fn leap<'a>(
     let count = table_values::least_of(units, 256);
     let most = table_values::least_of(links, 1024);
     let found = ahead::distances(count, most, made, ends, dist);
-    stage02_distances::tested(
+    distances::tested(
         units,
         links,
         made,

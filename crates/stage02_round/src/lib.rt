@@ -1,5 +1,8 @@
 // A round of breadth first (stage 2): one pass over the links gives each unit the parent that it would take, one over
 // the units both tables and the end.
+pub mod choice;
+pub mod planned;
+
 use table::ABSENT;
 ghost use mathlib.Core.Path.{_≡_};
 ghost use mathlib.Core.Bool.{not};
@@ -58,8 +61,8 @@ fn chosen<'a>(
         getD r v 0 ≡ chosenParent links made (wrapped (now (ends .entry))) (now (levels .entry)) (now (dist .entry)) v)
         ⌝ }
 {
-    let mut held = stage02_choice::no_levels();
-    let mut best = stage02_choice::no_units();
+    let mut held = choice::no_levels();
+    let mut best = choice::no_units();
     let mut j = 0;
     while j < links {
         let pos = j as usize;
@@ -91,8 +94,8 @@ fn offer_both(
     let from_a = was_visited(made, dist, a);
     let from_b = was_visited(made, dist, b);
     if table_values::either(from_a, from_b) {
-        stage02_choice::offer_if(from_b, held, best, a, level, b);
-        stage02_choice::offer_if(from_a, held, best, b, level, a);
+        choice::offer_if(from_b, held, best, a, level, b);
+        choice::offer_if(from_a, held, best, b, level, a);
     }
 }
 

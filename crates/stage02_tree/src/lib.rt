@@ -176,7 +176,7 @@ fn round<'a>(
         (now (color .entry)) dist ⌝ }
 {
     if given != 0 {
-        let new = stage02_planned::take_over(units, plan, color, parent, dist);
+        let new = stage02_round::planned::take_over(units, plan, color, parent, dist);
         let new_parent = new.parent;
         let new_dist = new.dist;
         return After {

@@ -13,7 +13,7 @@ ghost use Rattle.spec_rules.specs.Fits.{EndsWithin};
 ghost use Rattle.spec_machine.specs.InStage.{inStage};
 ghost use Rattle.spec_machine.specs.StageRun.{stageRun};
 ghost use Rattle.stage09_classes.specs.Leap.{ran};
-ghost use Rattle.stage09_heads.specs.Heads.{Heads};
+ghost use Rattle.stage09_aux.specs.Heads.{Heads};
 ghost use Rattle.stage09_classes.specs.Rounds.{fits, on, one};
 
 mod links;
@@ -168,9 +168,9 @@ fn over_pairs<'a>(
         (record { color = color; clock = clock; made = 0 })) ⌝ }
 {
     let mut table = [0; 2560];
-    let count = stage09_pairs::joins(units, links, ends, parent, linked, parents, &mut table);
+    let count = stage09_aux::pairs::joins(units, links, ends, parent, linked, parents, &mut table);
     let value = propagation::said(units, 0, color);
-    let said = stage09_heads::without_roots(units, parent, value);
+    let said = stage09_aux::heads::without_roots(units, parent, value);
     let most = table_values::greatest_of(2, table_values::less(units, 1));
     leap_least::leap(units, count, &table, most, budget, said, clock, 0)
 }
@@ -193,7 +193,7 @@ fn rounds<'a>(
         (one units links (now (ends .entry)) (now (parent .entry)) (now (linked .entry)) (now (parents .entry))) budget
         (record { color = color; clock = clock; made = 0 }) ⌝ }
 {
-    let heads = stage09_heads::of(units, parent, parents);
+    let heads = stage09_aux::heads::of(units, parent, parents);
     let mut value = color;
     let mut c = clock;
     let mut made: u16 = 0;
@@ -230,9 +230,9 @@ fn round<'a>(
         → r ≡ auxRound units links made (now (ends .entry)) (now (parent .entry)) (now (linked .entry)) marks color) ⌝ }
 {
     let value = propagation::said(units, made, color);
-    let said = stage09_heads::without_roots(units, parent, value);
+    let said = stage09_aux::heads::without_roots(units, parent, value);
     let mut heard = said;
     links::propagate(units, links, ends, linked, &said, &mut heard);
     let told = tell::propagate(units, heads, &said, &mut heard);
-    stage09_heads::least(units, parent, &told, &heard, value)
+    stage09_aux::heads::least(units, parent, &told, &heard, value)
 }
