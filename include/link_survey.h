@@ -254,7 +254,7 @@ uint32_t link_survey_load_stored(uint16_t state[LINK_SURVEY_STATE_WORDS], uint16
 
 /*
  * Load a fresh table with a tree drawn by the planner, which takes the place of the survey's own: stage 2 takes it over
- * in one round. Labels, lone links and single points come out as without the plan.
+ * in one round. Labels, lone links and single points are those of the same table without it.
  *
  * parents  the parent of each unit, 65535 for none: as many words as there are units. A unit that is the least of those
  *          linked up with it has none; any other's is a neighbour, and its parents lead up to that least unit.
@@ -353,9 +353,9 @@ uint32_t link_survey_ring(const uint16_t state[LINK_SURVEY_STATE_WORDS], uint16_
                           size_t out_len, uint16_t *count);
 
 /*
- * The order in which the units of the finished survey can be lifted one by one: what still stands always keeps its way
- * to unit 0, and unit 0 is the last to go. Read from its end it takes each time the least-numbered unit that may come
- * next. The links are read, and no label.
+ * The order in which the units of the finished survey can be lifted one by one: every unit still standing is linked up
+ * with unit 0 through standing units, and unit 0 goes last. Read from its end it takes each time the least-numbered unit
+ * that may stand next. The links are read, and no label.
  *
  * pairs    two words a pair, "this unit before that one"; at most LINK_SURVEY_MAX_PAIRS pairs.
  * out      altered: the units, a word each, the one to be lifted first in front. It has as many places as the site has
