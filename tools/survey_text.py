@@ -1,7 +1,8 @@
 """Survey files and reports as text: one frame a line, checked before anything is believed.
 
-A line is upper-case hexadecimal digits, two a byte, then a line feed. The first byte is the kind, the last makes the sum of all bytes
-wrap to 0 in eight bits. A number has two bytes, high byte first; a flag has one; a level has one, in two's complement.
+A line has two upper-case hexadecimal digits for each byte and ends with a line feed. It begins with its kind and ends
+with a check byte, which brings the sum of all bytes to 0 in eight bits. A number has two bytes, high byte first; a flag
+has one; a level has one, in two's complement.
 """
 from collections import namedtuple
 
@@ -27,12 +28,12 @@ REFUSALS = {
     1: "a line is faulty (empty, no line feed, a wrong character, kind, length or sum), or the input is longer than 65,535 bytes",
     2: "the lines are not one 01 line, then 02 and 03 lines, then one 0F line",
     3: "the number of links in the 0F line is not the number of 02 and 03 lines",
-    4: "the unit count is 0 or above 256",
+    4: "the unit count is not 1 to 256",
     5: "the table of links has an odd number of words",
-    6: "there are more than 1,024 links",
+    6: "the table has more than 1,024 links",
     7: "a link has an end that is no unit of the site",
     8: "a link has the same unit at both ends",
-    9: "two links join the same two units",
+    9: "two units are linked twice",
     10: "the state is not one that the survey made",
     11: "a round was wanted of a finished survey",
     12: "an answer was wanted before the survey was finished",

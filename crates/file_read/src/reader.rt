@@ -14,7 +14,7 @@ use super::lines;
 use super::marks;
 use file_frames::kinds;
 
-// Whether the level in the line of kind 03 at `at` is none that a table may have.
+// Whether the level in the line of kind 03 at `at` is out of range.
 fn bad_level_at(t: &[u8], file: &[u8], at: usize) -> bool
     requires { ⌜ Marks (now t) × (at + 11 < length (now file)) ⌝ }
     ensures { λ r. ⌜ r ≡ not (inRange (byteLevel (byteAt (now (file .entry)) (at + 10)))) ⌝ }

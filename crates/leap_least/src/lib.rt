@@ -74,7 +74,7 @@ fn rounds_in(made: u16, rounds: u16) -> u32
     }
 }
 
-// The clock after so many rounds, the last of which ends the stage.
+// The clock after the rounds of a leap, the last of which ends the stage.
 fn passed(rounds: u32, clock: Clock) -> Clock
     requires { ⌜ (clock .stage ≤ 10) × (rounds ≤ 65536) ⌝ }
     ensures { λ r. ⌜ r ≡ passed rounds clock ⌝ }

@@ -36,7 +36,7 @@ pub fn tried(units: u16, budget: u16) -> bool
     base_choice::both(8 <= units, 12 <= budget)
 }
 
-// The rest of a ranking of the arcs of so many units.
+// The rest of a ranking of the arcs of `units` units.
 pub fn leap(units: u16, budget: u16, clock: Clock, jump: [u16; 512], sum: [u16; 512]) -> Landed
     ensures { λ r. ⌜ (r .right ≡ true → Leapt units budget jump sum clock (r .jump) (r .sum) (r .clock) (r .made)) ⌝ }
 {
@@ -89,7 +89,7 @@ fn covers(units: u16, rounds: u16, budget: u16, clock: Clock) -> bool
     clock.made as u32 + (rounds as u32 + 1) <= most
 }
 
-// The clock after so many rounds with so many requests, the last of which ends the stage.
+// The clock after the rounds and requests of a leap, the last round of which ends the stage.
 fn passed(rounds: u16, requests: u16, clock: Clock) -> Clock
     requires { ⌜ clock .stage ≤ 10 ⌝ }
     ensures { λ r. ⌜ r ≡ passed rounds requests clock ⌝ }

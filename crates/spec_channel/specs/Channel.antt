@@ -22,7 +22,7 @@ pub record Begun (o : Office) : Type 0 where
   pub empty : (i : ℕ) → i < 8 → empty (seat i o) ≡ true
   pub turn : o .last ≡ 7
 
--- a tick gives one round to the next unfinished seat after the one last served, going round, and leaves the others
+-- a tick gives one round to the first unfinished seat after `last`, going round, and leaves the others
 pub record Gives (o new : Office) : Type 0 where
   pub next : Next (o .last) (waits o) (new .last)
   pub round : seat (new .last) new ≡ step (seat (new .last) o)

@@ -43,7 +43,7 @@ some-is p P x = (
   λ w. some-exact 8 p .1 (w .0, w .1, x (w .0) .1 (w .2)),
 )
 
--- 10: the last-served number is above 7, or a loaded seat's survey isn't kept
+-- 10: the turn names no seat, or some loaded seat has a survey that isn't kept
 abbrev pub unsound : Office.Office → Reason
 unsound o =
     record {

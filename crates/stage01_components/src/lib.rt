@@ -23,7 +23,7 @@ pub struct Ran {
     pub made: u16,
 }
 
-// At most so many rounds.
+// Runs up to `budget` rounds of this stage.
 pub fn run(
     units: u16,
     links: u16,
@@ -86,9 +86,9 @@ fn leapt(
     )
 }
 
-// Whether a leap pays: the budget covers a round for each unit, as many as there can be, and few rounds are not to be
-// expected, as of few units or where the first is linked with half of them. No more than a guess: what a run leaves
-// does not hang on it.
+// Whether a leap is likely to pay: the budget covers a round for each unit, which is the most there can be, and many
+// rounds are to be expected: there are not few units, and the first is not linked with half of them. This affects speed
+// only.
 fn pays(units: u16, links: u16, budget: u16, ends: &[u16; 2048]) -> bool {
     if base_choice::either(units < 32, budget < units) {
         return false;
@@ -108,7 +108,7 @@ fn first_named(links: u16, ends: &[u16; 2048]) -> u16 {
     count
 }
 
-// At most so many rounds, one after the other.
+// Runs up to `budget` rounds of this stage, one after the other.
 fn rounds(
     fits: bool,
     units: u16,

@@ -28,7 +28,7 @@ struct Rest {
     right: bool,
 }
 
-// At most so many rounds.
+// Runs up to `budget` rounds of this stage.
 pub fn run<'a>(
     units: u16,
     links: u16,

@@ -18,7 +18,7 @@ pub struct Ran {
     pub made: u16,
 }
 
-// At most so many rounds.
+// Runs up to `budget` rounds of this stage.
 pub fn run(units: u16, budget: u16, clock: Clock, jump: [u16; 512], sum: [u16; 512]) -> Ran
     ensures { λ r. ⌜ r ≡ stageRun (on units) (one units) budget
         (record { jump = jump; sum = sum; clock = clock; made = 0 }) ⌝ }
@@ -51,7 +51,7 @@ fn at_once(units: u16, budget: u16, clock: Clock, jump: [u16; 512], sum: [u16; 5
     }
 }
 
-// At most so many rounds, one after the other.
+// Runs up to `budget` rounds of this stage, one after the other.
 fn rounds(units: u16, budget: u16, clock: Clock, jump: [u16; 512], sum: [u16; 512]) -> Ran
     ensures { λ r. ⌜ r ≡ stageRun (on units) (one units) budget
         (record { jump = jump; sum = sum; clock = clock; made = 0 }) ⌝ }

@@ -19,7 +19,7 @@ pub struct Ran {
     pub made: u16,
 }
 
-// At most so many rounds.
+// Runs up to `budget` rounds of this stage.
 pub fn run<'a>(
     units: u16,
     budget: u16,
@@ -73,7 +73,7 @@ fn at_once<'a>(
     }
 }
 
-// At most so many rounds, one after the other.
+// Runs up to `budget` rounds of this stage, one after the other.
 fn rounds<'a>(
     units: u16,
     budget: u16,

@@ -26,7 +26,7 @@ pub struct Ran {
     pub made: u16,
 }
 
-// At most so many rounds.
+// Runs up to `budget` rounds of this stage.
 pub fn run<'a>(
     units: u16,
     links: u16,
@@ -122,9 +122,9 @@ fn leapt<'a>(
     )
 }
 
-// Whether a leap pays: the stage begins, the budget covers a round for each unit, as many as there can be, and few
-// rounds are not to be expected, as of few units or where no unit joins its parent. But for the first no more than a
-// guess: what a run leaves does not hang on it.
+// Whether a leap is likely to pay: the stage begins, the budget covers a round for each unit, which is the most there
+// can be, and many rounds are to be expected: there are not few units, and some unit joins its parent. All but the
+// first affect speed only.
 fn pays(units: u16, budget: u16, made: u16, parents: &[u16; 256]) -> bool
     ensures { λ r. ⌜ (r ≡ true → made ≡ 0) ⌝ }
 {
@@ -175,7 +175,7 @@ fn over_pairs<'a>(
     leap_least::leap(units, count, &table, most, budget, said, clock, 0)
 }
 
-// At most so many rounds, one after the other.
+// Runs up to `budget` rounds of this stage, one after the other.
 fn rounds<'a>(
     fit: bool,
     units: u16,

@@ -3,7 +3,7 @@ ghost use mathlib.Core.Path.{_≡_};
 ghost use Prim.Native.Nat.{_≤_, min};
 ghost use Rattle.spec_rules.specs.Ceilings.{rankingCeiling, ceiling, countdown};
 
-// What a ranking of the arcs of so many units takes at most.
+// The most rounds that a ranking of the arcs of `units` units takes.
 fn ranking_ceiling(units: u16) -> u16
     requires { ⌜ units ≤ 256 ⌝ }
     ensures { λ r. ⌜ r ≡ rankingCeiling units ⌝ }

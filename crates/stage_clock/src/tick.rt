@@ -23,7 +23,7 @@ fn within(units: u16, stage: u16, c: Clock) -> bool
     base_choice::both(in_stage, base_choice::both(c.made <= 256, few))
 }
 
-// Whether a run that made so many of its rounds makes one more in the stage, of tables that fit.
+// Whether a run that has made `made` rounds makes one more in this stage, on tables that fit.
 pub fn goes_on(fits: bool, units: u16, stage: u16, made: u16, budget: u16, c: Clock) -> bool
     ensures { λ r. ⌜ r ≡ (ltb made budget && (fits && inStage units stage c)) ⌝ }
 {

@@ -109,7 +109,7 @@ pub fn all_below(count: u16, t: &[u16]) -> bool
     top(0, t) <= count - 1
 }
 
-// There are at most 1,024 links, and each end is one of so many units.
+// There are at most 1,024 links, and each end is one of `units` units.
 pub fn links_fit(units: u16, links: u16, ends: &[u16]) -> bool
     ensures { λ r. ⌜ r ≡ linksFit units links (now (ends .entry)) ⌝ }
 {

@@ -7,7 +7,7 @@ ghost use Rattle.value_doubtful.specs.DoubtRight.{VerdictTold, DoubtRigh
 ghost use Rattle.value_doubtful.specs.DoubtRightProof.{RingedTold};
 use survey::Survey;
 
-// What the call replies: a ring holds both in each setting, in some but not each, in none; or the number of a refusal.
+// What the call replies: that every setting has a ring with both, that only some have one, that none has; or a refusal.
 pub enum Verdict {
     Always,
     Perhaps,

@@ -1,4 +1,4 @@
-// Whether a state is well formed (document 01: kept), told of its numbers and tables, lent one by one: no copy is made.
+// Whether a state is well formed (document 01: kept). Its numbers and tables are lent one by one, so no copy is made.
 use spec_state::Clock;
 use table_values::bounds;
 use table_values::bounds::Limit;

@@ -1,5 +1,5 @@
-// Whether words are a well-formed state (document 01: kept), told where they lie: tables of one kind that stand in a
-// row are judged together.
+// Whether words are a well-formed state (document 01: kept). The words are judged where they lie; tables of one kind
+// that stand in a row are judged together.
 use super::layout;
 use super::layout::STATE_WORDS;
 use super::take;
