@@ -57,7 +57,8 @@ def python_tests():
     """Methods test_.. of classes in tools/test_*.py."""
     trees = [ast.parse(contents(path)) for path in found("tools", "test_*.py")]
     classes = [node for tree in trees for node in tree.body if isinstance(node, ast.ClassDef)]
-    return sum(isinstance(item, ast.FunctionDef) and item.name.startswith("test") for node in classes for item in node.body)
+    methods = [item for node in classes for item in node.body if isinstance(item, ast.FunctionDef)]
+    return sum(item.name.startswith("test") for item in methods)
 
 
 def rust_tests():

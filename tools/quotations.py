@@ -1,7 +1,7 @@
 """Quotations of definitions and theorems in a document: kept equal to the source, with their line numbers.
 
-A quotation is a line that names the file and its lines, an empty line and a block of code. It is found again by its first
-line up to the name that is declared, and has as many lines at the depth of the first one as it had.
+A quotation is a line that names the file and its lines, an empty line and a block of code. It is found again by its
+first line up to the name that is declared, and has as many lines at the depth of the first one as it had.
 """
 import os
 import re

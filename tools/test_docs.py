@@ -1,15 +1,17 @@
 """The documents against the repository: python3 tools/test_docs.py
 
-Every name of a definition or theorem, every must-fail edit and every path that a document gives must be there, and what docs/PROOFS.md says of
-public functions must hold.
+Every name of a definition or theorem, every must-fail edit and every path that a document gives must be there, and what
+docs/PROOFS.md says of public functions must hold. The old text of each must-fail edit must stand once in its file.
 """
+# needs no build
 import glob
 import os
 import re
 import unittest
 
 ROOT = os.path.dirname(os.path.dirname(os.path.abspath(__file__)))
-DOCUMENTS = [os.path.join(ROOT, "README.md")] + sorted(glob.glob(os.path.join(ROOT, "docs", "**", "*.md"), recursive=True))
+DOCUMENTS = sorted(glob.glob(os.path.join(ROOT, "docs", "**", "*.md"), recursive=True))
+DOCUMENTS.append(os.path.join(ROOT, "README.md"))
 
 
 def contents(path):
@@ -24,13 +26,15 @@ def quoted(path):
 
 def declares(text, name):
     """A module declares a name: as a definition, a theorem, a field, a record or a data type."""
-    return re.search(rf"(?m)^\s*(?:abbrev |unfoldable )?(?:pub )?(?:record |data )?{re.escape(name)}(?=[\s:])", text) is not None
+    before = r"(?m)^\s*(?:abbrev |unfoldable )?(?:pub )?(?:record |data )?"
+    return re.search(before + re.escape(name) + r"(?=[\s:])", text) is not None
 
 
 class Documents(unittest.TestCase):
     def each(self, pattern, there):
         """Every quoted text of the pattern names something that is there."""
-        found = [(document, m) for document in DOCUMENTS for m in (re.fullmatch(pattern, text) for text in quoted(document)) if m]
+        tried = [(document, re.fullmatch(pattern, text)) for document in DOCUMENTS for text in quoted(document)]
+        found = [(document, match) for document, match in tried if match]
         self.assertTrue(found)
         for document, match in found:
             with self.subTest(f"{os.path.basename(document)}: {match[0]}"):
@@ -44,10 +48,17 @@ class Documents(unittest.TestCase):
         self.each(r"(\w+)/([A-Z]\w*)\.(?!antt$|md$)([^\s.]+)", there)
 
     def test_edits(self):
-        self.each(r"(\w+)/must-fail/(\w+)", lambda m: os.path.exists(os.path.join(ROOT, "crates", m[1], "must-fail", m[2] + ".edit")))
+        folder = os.path.join(ROOT, "crates")
+        self.each(
+            r"(\w+)/must-fail/(\w+)",
+            lambda m: os.path.exists(os.path.join(folder, m[1], "must-fail", m[2] + ".edit")),
+        )
 
     def test_paths(self):
-        self.each(r"(?:\.ci|crates|docs|examples|include|tools)/[\w./-]*", lambda m: os.path.exists(os.path.join(ROOT, m[0])))
+        self.each(
+            r"(?:\.ci|crates|docs|examples|include|tools)/[\w./-]*",
+            lambda m: os.path.exists(os.path.join(ROOT, m[0])),
+        )
 
     def test_links(self):
         for document in DOCUMENTS:
@@ -67,6 +78,20 @@ class Statements(unittest.TestCase):
             with self.subTest(f"{path}: {first}"):
                 lines = contents(os.path.join(ROOT, path)).split("\n")
                 self.assertEqual(said, "\n".join(lines[int(first) - 1 : int(last or first)]))
+
+
+class Edits(unittest.TestCase):
+    def test_old_text_once(self):
+        """An edit says which text of which file it replaces: `file:`, `old:`, `new:`."""
+        found = glob.glob(os.path.join(ROOT, "crates", "*", "must-fail", "*.edit"))
+        self.assertTrue(found)
+        for path in found:
+            with self.subTest(os.path.relpath(path, ROOT)):
+                edit = re.search(r"(?ms)^file: *(\S+)$.*?^old:(.*?)\n?^new:", contents(path))
+                self.assertIsNotNone(edit)
+                crate = os.path.dirname(os.path.dirname(path))
+                old = edit[2].removeprefix(" ").strip("\n")
+                self.assertEqual(contents(os.path.join(crate, edit[1])).count(old), 1)
 
 
 class PublicFunctions(unittest.TestCase):
