@@ -84,6 +84,13 @@ def report_vectors():
     return len(inputs), valid, levels
 
 
+def last_change():
+    """When a file under crates/ was last written."""
+    folders = [folder for folder, _, _ in os.walk(os.path.join(ROOT, "crates"))]
+    entries = [entry for folder in folders for entry in os.scandir(folder) if entry.is_file()]
+    return max(entry.stat().st_mtime for entry in entries)
+
+
 def archive_sizes(path=ARCHIVE):
     """Bytes of machine code, of constants and of words that begin as 0, over the objects of an archive."""
     with open(path, "rb") as file:
