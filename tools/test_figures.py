@@ -31,7 +31,7 @@ FILES = {
     "crates/check_vectors/data/a.out": "1100\n",
     "crates/check_vectors/data/b.in": "\x82",
     "crates/check_vectors/data/b.out": "1E01E1\n",
-    "evidence/tests/faults.rs": "const A: [Fault; 2] = [];\nconst B: [Fault; 3] = [];\n    #[test]\n#[test]\n// #[test]\n",
+    "evidence/tests/faults.rs": "const A: [Fault; 2] = [];\nconst B: [Fault; 3] = [];\n  #[test]\n#[test]\n//#[test]\n",
     "include/link_survey.h": "uint32_t link_survey_load(void);\n",
     "tools/test_a.py": "class A:\n    def test_a(self):\n        pass\n\n    def other(self):\n        pass\n",
     "docs/A.md": "Before.\n\n<!-- figures:counts -->\n| crates | 3 |\n<!-- /figures -->\n\nAfter, 3 crates.\n",
@@ -77,7 +77,7 @@ class Counts(Tree):
     def test_archive(self):
         """An object with a section of 5 bytes of code, 7 of constants, 11 that begin as 0 and 13 that are not kept."""
         sections = [(1, 2 | 4, 5), (1, 2, 7), (8, 2 | 1, 11), (1, 0, 13)]
-        head = b"\x7fELF" + bytes(36) + struct.pack("<Q", 64) + bytes(10) + struct.pack("<HH", 64, len(sections)) + bytes(2)
+        head = b"\x7fELF" + bytes(36) + struct.pack("<Q10xHH2x", 64, 64, len(sections))
         rows = [struct.pack("<IIQQQQ", 0, kind, flags, 0, 0, size) + bytes(24) for kind, flags, size in sections]
         member = head + b"".join(rows)
         entry = b"a.o/".ljust(48) + str(len(member)).encode().ljust(10) + b"`\n" + member
