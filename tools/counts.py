@@ -9,6 +9,19 @@ ROOT = os.path.dirname(os.path.dirname(os.path.abspath(__file__)))
 ARCHIVE = os.path.join(ROOT, "target", "staticlib", "libsurvey_c.a")
 
 
+class Unknown(Exception):
+    """Why something cannot be counted here."""
+
+
+def number(count):
+    return f"{count:,}"
+
+
+def table(head, rows):
+    lines = [head, ["---"] * len(head), *rows]
+    return "".join("| " + " | ".join(map(str, line)) + " |\n" for line in lines).replace(" --- ", "---")
+
+
 def contents(path, encoding="utf-8"):
     with open(path, encoding=encoding) as file:
         return file.read()

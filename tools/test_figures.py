@@ -13,6 +13,7 @@ from unittest import mock
 
 sys.dont_write_bytecode = True
 import counts
+import measures
 import quotations
 
 PATH = os.path.join(counts.ROOT, "tools", "figures")
@@ -102,6 +103,8 @@ class Written(Tree):
         self.assertEqual(self.made()[0], 0)
         self.assertEqual(self.read("docs/A.md"), FILES["docs/A.md"].replace("| 3 |", "| 4 |"))
         self.assertEqual(self.made("--check"), (0, "1 blocks hold\n"))
+        self.write("docs/A.md", self.read("docs/A.md") + "<!-- figures:stack -->\n<!-- /figures -->\n")
+        self.assertEqual(self.made("--check"), (0, "left out: stack: written on request\n1 blocks hold\n"))
 
     def test_quotation(self):
         self.made()
@@ -133,6 +136,27 @@ class Written(Tree):
 
     def test_words(self):
         self.assertEqual(self.made("--all")[0], 2)
+        self.assertEqual(self.made("--check", "stack")[0], 2)
+
+
+class Measures(unittest.TestCase):
+    """Tables from what the programs of evidence/ print."""
+
+    def test_search(self):
+        text = "replies:\n         7  a ring\n  load:  0 × 1200  4 × 30  15 × 1\n  tick:  10 × 2\n2 calls\n"
+        rows = measures.search_table(text).splitlines()[2:]
+        self.assertEqual(rows[0], "| `link_survey_load` | 1,231 | 1,200 | 4: 30, 15: 1 |")
+        self.assertEqual(rows[1:], ["| `link_survey_tick` | 2 | 0 | 10: 2 |"])
+
+    def test_faults(self):
+        text = "running 2 tests\ntest live_tables ...   1094  counts not judged: case 1: a\n     4  6 too late: b\nok\n"
+        text += "test no_fault ... ok\n\ntest result: ok. 2 passed; 0 failed\n"
+        rows = measures.faults_table(text).splitlines()[2:]
+        self.assertEqual(rows, ["| live tables | counts not judged | 1,094 |", "| live tables | 6 too late | 4 |"])
+
+    def test_stack(self):
+        rows = measures.stack_table("Deepest stack.\n\ncall  proved  plain on words\nread    480   240\n").splitlines()
+        self.assertEqual(rows[2:], ["| `link_survey_read` | 480 | 240 |"])
 
 
 if __name__ == "__main__":
