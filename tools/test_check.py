@@ -79,7 +79,7 @@ class Tree(unittest.TestCase):
             os.makedirs(os.path.dirname(os.path.join(self.root, name)), exist_ok=True)
             shutil.copy(os.path.join(ROOT, name), os.path.join(self.root, name))
         os.mkdir(self.path)
-        for name in USUAL:
+        for name in filter(shutil.which, USUAL):
             os.symlink(shutil.which(name), os.path.join(self.path, name))
         self.script("rt", RT)
 
@@ -134,7 +134,7 @@ class Check(Tree):
     def test_an_archive_that_fails(self):
         status, groups, _ = self.check(BAD_ARCHIVE="1")
         self.assertEqual((status, groups["archive"][0]), (1, "failed"))
-        self.assertEqual(groups["differences"], ("skipped", "no archive of survey_c"))
+        self.assertEqual(groups["differences"], ("skipped", "no archive of survey_c from these sources"))
 
     def test_each_failure(self):
         self.check("archive", "seats_archive")
@@ -246,7 +246,7 @@ class Missing(Tree):
     def test_rt(self):
         groups = self.without("rt")
         self.assertEqual((groups["format"], groups["archive"]), (("skipped", "no rt"),) * 2)
-        self.assertEqual(groups["differences"], ("skipped", "no archive of survey_c"))
+        self.assertEqual(groups["differences"], ("skipped", "no archive of survey_c from these sources"))
 
 
 class Gate(Tree):
