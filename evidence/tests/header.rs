@@ -22,8 +22,7 @@ fn numbers(text: &str) -> BTreeSet<u32> {
     bare.split_whitespace().map(|digits| digits.parse().unwrap()).collect()
 }
 
-/// Each function with the numbers of its "returns"; a report, which returns a number of bytes, lists its refusals in
-/// brackets.
+/// Each function with the numbers of its "returns"; a report, which returns a number of bytes, lists its refusals in brackets.
 #[test]
 fn functions_and_their_numbers() {
     let header = header();
