@@ -19,7 +19,10 @@ fn link(folder: &Path, name: &str) {
     let archive = folder.join(format!("lib{name}.a"));
     println!("cargo::rerun-if-changed={}", archive.display());
     if !archive.exists() {
-        println!("cargo::error={} is missing: make it by `rt staticlib {name}` at the root of the repository", archive.display());
+        println!(
+            "cargo::error={} is missing: make it by `rt staticlib {name}` at the root of the repository",
+            archive.display()
+        );
         return;
     }
     println!("cargo::rustc-link-lib=static={name}");

@@ -1,7 +1,8 @@
 #!/bin/sh
-# Instructions of the proved library over those of the plain version, counted by valgrind, for the largest sites, and of two lesser ones; then of the
-# questions (a ring, a lifting order, doubtful links, one-way links) over those of a survey of the same table, both proved.
-# Each figure is the difference between a run of 1 + TIMES surveys and a run of 1, so that the start of the program is not in it.
+# Instructions of the proved library over those of the plain version, counted by valgrind, for the largest sites, and of
+# two lesser ones; then of the questions (a ring, a lifting order, doubtful links, one-way links) over those of a survey
+# of the same table, both proved. Each figure is the difference between a run of 1 + TIMES surveys and a run of 1, so
+# that the start of the program is not in it.
 set -eu
 cd "$(dirname "$0")"
 TIMES=${1:-3}
@@ -10,8 +11,12 @@ bench=target/release/bench
 
 # The instructions of one run: SIDE WORK SITE TIMES
 count() {
-    valgrind --tool=callgrind --callgrind-out-file=/dev/null "$bench" one "$@" 2>&1 | awk '/Collected/ { print $NF; found = 1 } END { exit !found }'
+    valgrind --tool=callgrind --callgrind-out-file=/dev/null "$bench" one "$@" 2>&1 |
+        awk '/Collected/ { print $NF; found = 1 } END { exit !found }'
 }
+
+# The ratio of two counts.
+ratio() { echo "$1 $2" | awk '{ printf "%.2f", $1 / $2 }'; }
 
 # The instructions of one survey: SIDE WORK SITE
 survey() {
@@ -25,7 +30,7 @@ for work in words bytes; do
     for site in path ring full star ladder; do
         proved=$(survey proved $work $site)
         plain=$(survey plain $work $site)
-        printf '%-8s %-6s %12d %12d %8s\n' $site $work "$proved" "$plain" "$(echo "$proved $plain" | awk '{ printf "%.2f", $1 / $2 }')"
+        printf '%-8s %-6s %12d %12d %8s\n' $site $work "$proved" "$plain" "$(ratio "$proved" "$plain")"
     done
 done
 
@@ -40,7 +45,7 @@ ask() {
     for site in full path "$2"; do
         asked=$(survey proved "$1" "$site")
         surveyed=$(survey proved survey "$site")
-        printf '%-10s %-12s %12d %12d %8s\n' "$1" "$site" "$asked" "$surveyed" "$(echo "$asked $surveyed" | awk '{ printf "%.2f", $1 / $2 }')"
+        printf '%-10s %-12s %12d %12d %8s\n' "$1" "$site" "$asked" "$surveyed" "$(ratio "$asked" "$surveyed")"
     done
 }
 ask ring drawn:1143

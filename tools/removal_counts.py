@@ -1,8 +1,9 @@
 #!/usr/bin/env python3
 """What check_removal must print: python3 tools/removal_counts.py > crates/check_removal/stdout
 
-Draws the tables that check_removal reads, writes them to its data, and counts single points, lone links and labels in ways of its own: rings are
-listed one by one on the small tables, and on all tables two links go together until the removal of a unit parts them."""
+Draws the tables that check_removal reads, writes them to its data, and counts single points, lone links and labels in
+ways of its own: rings are listed one by one on the small tables, and on all tables two links go together until the
+removal of a unit parts them."""
 
 from itertools import combinations, permutations
 from pathlib import Path
@@ -61,9 +62,10 @@ def row(shape, links, seed, units):
 
 
 def across(shape, links, seed, units):
-    tries = {PATH_AND_ACROSS: 2, TREE_AND_ACROSS: 8, FEW: units, MANY: 400, DENSE: 1200, FULL: 2000, FULL_IN_RUNS: 4000}.get(shape, 0)
+    few = {PATH_AND_ACROSS: 2, TREE_AND_ACROSS: 8, FEW: units}
+    tries = {**few, MANY: 400, DENSE: 1200, FULL: 2000, FULL_IN_RUNS: 4000}
     there = {frozenset(link) for link in links}
-    for i in range(tries):
+    for i in range(tries.get(shape, 0)):
         a, b = below(seed, i, units), below(seed ^ 1, i, units)
         if shape == FULL_IN_RUNS:
             b = a // 16 * 16 + b % 16
@@ -162,7 +164,11 @@ def counted_by_rings(units, links):
             held = {frozenset((ring[i - 1], ring[i])) for i in range(size)}
             if held <= linked:
                 rings.append(held)
-    labels = {min(j for j, other in enumerate(links) if other == link or any({frozenset(link), frozenset(other)} <= ring for ring in rings)) for link in links}
+
+    def together(link, other):
+        return other == link or any({frozenset(link), frozenset(other)} <= ring for ring in rings)
+
+    labels = {min(j for j, other in enumerate(links) if together(link, other)) for link in links}
     lones = sum(not any(frozenset(link) in ring for ring in rings) for link in links)
 
     def linked_up(a, b, without):
@@ -171,14 +177,17 @@ def counted_by_rings(units, links):
             reached |= {v for link in linked if link & reached and without not in link for v in link}
         return b in reached
 
-    singles = sum(
-        any(linked_up(a, b, None) and not linked_up(a, b, x) for a, b in combinations([v for v in range(units) if v != x], 2)) for x in range(units)
-    )
+    def single(x):
+        others = combinations([v for v in range(units) if v != x], 2)
+        return any(linked_up(a, b, None) and not linked_up(a, b, x) for a, b in others)
+
+    singles = sum(map(single, range(units)))
     return singles, lones, len(labels)
 
 
 def stream(tables):
-    """How many tables there are, and each: the unit count, how many links it has, each link with its ends in the high and the low byte."""
+    """How many tables there are, and each: the unit count, how many links it has, each link with its ends in the high
+    and the low byte."""
     lines = [[len(tables)]]
     for units, links in tables:
         lines += [units], [len(links), *(256 * a + b for a, b in links)]
@@ -200,7 +209,8 @@ def main():
     for file, name, tables in zip(files, names, kinds):
         (crate / "data" / file).write_text(stream(tables))
         found = [counted(*table) for table in tables]
-        counts = [len(tables), sum(units for units, _ in tables), sum(len(links) for _, links in tables), *map(sum, zip(*found)), 0]
+        units, links = sum(units for units, _ in tables), sum(len(links) for _, links in tables)
+        counts = [len(tables), units, links, *map(sum, zip(*found)), 0]
         totals = [a + b for a, b in zip(totals, counts)]
         print(*counts, name)
     print(*totals, "in all")

@@ -2,11 +2,12 @@
 """Every small site with all its rings, for the check programs of T-04 and T-08.
 
     small_rings.py rings DIR      streams for check_rings: every table of 2 to 5 units, every two positions
-    small_rings.py doubtful DIR   streams for check_doubtful: every table of 2 to 4 units, all marks, every two positions
+    small_rings.py doubtful DIR   streams for check_doubtful: every table of 2 to 4 units, all marks, every two
+                                  positions
 
-A table has every set of links in which each unit has one; the order of its links and of their ends is drawn from a fixed
-seed. All rings are listed by trying every sequence of units, all settings by trying every set of doubtful links. Writes
-NAME.in, and NAME.out with the lines that must be printed. Nothing of the product is used.
+A table has every set of links in which each unit has one; the order of its links and of their ends is drawn from a
+fixed seed. All rings are listed by trying every sequence of units, all settings by trying every set of doubtful links.
+Writes NAME.in, and NAME.out with the lines that must be printed. Nothing of the product is used.
 """
 import itertools
 import os
@@ -67,12 +68,17 @@ def doubted():
         for chosen in range(2 ** m):
             doubtful = [k for k in range(m) if chosen >> k & 1]
             marks = [(0 if k not in doubtful else 1 + 254 * (k % 2)) for k in range(m)]
-            settings = [set(range(m)) - set(gone) for r in range(len(doubtful) + 1) for gone in itertools.combinations(doubtful, r)]
+            settings = [
+                set(range(m)) - set(gone)
+                for r in range(len(doubtful) + 1)
+                for gone in itertools.combinations(doubtful, r)
+            ]
             verdicts = []
             for i, j in asked:
                 held = [ringed(every, setting, i, j) for setting in settings]
                 verdicts.append(2 if all(held) else 1 if any(held) else 0)
-            case = table(n, links) + f"{m} {' '.join(map(str, marks))}\n{len(asked)}\n" + ''.join(f"{i} {j}\n" for i, j in asked)
+            case = table(n, links) + f"{m} {' '.join(map(str, marks))}\n{len(asked)}\n"
+            case += ''.join(f"{i} {j}\n" for i, j in asked)
             yield case, ' '.join(map(str, verdicts)) + '\n'
 
 

@@ -3,7 +3,9 @@
 use crate::random::Random;
 use crate::sites::{Site, any_site};
 use crate::words::State;
-use crate::{ABSENT, HIGHEST_LEVEL, LOWEST_LEVEL, MAX_INPUT, MAX_LINKS, MAX_UNITS, Survey, byte_of_level, word_of_level};
+use crate::{
+    ABSENT, HIGHEST_LEVEL, LOWEST_LEVEL, MAX_INPUT, MAX_LINKS, MAX_UNITS, Survey, byte_of_level, word_of_level,
+};
 
 /// The line of a frame, whatever its bytes are.
 fn line(body: &[u8]) -> Vec<u8> {
@@ -51,8 +53,21 @@ pub fn odd_level(random: &mut Random) -> i16 {
 
 /// A word near a limit that the site has, or any.
 pub fn odd_word(random: &mut Random, units: u16, links: u16) -> u16 {
-    let near =
-        random.pick(&[0, 1, units, units.wrapping_mul(2), links, 256, 804, 1024, 2048, 8158, 32768, word_of_level(LOWEST_LEVEL), ABSENT]);
+    let near = random.pick(&[
+        0,
+        1,
+        units,
+        units.wrapping_mul(2),
+        links,
+        256,
+        804,
+        1024,
+        2048,
+        8158,
+        32768,
+        word_of_level(LOWEST_LEVEL),
+        ABSENT,
+    ]);
     match random.below(4) {
         0 => near,
         1 => near.wrapping_sub(1),
@@ -61,8 +76,8 @@ pub fn odd_word(random: &mut Random, units: u16, links: u16) -> u16 {
     }
 }
 
-/// A table with a fault, most of the time: an end that is missing, equal ends, a link again, a word too many, too many links, levels
-/// that are too many or too few, a level outside its range.
+/// A table with a fault, most of the time: an end that is missing, equal ends, a link again, a word too many, too many
+/// links, levels that are too many or too few, a level outside its range.
 pub fn spoil_site(random: &mut Random, site: &mut Site) {
     for _ in 0..random.between(1, 2) {
         let (units, links) = (site.units, site.links());
@@ -258,7 +273,9 @@ fn joined(random: &mut Random, file: Vec<u8>) -> (&'static str, Vec<u8>) {
 
 fn noise(random: &mut Random) -> Vec<u8> {
     let digits = random.once_in(2);
-    (0..random.below(200)).map(|_| if digits { random.pick(b"0123456789ABCDEF\n") } else { random.word() as u8 }).collect()
+    (0..random.below(200))
+        .map(|_| if digits { random.pick(b"0123456789ABCDEF\n") } else { random.word() as u8 })
+        .collect()
 }
 
 /// As long as an input may be, and longer.

@@ -1,6 +1,6 @@
-//! Doubtful links (document 02, T-08). A ring of some links is a ring of more, so "in each setting" is "of the sure links alone" and
-//! "in some" is "of all". Whether two links are on a ring is told here by the blocks of a search in depth (Hopcroft and Tarjan), and
-//! not by the paths of T-04.
+//! Doubtful links (document 02, T-08). A ring of some links is a ring of more, so "in each setting" is "of the sure
+//! links alone" and "in some" is "of all". Whether two links are on a ring is told here by the blocks of a search in
+//! depth (Hopcroft and Tarjan), and not by the paths of T-04.
 
 use crate::{Refusal, Survey};
 
@@ -14,8 +14,8 @@ pub enum Verdict {
 
 const NONE: usize = usize::MAX;
 
-/// The block of each link that counts: the links of a block are on rings with each other, and with no others. A block of one link is
-/// on none. Also how many links each block has.
+/// The block of each link that counts: the links of a block are on rings with each other, and with no others. A block
+/// of one link is on none. Also how many links each block has.
 struct Blocks {
     of: Vec<usize>,
     sizes: Vec<usize>,

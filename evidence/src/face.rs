@@ -1,4 +1,5 @@
-//! The proved library through its C face. A slice goes over as its pointer and its length, an array of fixed size as its pointer.
+//! The proved library through its C face. A slice goes over as its pointer and its length, an array of fixed size as
+//! its pointer.
 
 use crate::LiveWords;
 use crate::seats::{SeatCalls, Seats};
@@ -25,7 +26,14 @@ unsafe extern "C" {
         out: *mut u8,
         out_len: usize,
     ) -> u32;
-    fn link_survey_load(state: *mut u16, units: u16, table: *const u16, table_len: usize, levels: *const i16, levels_len: usize) -> u32;
+    fn link_survey_load(
+        state: *mut u16,
+        units: u16,
+        table: *const u16,
+        table_len: usize,
+        levels: *const i16,
+        levels_len: usize,
+    ) -> u32;
     fn link_survey_load_stored(
         state: *mut u16,
         units: u16,
@@ -52,13 +60,45 @@ unsafe extern "C" {
     fn link_survey_state_report(state: *const u16, out: *mut u8, out_len: usize) -> u32;
     fn link_survey_foreman_line(state: *const u16, out: *mut u8, out_len: usize) -> u32;
     fn link_survey_service_line(state: *const u16, out: *mut u8, out_len: usize) -> u32;
-    fn link_survey_ring(state: *const u16, first: u16, second: u16, out: *mut u16, out_len: usize, count: *mut u16) -> u32;
-    fn link_survey_lifting_order(state: *const u16, pairs: *const u16, pairs_len: usize, out: *mut u16, out_len: usize) -> u32;
-    fn link_survey_doubtful(state: *const u16, first: u16, second: u16, marks: *const u8, marks_len: usize, verdict: *mut u16) -> u32;
-    fn link_survey_one_way(units: u16, table: *const u16, table_len: usize, numbers: *mut u16, numbers_len: usize, passes: *mut u16)
-    -> u32;
-    fn link_survey_live_open(live: *mut u16, units: u16, table: *const u16, table_len: usize, levels: *const i16, levels_len: usize)
-    -> u32;
+    fn link_survey_ring(
+        state: *const u16,
+        first: u16,
+        second: u16,
+        out: *mut u16,
+        out_len: usize,
+        count: *mut u16,
+    ) -> u32;
+    fn link_survey_lifting_order(
+        state: *const u16,
+        pairs: *const u16,
+        pairs_len: usize,
+        out: *mut u16,
+        out_len: usize,
+    ) -> u32;
+    fn link_survey_doubtful(
+        state: *const u16,
+        first: u16,
+        second: u16,
+        marks: *const u8,
+        marks_len: usize,
+        verdict: *mut u16,
+    ) -> u32;
+    fn link_survey_one_way(
+        units: u16,
+        table: *const u16,
+        table_len: usize,
+        numbers: *mut u16,
+        numbers_len: usize,
+        passes: *mut u16,
+    ) -> u32;
+    fn link_survey_live_open(
+        live: *mut u16,
+        units: u16,
+        table: *const u16,
+        table_len: usize,
+        levels: *const i16,
+        levels_len: usize,
+    ) -> u32;
     fn link_survey_live_add(live: *mut u16, a: u16, b: u16, level: i16) -> u32;
     fn link_survey_live_withdraw(live: *mut u16, a: u16, b: u16) -> u32;
     fn link_survey_seat_load(
@@ -81,7 +121,9 @@ pub fn report(input: &[u8], out: &mut [u8]) -> u32 {
 
 pub fn read(input: &[u8], table: &mut [u16], levels: &mut [i16], units: &mut u16, links: &mut u16) -> u32 {
     let (table, table_len) = (table.as_mut_ptr(), table.len());
-    unsafe { link_survey_read(input.as_ptr(), input.len(), table, table_len, levels.as_mut_ptr(), levels.len(), units, links) }
+    unsafe {
+        link_survey_read(input.as_ptr(), input.len(), table, table_len, levels.as_mut_ptr(), levels.len(), units, links)
+    }
 }
 
 pub fn write(units: u16, table: &[u16], levels: &[i16], out: &mut [u8]) -> u32 {
@@ -94,13 +136,17 @@ pub fn load(state: &mut State, units: u16, table: &[u16], levels: &[i16]) -> u32
 }
 
 pub fn load_stored(state: &mut State, units: u16, table: &[u16], levels: &[i16]) -> u32 {
-    unsafe { link_survey_load_stored(state.as_mut_ptr(), units, table.as_ptr(), table.len(), levels.as_ptr(), levels.len()) }
+    unsafe {
+        link_survey_load_stored(state.as_mut_ptr(), units, table.as_ptr(), table.len(), levels.as_ptr(), levels.len())
+    }
 }
 
 pub fn load_planned(state: &mut State, units: u16, table: &[u16], levels: &[i16], parents: &[u16]) -> u32 {
     let (words, len) = (table.as_ptr(), table.len());
     let (heights, links) = (levels.as_ptr(), levels.len());
-    unsafe { link_survey_load_planned(state.as_mut_ptr(), units, words, len, heights, links, parents.as_ptr(), parents.len()) }
+    unsafe {
+        link_survey_load_planned(state.as_mut_ptr(), units, words, len, heights, links, parents.as_ptr(), parents.len())
+    }
 }
 
 pub fn round(state: &mut State) -> u32 {
@@ -152,7 +198,9 @@ pub fn one_way(units: u16, table: &[u16], numbers: &mut [u16], passes: &mut u16)
 }
 
 pub fn live_open(live: &mut LiveWords, units: u16, table: &[u16], levels: &[i16]) -> u32 {
-    unsafe { link_survey_live_open(live.as_mut_ptr(), units, table.as_ptr(), table.len(), levels.as_ptr(), levels.len()) }
+    unsafe {
+        link_survey_live_open(live.as_mut_ptr(), units, table.as_ptr(), table.len(), levels.as_ptr(), levels.len())
+    }
 }
 
 pub fn live_add(live: &mut LiveWords, a: u16, b: u16, level: i16) -> u32 {

@@ -1,4 +1,5 @@
-//! One frame a line: upper-case hexadecimal digits, two a byte, then a line feed. The last byte makes the sum wrap to 0.
+//! One frame a line: upper-case hexadecimal digits, two a byte, then a line feed. The last byte makes the sum wrap to
+//! 0.
 
 /// The two digits of each byte.
 const HEX: [[u8; 2]; 256] = {
@@ -42,7 +43,8 @@ pub(crate) fn write_line<const BODY: usize>(line: &mut [u8], body: [u8; BODY]) {
     line[2 * BODY..].copy_from_slice(&[high, low, b'\n']);
 }
 
-/// The bytes of the line at the front of some characters, check byte included; none where they begin with no whole line of so many bytes.
+/// The bytes of the line at the front of some characters, check byte included; none where they begin with no whole line
+/// of so many bytes.
 pub(crate) fn read_line<const BYTES: usize>(characters: &[u8]) -> Option<[u8; BYTES]> {
     let digits = characters.get(..2 * BYTES)?;
     if characters.get(2 * BYTES) != Some(&b'\n') {

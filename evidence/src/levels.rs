@@ -1,4 +1,5 @@
-//! The level of a link (document 02, T-01): its received signal in dBm, and its two's complement in a byte of a file or a word of a state.
+//! The level of a link (document 02, T-01): its received signal in dBm, and its two's complement in a byte of a file or
+//! a word of a state.
 
 /// What a link of kind 02, which has no level, is read as.
 pub const LOWEST_LEVEL: i16 = -127;

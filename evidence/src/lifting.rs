@@ -1,4 +1,5 @@
-//! Lifting order (document 02, T-07): built up from unit 0, each time the least unit that may stand next, and then reversed.
+//! Lifting order (document 02, T-07): built up from unit 0, each time the least unit that may stand next, and then
+//! reversed.
 
 use crate::{Refusal, Survey};
 
@@ -24,8 +25,8 @@ pub fn lifting_order(units: u16, links: &[[u16; 2]], pairs: &[[u16; 2]]) -> Opti
     Some(built)
 }
 
-/// Which units may stand next: first unit 0 alone, then one that is linked with a standing unit. It is lifted after the units that are
-/// built later, so whatever it is to be lifted before stands already.
+/// Which units may stand next: first unit 0 alone, then one that is linked with a standing unit. It is lifted after the
+/// units that are built later, so whatever it is to be lifted before stands already.
 fn may_stand(standing: &[bool], links: &[[u16; 2]], pairs: &[[u16; 2]]) -> Vec<bool> {
     let mut may = vec![false; standing.len()];
     may[0] = true;

@@ -1,4 +1,5 @@
-//! A live table (document 02, T-09): links, levels and the number of links at each unit, opened, added to and withdrawn from.
+//! A live table (document 02, T-09): links, levels and the number of links at each unit, opened, added to and withdrawn
+//! from.
 
 use crate::levels::in_range;
 use crate::table::{check_counts, check_ends, check_levels};
@@ -8,7 +9,8 @@ use crate::{ABSENT, HIGHEST_LEVEL, MAX_LINKS, MAX_UNITS, Refusal, check_table, l
 pub type LiveWords = [u16; LIVE_WORDS];
 pub const LIVE_WORDS: usize = 2 + 3 * MAX_LINKS + MAX_UNITS;
 
-/// The links with their levels in order of position; the rest of a table that was given is not looked at, but for the counts.
+/// The links with their levels in order of position; the rest of a table that was given is not looked at, but for the
+/// counts.
 #[derive(Clone, Debug, PartialEq, Eq)]
 pub struct Live {
     pub units: u16,

@@ -1,5 +1,5 @@
-//! One-way links (document 02, T-11): the least number of each unit's strongly connected group by the min-label method of document
-//! 000, section 6.1, without its two optimisations.
+//! One-way links (document 02, T-11): the least number of each unit's strongly connected group by the min-label method
+//! of document 000, section 6.1, without its two optimisations.
 
 use crate::table::check_one_way;
 use crate::{ABSENT, MAX_UNITS, Refusal};
@@ -23,7 +23,9 @@ pub fn one_way(units: u16, table: &[u16], numbers: &mut [u16]) -> Result<u16, Re
                 *number = forward[v];
             }
         }
-        left.retain(|&[a, b]| forward[a] == forward[b] && backward[a] == backward[b] && numbers[a] == ABSENT && numbers[b] == ABSENT);
+        left.retain(|&[a, b]| {
+            forward[a] == forward[b] && backward[a] == backward[b] && numbers[a] == ABSENT && numbers[b] == ABSENT
+        });
     }
     Ok(passes)
 }

@@ -1,11 +1,12 @@
-//! Show the ring (document 02, T-04): two paths without a common unit from the ends of the first link to those of the second, as a
-//! flow of two through a network in which each unit takes one (Menger). What is shown is the program's choice, so there is a judge
-//! of any reply too.
+//! Show the ring (document 02, T-04): two paths without a common unit from the ends of the first link to those of the
+//! second, as a flow of two through a network in which each unit takes one (Menger). What is shown is the program's
+//! choice, so there is a judge of any reply too.
 
 use crate::{Refusal, Survey};
 use std::collections::VecDeque;
 
-/// A step of the network: where it leads to, and how much it still takes. The step back has the same number but for its last bit.
+/// A step of the network: where it leads to, and how much it still takes. The step back has the same number but for its
+/// last bit.
 struct Step {
     to: usize,
     left: u8,
@@ -126,9 +127,15 @@ fn ring_back(units: u16, links: &[[u16; 2]], position: usize) -> Option<Vec<u16>
     Some(ring)
 }
 
-/// Whether some units are a ring of these links that holds both positions, in walking order, the ends of the first in front as the
-/// table has them (T-04a); and if not, why.
-pub fn judge_ring(units: u16, links: &[[u16; 2]], first: usize, second: usize, ring: &[u16]) -> Result<(), &'static str> {
+/// Whether some units are a ring of these links that holds both positions, in walking order, the ends of the first in
+/// front as the table has them (T-04a); and if not, why.
+pub fn judge_ring(
+    units: u16,
+    links: &[[u16; 2]],
+    first: usize,
+    second: usize,
+    ring: &[u16],
+) -> Result<(), &'static str> {
     let joins = |position: usize, a: u16, b: u16| links[position] == [a, b] || links[position] == [b, a];
     let pairs = || ring.iter().zip(ring.iter().cycle().skip(1));
     if ring.len() < 3 {
@@ -153,7 +160,8 @@ pub fn judge_ring(units: u16, links: &[[u16; 2]], first: usize, second: usize, r
 }
 
 impl Survey {
-    /// Returns the number of units of the ring, written at the front of the slice; 0 where there is none. Refused with 10, 12, 13, 14.
+    /// Returns the number of units of the ring, written at the front of the slice; 0 where there is none. Refused with
+    /// 10, 12, 13, 14.
     pub fn ring(&self, first: u16, second: u16, out: &mut [u16]) -> Result<u16, Refusal> {
         self.must_be_finished()?;
         if first >= self.links || second >= self.links {

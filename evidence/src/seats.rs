@@ -1,5 +1,5 @@
-//! Several sites over one channel (document 02, T-12) on lent words, as the C face has it: eight states, and the number of the seat
-//! last served.
+//! Several sites over one channel (document 02, T-12) on lent words, as the C face has it: eight states, and the number
+//! of the seat last served.
 
 use crate::words::{State, load, round};
 use crate::{FINISHED, Refusal, Survey};

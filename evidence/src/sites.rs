@@ -44,7 +44,10 @@ pub fn ladder(n: usize) -> Site {
 
 /// Each unit linked with so many after it, as far as the limits go.
 pub fn strip(n: usize, width: usize) -> Site {
-    Site::new(n, (1..n).flat_map(|b| (b.saturating_sub(width)..b).map(move |a| (a, b))).take(MAX_LINKS).collect::<Vec<_>>())
+    Site::new(
+        n,
+        (1..n).flat_map(|b| (b.saturating_sub(width)..b).map(move |a| (a, b))).take(MAX_LINKS).collect::<Vec<_>>(),
+    )
 }
 
 /// Rings of three, one after the other, that share a unit.
@@ -109,7 +112,8 @@ fn beside(left: Site, right: &Site) -> Site {
 pub fn renamed(random: &mut Random, site: &Site) -> Site {
     let mut names: Vec<u16> = (0..site.units).collect();
     random.shuffle(&mut names);
-    let mut links: Vec<([u16; 2], i16)> = site.table.as_chunks().0.iter().copied().zip(site.levels.iter().copied()).collect();
+    let mut links: Vec<([u16; 2], i16)> =
+        site.table.as_chunks().0.iter().copied().zip(site.levels.iter().copied()).collect();
     random.shuffle(&mut links);
     for (ends, _) in &mut links {
         *ends = ends.map(|end| names[usize::from(end)]);
@@ -186,8 +190,8 @@ pub fn any_site(random: &mut Random) -> Site {
     if random.once_in(8) { site } else { levelled(random, site) }
 }
 
-/// A table of parents: a forest along links, grown from the least units in some order of the links. Links with an end that is no unit
-/// are left out.
+/// A table of parents: a forest along links, grown from the least units in some order of the links. Links with an end
+/// that is no unit are left out.
 pub fn any_parents(random: &mut Random, units: u16, table: &[u16]) -> Vec<u16> {
     let mut parents = vec![ABSENT; usize::from(units)];
     let mut seen = vec![false; parents.len()];

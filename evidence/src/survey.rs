@@ -1,6 +1,8 @@
 //! The state of a survey and its load.
 
-use crate::{ABSENT, HIGHEST_LEVEL, MAX_LINKS, MAX_UNITS, Refusal, check_fresh, check_plan, check_table, word_of_level};
+use crate::{
+    ABSENT, HIGHEST_LEVEL, MAX_LINKS, MAX_UNITS, Refusal, check_fresh, check_plan, check_table, word_of_level,
+};
 
 const UNITS: usize = MAX_UNITS;
 /// Directed tree links, document 01's list places: 2v is the one into v, 2v + 1 the one out of v.

@@ -1,5 +1,6 @@
-//! The calls on lent words, as the C face has them: the number of the refusal, 0 where there is none. A state and a reply are arrays
-//! of their fixed size; a report, a file, or the ends or levels of a file's links go to the front of a slice.
+//! The calls on lent words, as the C face has them: the number of the refusal, 0 where there is none. A state and a
+//! reply are arrays of their fixed size; a report, a file, or the ends or levels of a file's links go to the front of a
+//! slice.
 
 use crate::seats::{self, SeatCalls};
 use crate::{Live, LiveWords, Refusal, Survey, read_file, report_of_file, write_file};
@@ -199,7 +200,8 @@ pub fn service_line(state: &State, out: &mut [u8]) -> u32 {
     number(Survey::from_words(state).service_line(out).map(|_| ()))
 }
 
-/// The ring's units go to the front of the slice, their number to `count`: 0 where there is no ring. Refused with 10, 12, 13, 14.
+/// The ring's units go to the front of the slice, their number to `count`: 0 where there is no ring. Refused with 10,
+/// 12, 13, 14.
 pub fn ring(state: &State, first: u16, second: u16, out: &mut [u16], count: &mut u16) -> u32 {
     number((|| {
         *count = Survey::from_words(state).ring(first, second, out)?;

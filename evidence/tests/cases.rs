@@ -61,8 +61,9 @@ fn b_ring_and_one_more() {
 #[test]
 fn b_file_and_report() {
     let file = "010004FB\n0200000001FD\n0200010002FB\n0200000002FC\n0200020003F9\n0F0004ED\n";
-    let report = "11001B0016BE\n1200000000FFFF000000F0\n12000100000000000100EC\n12000200000000000201E9\n12000300000002000300E6\n\
-                  130000000000ED\n130001000000EC\n130002000000EB\n130003000301E6\n1F00010001DF\n";
+    let report = "11001B0016BE\n1200000000FFFF000000F0\n12000100000000000100EC\n12000200000000000201E9\n\
+                  12000300000002000300E6\n130000000000ED\n130001000000EC\n130002000000EB\n\
+                  130003000301E6\n1F00010001DF\n";
     let mut out = [0; 1000];
     let length = report_of_file(file.as_bytes(), &mut out);
     assert_eq!(std::str::from_utf8(&out[..length]).unwrap(), report);
@@ -123,7 +124,8 @@ fn i_unit_counts() {
     assert_eq!(first_countdown(256, &[]), 804);
 }
 
-/// 22 (document 02, T-10): two or more units, one of them without a link; last among the checks, and none of a stored table.
+/// 22 (document 02, T-10): two or more units, one of them without a link; last among the checks, and none of a stored
+/// table.
 #[test]
 fn units_without_a_link() {
     for passes in [check_fresh(1, &[]), check_fresh(2, &[1, 0]), check_table(2, &[]), check_table(3, &[2, 0])] {

@@ -90,13 +90,17 @@ fn words_there_and_back() {
         let survey = any_kept(&mut Random::new(4, case));
         let words = survey.to_words();
         same(&Survey::from_words(&words), &survey, "words");
-        assert_eq!((words[0], words[1], words[2050], words[2053]), (survey.units, survey.links, survey.stage, survey.requests));
+        assert_eq!(
+            (words[0], words[1], words[2050], words[2053]),
+            (survey.units, survey.links, survey.stage, survey.requests)
+        );
         assert_eq!((words.len(), &words[11014..12038]), (12295, &survey.levels[..]));
         assert_eq!((&words[12038..12294], words[12294]), (&survey.plan[..], survey.given));
     }
 }
 
-/// A load keeps the levels as the last words, with 0 past the links, and no round changes them. Where all are equal, no other word has to do with them.
+/// A load keeps the levels as the last words, with 0 past the links, and no round changes them. Where all are equal, no
+/// other word has to do with them.
 #[test]
 fn levels_of_a_load() {
     for case in 0..200 {
@@ -104,7 +108,10 @@ fn levels_of_a_load() {
         let mut survey = loaded(&site);
         survey.run(u16::MAX).unwrap();
         let levels: Vec<i16> = survey.levels.iter().map(|&word| level_of_word(word)).collect();
-        assert!(levels[..site.links()] == site.levels && levels[site.links()..].iter().all(|&level| level == 0), "load {case}");
+        assert!(
+            levels[..site.links()] == site.levels && levels[site.links()..].iter().all(|&level| level == 0),
+            "load {case}"
+        );
         let [words, others] = [-61, LOWEST_LEVEL].map(|level| {
             let mut survey = loaded(&Site { levels: vec![level; site.links()], ..site.clone() });
             survey.run(u16::MAX).unwrap();
@@ -114,14 +121,15 @@ fn levels_of_a_load() {
     }
 }
 
-/// Any levels give the same first countdown, distances, labels, lone links and single points (T-02); parents and rounds may differ.
+/// Any levels give the same first countdown, distances, labels, lone links and single points (T-02); parents and rounds
+/// may differ.
 #[test]
 fn whatever_the_levels() {
     let mut parents = 0;
     for case in 0..1_000 {
         let site = any_site(&mut Random::new(7, case));
-        let [mut survey, mut bare] =
-            [site.levels.clone(), vec![LOWEST_LEVEL; site.links()]].map(|levels| loaded(&Site { levels, ..site.clone() }));
+        let [mut survey, mut bare] = [site.levels.clone(), vec![LOWEST_LEVEL; site.links()]]
+            .map(|levels| loaded(&Site { levels, ..site.clone() }));
         assert_eq!(survey.status().unwrap().countdown, bare.status().unwrap().countdown, "load {case}");
         survey.run(u16::MAX).unwrap();
         bare.run(u16::MAX).unwrap();
@@ -130,7 +138,11 @@ fn whatever_the_levels() {
             assert_eq!(survey.unit(unit).unwrap().single, bare.unit(unit).unwrap().single, "load {case}: unit {unit}");
         }
         for position in 0..survey.links {
-            assert_eq!(survey.link(position).unwrap().lone, bare.link(position).unwrap().lone, "load {case}: link {position}");
+            assert_eq!(
+                survey.link(position).unwrap().lone,
+                bare.link(position).unwrap().lone,
+                "load {case}: link {position}"
+            );
         }
         parents += usize::from(survey.parent != bare.parent);
     }

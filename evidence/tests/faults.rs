@@ -1,5 +1,6 @@
-//! Whether the search finds a fault: wrong libraries, the plain version behind the same calls with one fault in each, must each be found
-//! soon; the plain version itself must not differ from itself, and must bring up every number of every call.
+//! Whether the search finds a fault: wrong libraries, the plain version behind the same calls with one fault in each,
+//! must each be found soon; the plain version itself must not differ from itself, and must bring up every number of
+//! every call.
 
 use plain::search::Search;
 use plain::seats::{SEATS, SeatCalls, load_seat, tick};
@@ -121,7 +122,8 @@ fn greatest_first(state: &State, pairs: &[u16], out: &mut [u16]) -> u32 {
     let (mut standing, mut built) = (vec![false; units], Vec::new());
     while built.len() < units {
         let stands = |&v: &u16| standing[usize::from(v)];
-        let linked = |v: u16| table(state).as_chunks().0.iter().any(|&[a, b]| (a == v && stands(&b)) || (b == v && stands(&a)));
+        let linked =
+            |v: u16| table(state).as_chunks().0.iter().any(|&[a, b]| (a == v && stands(&b)) || (b == v && stands(&a)));
         let waits = |v: u16| pairs.as_chunks().0.iter().any(|[before, after]| *before == v && !stands(after));
         let may = |v: &u16| !stands(v) && !waits(*v) && if built.is_empty() { *v == 0 } else { linked(*v) };
         let next = (0..state[0]).rev().find(may).expect("an order exists");
@@ -150,17 +152,20 @@ const LIFTING: [Fault; 9] = [
         calls.lifting_order = |state, pairs, out| words::lifting_order(state, &pairs[..pairs.len() / 2 * 2], out)
     }),
     ("513 words are taken", |calls| {
-        calls.lifting_order = |state, pairs, out| words::lifting_order(state, if pairs.len() == 513 { &pairs[..512] } else { pairs }, out)
+        calls.lifting_order =
+            |state, pairs, out| words::lifting_order(state, if pairs.len() == 513 { &pairs[..512] } else { pairs }, out)
     }),
     ("a unit before itself is left out", |calls| {
         calls.lifting_order = |state, pairs, out| {
-            let others: Vec<u16> = pairs.chunks(2).filter(|pair| pair.len() < 2 || pair[0] != pair[1]).flatten().copied().collect();
+            let others: Vec<u16> =
+                pairs.chunks(2).filter(|pair| pair.len() < 2 || pair[0] != pair[1]).flatten().copied().collect();
             words::lifting_order(state, if pairs.len() > 512 { pairs } else { &others }, out)
         }
     }),
     ("a name too great by one is taken", |calls| {
         calls.lifting_order = |state, pairs, out| {
-            let others: Vec<u16> = pairs.chunks(2).filter(|pair| !pair.contains(&state[0])).flatten().copied().collect();
+            let others: Vec<u16> =
+                pairs.chunks(2).filter(|pair| !pair.contains(&state[0])).flatten().copied().collect();
             words::lifting_order(state, if pairs.len() > 512 { pairs } else { &others }, out)
         }
     }),
@@ -189,10 +194,11 @@ const DOUBTFUL: [Fault; 6] = [
         }
     }),
     ("15 before 13", |calls| {
-        calls.doubtful = |state, first, second, marks, verdict| match words::doubtful(state, first, second, marks, verdict) {
-            13 if marks.len() != usize::from(state[1]) => 15,
-            number => number,
-        }
+        calls.doubtful =
+            |state, first, second, marks, verdict| match words::doubtful(state, first, second, marks, verdict) {
+                13 if marks.len() != usize::from(state[1]) => 15,
+                number => number,
+            }
     }),
     ("marks past the links are taken", |calls| {
         calls.doubtful = |state, first, second, marks, verdict| {
@@ -220,15 +226,23 @@ const DOUBTFUL: [Fault; 6] = [
         }
     }),
     ("the verdict of the first link alone", |calls| {
-        calls.doubtful = |state, first, second, marks, verdict| match words::doubtful(state, first, second, marks, &mut 0) {
-            0 => words::doubtful(state, first, first, marks, verdict),
-            number => number,
-        }
+        calls.doubtful =
+            |state, first, second, marks, verdict| match words::doubtful(state, first, second, marks, &mut 0) {
+                0 => words::doubtful(state, first, first, marks, verdict),
+                number => number,
+            }
     }),
 ];
 
 /// The method with backward labels from every unit, or without removal of links that cross.
-fn another_method(units: u16, table: &[u16], numbers: &mut [u16], passes: &mut u16, all_begin: bool, crossing: bool) -> u32 {
+fn another_method(
+    units: u16,
+    table: &[u16],
+    numbers: &mut [u16],
+    passes: &mut u16,
+    all_begin: bool,
+    crossing: bool,
+) -> u32 {
     let number = words::one_way(units, table, numbers, passes);
     if number != 0 {
         return number;
@@ -244,7 +258,9 @@ fn another_method(units: u16, table: &[u16], numbers: &mut [u16], passes: &mut u
         let mut backward: Vec<u16> = (0..units).map(begin).collect();
         spread(&mut backward, &left, |[a, b]| [b, a]);
         (0..done.len()).for_each(|v| done[v] |= forward[v] == backward[v]);
-        left.retain(|&[a, b]| !done[a] && !done[b] && (crossing || (forward[a] == forward[b] && backward[a] == backward[b])));
+        left.retain(|&[a, b]| {
+            !done[a] && !done[b] && (crossing || (forward[a] == forward[b] && backward[a] == backward[b]))
+        });
     }
     0
 }
@@ -274,10 +290,11 @@ const ONE_WAY: [Fault; 6] = [
         calls.one_way = |units, table, numbers, passes| another_method(units, table, numbers, passes, false, true)
     }),
     ("14 where there is no word past the numbers", |calls| {
-        calls.one_way = |units, table, numbers, passes| match words::one_way(units, table, &mut numbers.to_vec(), &mut 0) {
-            0 if numbers.len() == usize::from(units) => 14,
-            _ => words::one_way(units, table, numbers, passes),
-        }
+        calls.one_way =
+            |units, table, numbers, passes| match words::one_way(units, table, &mut numbers.to_vec(), &mut 0) {
+                0 if numbers.len() == usize::from(units) => 14,
+                _ => words::one_way(units, table, numbers, passes),
+            }
     }),
     ("a word past the numbers", |calls| {
         calls.one_way = |units, table, numbers, passes| {
@@ -509,7 +526,8 @@ const STATE_LEVELS: usize = Survey::WORDS - 1 - 256 - 1024;
 
 /// A load that takes levels from one number to another.
 fn wide_load(state: &mut State, units: u16, table: &[u16], levels: &[i16], from: i16, to: i16) -> u32 {
-    let near: Vec<i16> = levels.iter().map(|&level| if (from..=to).contains(&level) { level.clamp(-127, 0) } else { level }).collect();
+    let near: Vec<i16> =
+        levels.iter().map(|&level| if (from..=to).contains(&level) { level.clamp(-127, 0) } else { level }).collect();
     let number = words::load(state, units, table, &near);
     if number == 0 {
         for (word, &level) in state[STATE_LEVELS..].iter_mut().zip(levels) {
@@ -531,10 +549,15 @@ fn good_level(line: &[u8]) -> bool {
 
 const OF_LEVELS: [Fault; 11] = [
     ("15 for too few levels only", |calls| {
-        calls.load = |state, units, table, levels| words::load(state, units, table, &levels[..levels.len().min(table.len() / 2)])
+        calls.load =
+            |state, units, table, levels| words::load(state, units, table, &levels[..levels.len().min(table.len() / 2)])
     }),
-    ("levels down to -128", |calls| calls.load = |state, units, table, levels| wide_load(state, units, table, levels, -128, 0)),
-    ("levels up to 1", |calls| calls.load = |state, units, table, levels| wide_load(state, units, table, levels, -127, 1)),
+    ("levels down to -128", |calls| {
+        calls.load = |state, units, table, levels| wide_load(state, units, table, levels, -128, 0)
+    }),
+    ("levels up to 1", |calls| {
+        calls.load = |state, units, table, levels| wide_load(state, units, table, levels, -127, 1)
+    }),
     ("a state's levels are judged up to the links", |calls| {
         calls.status = |state, reply| {
             let mut judged = *state;
@@ -608,10 +631,11 @@ const PLANS: [Fault; 3] = [
         }
     }),
     ("22 before 18", |calls| {
-        calls.load_planned = |state, units, table, levels, parents| match words::load_planned(state, units, table, levels, parents) {
-            18 if check_fresh(units, table, levels).is_err() => 22,
-            number => number,
-        }
+        calls.load_planned =
+            |state, units, table, levels, parents| match words::load_planned(state, units, table, levels, parents) {
+                18 if check_fresh(units, table, levels).is_err() => 22,
+                number => number,
+            }
     }),
     ("the plan is not marked as given", |calls| {
         calls.load_planned = |state, units, table, levels, parents| {
@@ -630,7 +654,9 @@ fn found(faults: &[Fault]) {
         let mut library = PLAIN;
         spoil(&mut library);
         match Search::new(library).first_found(1, CASES) {
-            Some((case, difference)) => println!("{case:>6}  {name}: {}", difference.lines().next().unwrap_or_default()),
+            Some((case, difference)) => {
+                println!("{case:>6}  {name}: {}", difference.lines().next().unwrap_or_default())
+            }
             None => panic!("not found in {CASES} cases: {name}"),
         }
     }

@@ -1,4 +1,5 @@
-//! Files and tables against the customer's list of refusals, each number judged over the whole input by a search of its own.
+//! Files and tables against the customer's list of refusals, each number judged over the whole input by a search of its
+//! own.
 
 use plain::damage::{any_file, spoil_site};
 use plain::random::Random;
@@ -11,7 +12,8 @@ fn frame(line: &[u8]) -> Option<Vec<u8>> {
     if digits.len() % 2 == 1 || !digits.chars().all(|c| "0123456789ABCDEF".contains(c)) {
         return None;
     }
-    let bytes: Vec<u8> = (0..digits.len()).step_by(2).map(|i| u8::from_str_radix(&digits[i..i + 2], 16).unwrap()).collect();
+    let bytes: Vec<u8> =
+        (0..digits.len()).step_by(2).map(|i| u8::from_str_radix(&digits[i..i + 2], 16).unwrap()).collect();
     let length = match bytes.first()? {
         0x01 | 0x0F => 4,
         0x02 => 6,
@@ -113,15 +115,24 @@ fn read() {
                 let contents = ours.unwrap();
                 let links = usize::from(contents.links);
                 assert_eq!((contents.units, 2 * links), (slowly.units, slowly.table.len()), "case {case}, {kind}");
-                assert!(words[..2 * links] == slowly.table && words[2 * links..].iter().all(|&word| word == 7), "case {case}, {kind}");
-                assert!(levels[..links] == slowly.levels && levels[links..].iter().all(|&level| level == 7), "case {case}, {kind}");
+                assert!(
+                    words[..2 * links] == slowly.table && words[2 * links..].iter().all(|&word| word == 7),
+                    "case {case}, {kind}"
+                );
+                assert!(
+                    levels[..links] == slowly.levels && levels[links..].iter().all(|&level| level == 7),
+                    "case {case}, {kind}"
+                );
                 // a place too few for the ends, for the levels, or for both
                 for (fewer_words, fewer_levels) in [(1, 0), (0, 1), (1, 1)] {
                     if links > 0 {
                         let (mut words, mut levels) = (vec![7; 2 * links - fewer_words], vec![7; links - fewer_levels]);
                         let refused = read_file(&input, &mut words, &mut levels).map_err(|refusal| refusal.number());
                         assert_eq!(refused, Err(14), "case {case}, {kind}");
-                        assert!(words.iter().all(|&word| word == 7) && levels.iter().all(|&level| level == 7), "case {case}, {kind}");
+                        assert!(
+                            words.iter().all(|&word| word == 7) && levels.iter().all(|&level| level == 7),
+                            "case {case}, {kind}"
+                        );
                     }
                 }
                 seen[0] += 1;

@@ -64,7 +64,8 @@ fn case_b() {
     assert_eq!(service(&survey), "2101001E00000000C0\n");
 }
 
-/// Any two kept surveys that agree in unit count, stage and rounds made in it have equal foreman's lines; the service line holds the status.
+/// Any two kept surveys that agree in unit count, stage and rounds made in it have equal foreman's lines; the service
+/// line holds the status.
 #[test]
 fn equal_lines() {
     let (mut random, mut compared) = (Random::new(6, 0), 0);

@@ -1,5 +1,5 @@
-//! The header beside the plain version: its functions and the numbers that it lists for each are those that the search asks for, its
-//! refusals are 1 to 23, and its sizes are the plain version's.
+//! The header beside the plain version: its functions and the numbers that it lists for each are those that the search
+//! asks for, its refusals are 1 to 23, and its sizes are the plain version's.
 
 use plain::search::REFUSALS;
 use plain::{FOREMAN_LINE, LIVE_WORDS, MAX_LINKS, MAX_UNITS, SERVICE_LINE, Survey, file_length, report_length};
@@ -42,7 +42,8 @@ fn functions_and_their_numbers() {
         of.remove(&0);
         assert!(listed.insert(name, of).is_none(), "{name} is declared twice");
     }
-    let asked: BTreeMap<&str, BTreeSet<u32>> = REFUSALS.iter().map(|&(name, of)| (name, of.iter().copied().collect())).collect();
+    let asked: BTreeMap<&str, BTreeSet<u32>> =
+        REFUSALS.iter().map(|&(name, of)| (name, of.iter().copied().collect())).collect();
     assert_eq!(listed, asked);
 }
 

@@ -1,8 +1,9 @@
-//! Levels of links (document 02, T-01): two's complement, both kinds of link lines, and vectors of an independent model, those of units without a link (T-10)
-//! among them.
+//! Levels of links (document 02, T-01): two's complement, both kinds of link lines, and vectors of an independent
+//! model, those of units without a link (T-10) among them.
 
 use plain::{
-    Refusal, Survey, byte_of_level, check_table, level_of_byte, level_of_word, read_file, report_of_file, word_of_level, write_file,
+    Refusal, Survey, byte_of_level, check_table, level_of_byte, level_of_word, read_file, report_of_file,
+    word_of_level, write_file,
 };
 use std::path::{Path, PathBuf};
 
@@ -63,7 +64,8 @@ fn both_kinds() {
 /// 15 and 16 stand after 6 and before 7.
 #[test]
 fn numbers_in_order() {
-    let check = |units, table: &[u16], levels: &[i16]| check_table(units, table, levels).map_err(|refusal| refusal.number());
+    let check =
+        |units, table: &[u16], levels: &[i16]| check_table(units, table, levels).map_err(|refusal| refusal.number());
     assert_eq!(check(0, &[0], &[1]), Err(4));
     assert_eq!(check(3, &[0], &[1, 1]), Err(5));
     assert_eq!(check(3, &[0; 2050], &[1]), Err(6));
@@ -84,8 +86,10 @@ fn vectors(family: &str) -> Vec<PathBuf> {
     let entries = std::fs::read_dir(&folder).unwrap_or_else(|e| panic!("{}: {e}", folder.display()));
     let known = |name: &str| name.starts_with("t01_") || name.starts_with("t10_");
     let ours = |path: &PathBuf| path.file_name().is_some_and(|name| known(&name.to_string_lossy()));
-    let mut found: Vec<PathBuf> =
-        entries.map(|entry| entry.unwrap().path()).filter(|path| ours(path) && path.extension().is_some_and(|e| e == "in")).collect();
+    let mut found: Vec<PathBuf> = entries
+        .map(|entry| entry.unwrap().path())
+        .filter(|path| ours(path) && path.extension().is_some_and(|e| e == "in"))
+        .collect();
     found.sort();
     assert!(!found.is_empty(), "no vectors in {}", folder.display());
     found
@@ -147,7 +151,8 @@ impl Numbers {
     }
 }
 
-/// Loads (1, of a stored table 3) and writes (4): the number of a refusal, else 0 and the first countdown or the characters.
+/// Loads (1, of a stored table 3) and writes (4): the number of a refusal, else 0 and the first countdown or the
+/// characters.
 #[test]
 fn loads_and_writes() {
     for path in vectors("loads") {

@@ -1,4 +1,5 @@
-//! Lifting order (document 02, T-07): the plain version against vectors, and against every list of the units of small sites.
+//! Lifting order (document 02, T-07): the plain version against vectors, and against every list of the units of small
+//! sites.
 
 mod streams;
 
@@ -30,8 +31,8 @@ fn lifting_vectors() {
     println!("{cases} cases");
 }
 
-/// Whether a list lifts every unit as the request asks: each once, unit 0 last, each pair kept, and after each lift, and before the
-/// first, every standing unit linked up with unit 0 through standing units.
+/// Whether a list lifts every unit as the request asks: each once, unit 0 last, each pair kept, and after each lift,
+/// and before the first, every standing unit linked up with unit 0 through standing units.
 fn lifts(units: u16, links: &[[u16; 2]], pairs: &[[u16; 2]], order: &[u16]) -> bool {
     let place = |unit: u16| order.iter().position(|&v| v == unit).unwrap();
     order.last() == Some(&0)
@@ -59,14 +60,16 @@ fn lists(units: u16) -> Vec<Vec<u16>> {
     for _ in 0..units {
         lists = lists
             .into_iter()
-            .flat_map(|list: Vec<u16>| (0..units).filter(|v| !list.contains(v)).map(|v| [&list[..], &[v]].concat()).collect::<Vec<_>>())
+            .flat_map(|list: Vec<u16>| {
+                (0..units).filter(|v| !list.contains(v)).map(|v| [&list[..], &[v]].concat()).collect::<Vec<_>>()
+            })
             .collect();
     }
     lists
 }
 
-/// All sites of up to five units, with pairs that chance picks: of all lists that lift as asked the order is the one that, read from
-/// unit 0 on, has the least unit wherever two differ; none exactly where there is none.
+/// All sites of up to five units, with pairs that chance picks: of all lists that lift as asked the order is the one
+/// that, read from unit 0 on, has the least unit wherever two differ; none exactly where there is none.
 #[test]
 fn all_lists_of_small_sites() {
     let random = &mut Random::new(7, 0);
@@ -77,8 +80,9 @@ fn all_lists_of_small_sites() {
         for set in 0..1u32 << all.len() {
             let links: Vec<[u16; 2]> = (0..all.len()).filter(|j| set >> j & 1 == 1).map(|j| all[j]).collect();
             for _ in 0..6 {
-                let pairs: Vec<[u16; 2]> =
-                    (0..random.below(5)).map(|_| std::array::from_fn(|_| random.below(usize::from(units)) as u16)).collect();
+                let pairs: Vec<[u16; 2]> = (0..random.below(5))
+                    .map(|_| std::array::from_fn(|_| random.below(usize::from(units)) as u16))
+                    .collect();
                 assert!(check_pairs(units, pairs.as_flattened()).is_ok());
                 let backwards = |list: &&Vec<u16>| list.iter().rev().copied().collect::<Vec<_>>();
                 let best = lists.iter().filter(|list| lifts(units, &links, &pairs, list)).min_by_key(backwards);
@@ -91,7 +95,8 @@ fn all_lists_of_small_sites() {
     println!("{asked} questions, {none} without an order");
 }
 
-/// 19 for 257 pairs, an odd number of words (513 too) or a word that is no unit; not for 256 pairs, nor for a pair twice.
+/// 19 for 257 pairs, an odd number of words (513 too) or a word that is no unit; not for 256 pairs, nor for a pair
+/// twice.
 #[test]
 fn pairs_judged() {
     let check = |units, pairs: &[u16]| check_pairs(units, pairs).map_err(|refusal| refusal.number());

@@ -1,4 +1,5 @@
-//! Live tables (document 02, T-09) as words: the plain version against vectors, and against load and a count of its own.
+//! Live tables (document 02, T-09) as words: the plain version against vectors, and against load and a count of its
+//! own.
 
 mod streams;
 
@@ -16,13 +17,18 @@ const COUNTS: usize = LEVELS + 1024;
 /// Unit count, words and levels.
 fn held(live: &LiveWords) -> (u16, Vec<u16>, Vec<i16>) {
     let links = usize::from(live[1]);
-    (live[0], live[ENDS..ENDS + 2 * links].to_vec(), live[LEVELS..LEVELS + links].iter().map(|&word| level_of_word(word)).collect())
+    (
+        live[0],
+        live[ENDS..ENDS + 2 * links].to_vec(),
+        live[LEVELS..LEVELS + links].iter().map(|&word| level_of_word(word)).collect(),
+    )
 }
 
 /// Past the links ends are absent and levels 0.
 fn rest_clean(live: &LiveWords) -> bool {
     let links = usize::from(live[1]);
-    live[ENDS + 2 * links..LEVELS].iter().all(|&end| end == ABSENT) && live[LEVELS + links..COUNTS].iter().all(|&level| level == 0)
+    live[ENDS + 2 * links..LEVELS].iter().all(|&end| end == ABSENT)
+        && live[LEVELS + links..COUNTS].iter().all(|&level| level == 0)
 }
 
 /// The table in hand after a step, and what is said of the step.
@@ -38,7 +44,8 @@ fn step(live: &mut LiveWords, numbers: &mut Numbers, said: &mut String, whole: b
         3 => live_withdraw(live, numbers.next(), numbers.next()),
         _ => {
             let (what, index): (usize, usize) = (numbers.next(), numbers.next());
-            live[[0, 1, ENDS, LEVELS, COUNTS][what] + index] = if what == 3 { word_of_level(numbers.next()) } else { numbers.next() };
+            live[[0, 1, ENDS, LEVELS, COUNTS][what] + index] =
+                if what == 3 { word_of_level(numbers.next()) } else { numbers.next() };
             return;
         }
     };
@@ -51,7 +58,11 @@ fn step(live: &mut LiveWords, numbers: &mut Numbers, said: &mut String, whole: b
         line([number])
     } else {
         let units = usize::from(live[0]);
-        line([number, u32::from(live[1])].into_iter().chain(live[COUNTS..COUNTS + units].iter().map(|&count| u32::from(count))))
+        line(
+            [number, u32::from(live[1])]
+                .into_iter()
+                .chain(live[COUNTS..COUNTS + units].iter().map(|&count| u32::from(count))),
+        )
     };
 }
 
@@ -72,8 +83,9 @@ fn live_vectors() {
     println!("{cases} cases");
 }
 
-/// Lists of changes: the table held passes load's checks, each stored number is the count, a refused change is one that load refuses
-/// with the same number or a link that is not there, and a withdrawn link is the one named, the others in their order.
+/// Lists of changes: the table held passes load's checks, each stored number is the count, a refused change is one that
+/// load refuses with the same number or a link that is not there, and a withdrawn link is the one named, the others in
+/// their order.
 #[test]
 fn lists_of_changes() {
     let (mut made, mut refused) = (0, 0);
@@ -89,7 +101,8 @@ fn lists_of_changes() {
             let number = if random.once_in(2) {
                 let level = if random.once_in(8) { random.word() as i16 } else { some_level(random) };
                 let (longer, heard) = ([&words[..], &[a, b]].concat(), [&levels[..], &[level]].concat());
-                let expected = check_table(units, &longer, &heard).map_or_else(|refusal| u32::from(refusal.number()), |()| 0);
+                let expected =
+                    check_table(units, &longer, &heard).map_or_else(|refusal| u32::from(refusal.number()), |()| 0);
                 let number = live_add(&mut live, a, b, level);
                 assert_eq!(number, expected, "case {case}");
                 if number == 0 {
@@ -112,14 +125,22 @@ fn lists_of_changes() {
                 if let (0, Some(at)) = (number, at) {
                     let mut levels = levels.clone();
                     levels.remove(at);
-                    assert_eq!(held(&live), (units, [&words[..2 * at], &words[2 * at + 2..]].concat(), levels), "case {case}");
+                    assert_eq!(
+                        held(&live),
+                        (units, [&words[..2 * at], &words[2 * at + 2..]].concat(), levels),
+                        "case {case}"
+                    );
                 }
                 number
             };
             let (units, words, levels) = held(&live);
             assert!(check_table(units, &words, &levels).is_ok() && rest_clean(&live), "case {case}");
             for v in 0..256 {
-                assert_eq!(usize::from(live[COUNTS + usize::from(v)]), words.iter().filter(|&&end| end == v).count(), "case {case}");
+                assert_eq!(
+                    usize::from(live[COUNTS + usize::from(v)]),
+                    words.iter().filter(|&&end| end == v).count(),
+                    "case {case}"
+                );
             }
             if number == 0 { made += 1 } else { refused += 1 }
         }

@@ -63,7 +63,8 @@ fn right(units: u16, table: &[u16]) -> (u16, usize) {
 fn all_small_tables() {
     let mut tables = 0;
     for units in 1..=4u16 {
-        let all: Vec<[u16; 2]> = (0..units).flat_map(|a| (0..units).filter(move |&b| b != a).map(move |b| [a, b])).collect();
+        let all: Vec<[u16; 2]> =
+            (0..units).flat_map(|a| (0..units).filter(move |&b| b != a).map(move |b| [a, b])).collect();
         for set in 0..1u32 << all.len() {
             right(units, &(0..all.len()).filter(|j| set >> j & 1 == 1).flat_map(|j| all[j]).collect::<Vec<_>>());
             tables += 1;
@@ -95,7 +96,8 @@ fn chains() {
 /// 9 is the same ordered pair twice; the numbers in their order.
 #[test]
 fn numbers_in_order() {
-    let number = |units, table: &[u16], places| one_way(units, table, &mut vec![0; places]).map_err(|refusal| refusal.number());
+    let number =
+        |units, table: &[u16], places| one_way(units, table, &mut vec![0; places]).map_err(|refusal| refusal.number());
     assert_eq!(number(2, &[0, 1, 1, 0], 2), Ok(1));
     assert_eq!(number(2, &[0, 1, 0, 1], 0), Err(9));
     assert_eq!(number(2, &[0, 1, 1, 0], 1), Err(14));

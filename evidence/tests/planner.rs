@@ -5,8 +5,8 @@ mod streams;
 use plain::{ABSENT, LOWEST_LEVEL, Refusal, Survey, write_file};
 use streams::{line, vectors};
 
-/// All three loads (1, with a plan 2, of a stored table 3) and writing (4): the number of a refusal, else 0 and the first countdown or the
-/// characters.
+/// All three loads (1, with a plan 2, of a stored table 3) and writing (4): the number of a refusal, else 0 and the
+/// first countdown or the characters.
 #[test]
 fn load_vectors() {
     let cases = vectors("loads").hold(|_, numbers, said| {
@@ -66,7 +66,8 @@ fn ancestor_and_descendant() {
 
 #[test]
 fn refused_plans() {
-    let number = |units, table: &[u16], parents: &[u16]| planned(units, table, parents).map(|_| ()).unwrap_err().number();
+    let number =
+        |units, table: &[u16], parents: &[u16]| planned(units, table, parents).map(|_| ()).unwrap_err().number();
     assert_eq!(number(2, &[0, 1], &[1]), 17);
     assert_eq!(number(2, &[0, 1, 1, 0], &[]), 9);
     for parents in [[1, ABSENT], [1, 0], [ABSENT, ABSENT], [ABSENT, 2]] {
@@ -77,8 +78,8 @@ fn refused_plans() {
     assert_eq!(number(3, &[0, 1], &[ABSENT, 0, 0]), 18);
 }
 
-/// Every table of up to five units in which each unit has a link, with every table of parents: those that no check refuses are its spanning
-/// forests rooted at the colour units, as many as those counted as sets of links.
+/// Every table of up to five units in which each unit has a link, with every table of parents: those that no check
+/// refuses are its spanning forests rooted at the colour units, as many as those counted as sets of links.
 #[test]
 fn all_forests_of_small_tables() {
     let mut pairs = 0;
@@ -109,7 +110,8 @@ fn all_forests_of_small_tables() {
     assert_eq!((pairs, spanning_forests()), (8199, 8199));
 }
 
-/// The same number, by the spanning trees of each group as sets of links: a set with as many links as units less groups, and no ring.
+/// The same number, by the spanning trees of each group as sets of links: a set with as many links as units less
+/// groups, and no ring.
 fn spanning_forests() -> u32 {
     let mut count = 0;
     for units in 1..=5usize {

@@ -1,5 +1,6 @@
-//! Show the ring (document 02, T-04) and doubtful links (T-08): the plain version against vectors, against all rings and all settings
-//! of small sites, and its two ways of deciding whether a ring exists against each other and against the survey's labels.
+//! Show the ring (document 02, T-04) and doubtful links (T-08): the plain version against vectors, against all rings
+//! and all settings of small sites, and its two ways of deciding whether a ring exists against each other and against
+//! the survey's labels.
 
 mod streams;
 
@@ -48,7 +49,11 @@ fn ring_vectors() {
     let cases = vectors("rings").hold(|_, numbers, said| {
         let (site, survey) = surveyed(numbers);
         let questions = numbers.next();
-        *said += &line((0..questions).map(|_| shown(&survey, &site, numbers.next(), numbers.next(), numbers.next())).collect::<Vec<_>>());
+        *said += &line(
+            (0..questions)
+                .map(|_| shown(&survey, &site, numbers.next(), numbers.next(), numbers.next()))
+                .collect::<Vec<_>>(),
+        );
     });
     println!("{cases} cases");
 }
@@ -68,7 +73,8 @@ fn doubtful_vectors() {
     println!("{cases} cases");
 }
 
-/// Every ring of a site: three or more different units, each linked to the next, the last to the first. As sets of positions.
+/// Every ring of a site: three or more different units, each linked to the next, the last to the first. As sets of
+/// positions.
 fn all_rings(units: u16, links: &[[u16; 2]]) -> Vec<u32> {
     let position = |a: u16, b: u16| links.iter().position(|&link| link == [a, b] || link == [b, a]);
     let mut rings = Vec::new();
@@ -79,7 +85,9 @@ fn all_rings(units: u16, links: &[[u16; 2]]) -> Vec<u32> {
             let pairs = way.iter().zip(way.iter().cycle().skip(1));
             rings.push(pairs.fold(0, |set, (&a, &b)| set | 1 << position(a, b).unwrap()));
         }
-        ways.extend((0..units).filter(|&w| !way.contains(&w) && joined(w).is_some()).map(|w| [&way[..], &[w]].concat()));
+        ways.extend(
+            (0..units).filter(|&w| !way.contains(&w) && joined(w).is_some()).map(|w| [&way[..], &[w]].concat()),
+        );
     }
     rings.sort();
     rings.dedup();
@@ -96,19 +104,26 @@ fn holds(ring: u32, first: usize, second: usize) -> bool {
     ring >> first & ring >> second & 1 == 1
 }
 
-/// All sites of up to five units, every two positions: a ring is shown and passes the judge exactly where one is among all rings.
+/// All sites of up to five units, every two positions: a ring is shown and passes the judge exactly where one is among
+/// all rings.
 #[test]
 fn all_small_rings() {
     let (mut asked, mut found) = (0, 0);
     for units in 1..=5 {
         for links in all_tables(units) {
             let rings = all_rings(units, &links);
-            for (first, second) in (0..links.len()).flat_map(|first| (0..links.len()).map(move |second| (first, second))) {
+            for (first, second) in
+                (0..links.len()).flat_map(|first| (0..links.len()).map(move |second| (first, second)))
+            {
                 let exists = rings.iter().any(|&ring| holds(ring, first, second));
                 let shown = ring_through(units, &links, first, second);
                 assert_eq!(shown.is_some(), exists, "{units} {links:?} {first} {second}");
                 if let Some(ring) = shown {
-                    assert_eq!(judge_ring(units, &links, first, second, &ring), Ok(()), "{units} {links:?} {first} {second} {ring:?}");
+                    assert_eq!(
+                        judge_ring(units, &links, first, second, &ring),
+                        Ok(()),
+                        "{units} {links:?} {first} {second} {ring:?}"
+                    );
                     found += 1;
                 }
                 asked += 1;
@@ -118,7 +133,8 @@ fn all_small_rings() {
     println!("{asked} questions, {found} rings");
 }
 
-/// All sites of up to four units with all marks, and five units with some: the verdict is what trying every setting tells.
+/// All sites of up to four units with all marks, and five units with some: the verdict is what trying every setting
+/// tells.
 #[test]
 fn all_settings_of_small_sites() {
     let random = &mut Random::new(8, 0);
@@ -126,12 +142,18 @@ fn all_settings_of_small_sites() {
     for units in 1..=5 {
         for links in all_tables(units) {
             let rings = all_rings(units, &links);
-            let sets: Vec<u32> =
-                if units < 5 { (0..1 << links.len()).collect() } else { (0..4).map(|_| random.below(1 << links.len()) as u32).collect() };
+            let sets: Vec<u32> = if units < 5 {
+                (0..1 << links.len()).collect()
+            } else {
+                (0..4).map(|_| random.below(1 << links.len()) as u32).collect()
+            };
             for doubtful in sets {
-                let marks: Vec<u8> =
-                    (0..links.len()).map(|j| if doubtful >> j & 1 == 1 { random.between(1, 255) as u8 } else { 0 }).collect();
-                for (first, second) in (0..links.len()).flat_map(|first| (first..links.len()).map(move |second| (first, second))) {
+                let marks: Vec<u8> = (0..links.len())
+                    .map(|j| if doubtful >> j & 1 == 1 { random.between(1, 255) as u8 } else { 0 })
+                    .collect();
+                for (first, second) in
+                    (0..links.len()).flat_map(|first| (first..links.len()).map(move |second| (first, second)))
+                {
                     let through: Vec<u32> = rings.iter().copied().filter(|&ring| holds(ring, first, second)).collect();
                     // a setting is the set of links that are missing, each a doubtful one
                     let mut settings = (0..1 << links.len()).filter(|missing| missing & !doubtful == 0);
@@ -144,7 +166,11 @@ fn all_settings_of_small_sites() {
                     } else {
                         Verdict::Never
                     };
-                    assert_eq!(verdict(units, &links, &marks, first, second), expected, "{units} {links:?} {marks:?} {first} {second}");
+                    assert_eq!(
+                        verdict(units, &links, &marks, first, second),
+                        expected,
+                        "{units} {links:?} {marks:?} {first} {second}"
+                    );
                     each[expected as usize] += 1;
                     asked += 1;
                 }
@@ -154,8 +180,9 @@ fn all_settings_of_small_sites() {
     println!("{asked} questions: never, perhaps, always {each:?}");
 }
 
-/// Large sites too: paths and blocks decide alike, with all links and with some; a ring that is shown passes the judge; and a finished
-/// survey's labels say the same: two links are on a ring where they share a label, one where it is not lone.
+/// Large sites too: paths and blocks decide alike, with all links and with some; a ring that is shown passes the judge;
+/// and a finished survey's labels say the same: two links are on a ring where they share a label, one where it is not
+/// lone.
 #[test]
 fn paths_blocks_and_labels() {
     let (mut asked, mut found) = (0, 0);
@@ -183,7 +210,8 @@ fn paths_blocks_and_labels() {
                 found += 1;
             }
             let place = |j: usize| kept[..j].iter().filter(|&&kept| kept).count();
-            let by_paths = kept[first] && kept[second] && ring_through(site.units, &some, place(first), place(second)).is_some();
+            let by_paths =
+                kept[first] && kept[second] && ring_through(site.units, &some, place(first), place(second)).is_some();
             assert_eq!(ringed(site.units, links, |j| kept[j], first, second), by_paths, "case {case}");
             asked += 1;
         }
@@ -210,13 +238,17 @@ fn judged() {
     assert!(judge(0, 3, &[0, 1, 2]).is_err_and(|why| why.contains("second")));
 }
 
-/// 10, 12, 13, 14 or 15 in their order, and a kept finished state that no load reaches: its labels and tree play no part.
+/// 10, 12, 13, 14 or 15 in their order, and a kept finished state that no load reaches: its labels and tree play no
+/// part.
 #[test]
 fn numbers_in_order() {
     let site = Site { units: 4, table: vec![0, 1, 1, 2, 0, 2, 2, 3], levels: vec![-127; 4] };
     let mut survey = loaded(&site);
     let (out, marks): (&mut [u16], &[u8]) = (&mut [MARK; 3], &[0; 3]);
-    assert_eq!((survey.ring(4, 0, out), survey.doubtful(4, 0, marks)), (Err(Refusal::NotFinished), Err(Refusal::NotFinished)));
+    assert_eq!(
+        (survey.ring(4, 0, out), survey.doubtful(4, 0, marks)),
+        (Err(Refusal::NotFinished), Err(Refusal::NotFinished))
+    );
     survey.stage = plain::FINISHED;
     for (first, second) in [(4, 0), (0, 4)] {
         assert_eq!(
@@ -224,7 +256,10 @@ fn numbers_in_order() {
             (Err(Refusal::NoSuchName), Err(Refusal::NoSuchName))
         );
     }
-    assert_eq!((survey.ring(3, 3, out), survey.doubtful(3, 3, marks)), (Err(Refusal::TooShort), Err(Refusal::LevelsDiffer)));
+    assert_eq!(
+        (survey.ring(3, 3, out), survey.doubtful(3, 3, marks)),
+        (Err(Refusal::TooShort), Err(Refusal::LevelsDiffer))
+    );
     assert_eq!((survey.ring(3, 3, &mut [0; 4]), survey.doubtful(3, 3, &[0; 4])), (Ok(0), Ok(Verdict::Never)));
     assert_eq!((survey.ring(0, 2, &mut [0; 4]), survey.doubtful(0, 2, &[0; 4])), (Ok(3), Ok(Verdict::Always)));
     assert_eq!(survey.doubtful(0, 2, &[0, 7, 0, 0]), Ok(Verdict::Perhaps));

@@ -1,5 +1,5 @@
-//! Seats (document 02, T-12): the plain version against the vectors of `check_seats`; and, with the feature `face`, a search for
-//! differences between it and the proved library, every word and the turn compared after each call.
+//! Seats (document 02, T-12): the plain version against the vectors of `check_seats`; and, with the feature `face`, a
+//! search for differences between it and the proved library, every word and the turn compared after each call.
 
 mod streams;
 
@@ -84,7 +84,11 @@ mod search {
                         }
                         let seat = if random.once_in(10) { random.word() } else { random.below(seats_used) as u16 };
                         let number = (PLAIN.load)(&mut ours, seat, site.units, &site.table, &site.levels);
-                        assert_eq!((proved.load)(&mut theirs, seat, site.units, &site.table, &site.levels), number, "case {case}");
+                        assert_eq!(
+                            (proved.load)(&mut theirs, seat, site.units, &site.table, &site.levels),
+                            number,
+                            "case {case}"
+                        );
                         number
                     }
                     4 if random.once_in(4) => {

@@ -1,5 +1,5 @@
-//! All small sites (document 02, T-13) and parts that add up (T-14): the plain version against the lines of `small_sites`, against
-//! vectors, and on sites of every shape, whichever tree was used.
+//! All small sites (document 02, T-13) and parts that add up (T-14): the plain version against the lines of
+//! `small_sites`, against vectors, and on sites of every shape, whichever tree was used.
 
 mod streams;
 
@@ -11,7 +11,8 @@ use std::fmt::Write;
 use std::path::Path;
 use streams::{line, vectors};
 
-/// Every set of links among one to five units as a stored table: the unit count, the number of the set and a bit for each single point.
+/// Every set of links among one to five units as a stored table: the unit count, the number of the set and a bit for
+/// each single point.
 #[test]
 fn all_small_sites() {
     let mut said = String::new();

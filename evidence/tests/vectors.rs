@@ -25,7 +25,8 @@ fn loaded(input: &[u8]) -> Survey {
     survey
 }
 
-/// A whole file with its lines of kind 02 turned into lines of kind 03 with the lowest level: their sums are by 82 greater.
+/// A whole file with its lines of kind 02 turned into lines of kind 03 with the lowest level: their sums are by 82
+/// greater.
 fn with_levels(file: &[u8]) -> Vec<u8> {
     let lines = std::str::from_utf8(file).unwrap().lines().map(|line| match line.strip_prefix("02") {
         Some(rest) => {
@@ -59,7 +60,8 @@ fn reports_of_files() {
     }
 }
 
-/// Each file read, checked and written back: the number of its refusal, or every byte the same but for the kind of its links.
+/// Each file read, checked and written back: the number of its refusal, or every byte the same but for the kind of its
+/// links.
 #[test]
 fn files_read_and_written() {
     let lines = text(&crates().join("check_files/stdout"));
@@ -129,15 +131,15 @@ fn traces() {
     });
 }
 
-/// Every table after the load and after each round: of survey files, which begin with 0, and of streams, with levels (document 02, T-02)
-/// and with a tree drawn by the planner (T-05).
+/// Every table after the load and after each round: of survey files, which begin with 0, and of streams, with levels
+/// (document 02, T-02) and with a tree drawn by the planner (T-05).
 #[test]
 fn tables() {
     each_round("check_tables", |text| if text.starts_with(b"0") { loaded(text) } else { streamed(text) }, say_tables);
 }
 
-/// A stream of numbers: the unit count, the list of words, the list of levels, and with a plan the list of parents; a list is its length
-/// and its numbers.
+/// A stream of numbers: the unit count, the list of words, the list of levels, and with a plan the list of parents; a
+/// list is its length and its numbers.
 fn streamed(input: &[u8]) -> Survey {
     let mut numbers = std::str::from_utf8(input).unwrap().split_whitespace().map(|word| word.parse::<i32>().unwrap());
     let units = numbers.next().unwrap() as u16;
@@ -164,7 +166,12 @@ fn word(x: u16) -> String {
 fn say_tables(s: &Survey, said: &mut String) {
     let (n, m) = (usize::from(s.units), usize::from(s.links));
     let status = s.status().unwrap();
-    writeln!(said, "round {} stage {} countdown {} requests {}", status.rounds, status.stage, status.countdown, status.requests).unwrap();
+    writeln!(
+        said,
+        "round {} stage {} countdown {} requests {}",
+        status.rounds, status.stage, status.countdown, status.requests
+    )
+    .unwrap();
     for (name, entries) in [
         ("color", &s.color[..n]),
         ("parent", &s.parent[..n]),

@@ -1,5 +1,5 @@
-//! The proved library against the plain version, call by call: `fuzz [SEED [COUNT [FIRST]]]`. A case depends on the seed and on its
-//! number alone, so `fuzz SEED 1 NUMBER` makes one again.
+//! The proved library against the plain version, call by call: `fuzz [SEED [COUNT [FIRST]]]`. A case depends on the
+//! seed and on its number alone, so `fuzz SEED 1 NUMBER` makes one again.
 
 use plain::face::PROVED;
 use plain::search::Search;

@@ -66,7 +66,9 @@ pub fn both(library: &Calls, state: &mut Lent<u16>, call: &Call) -> Result<Came,
     let mut word = None;
     let number = match call {
         Call::Load { units, table, levels } => loaded(state, [library.load, PLAIN.load], *units, table, levels),
-        Call::LoadStored { units, table, levels } => loaded(state, [library.load_stored, PLAIN.load_stored], *units, table, levels),
+        Call::LoadStored { units, table, levels } => {
+            loaded(state, [library.load_stored, PLAIN.load_stored], *units, table, levels)
+        }
         Call::LoadPlanned { units, table, levels, parents } => planned(library, state, *units, table, levels, parents),
         Call::Round => agree((library.round)(state.proved_array()), (PLAIN.round)(state.plain_array())),
         Call::Run { budget, made } => replied(&[*made], |lent| {
@@ -121,7 +123,8 @@ pub fn both(library: &Calls, state: &mut Lent<u16>, call: &Call) -> Result<Came,
         Call::Doubtful { first, second, marks, verdict } => {
             let mut marks = Lent::new(marks, BYTE_MARGIN);
             replied(&[*verdict], |lent| {
-                let proved = (library.doubtful)(state.proved_array(), *first, *second, marks.proved(), &mut lent.proved()[0]);
+                let proved =
+                    (library.doubtful)(state.proved_array(), *first, *second, marks.proved(), &mut lent.proved()[0]);
                 let plain = (PLAIN.doubtful)(state.plain_array(), *first, *second, marks.plain(), &mut lent.plain()[0]);
                 word = Some(lent.plain()[0]);
                 (proved, plain)
@@ -134,7 +137,13 @@ pub fn both(library: &Calls, state: &mut Lent<u16>, call: &Call) -> Result<Came,
 }
 
 /// A ring is the library's choice, and so is judged; whether there is one is not.
-fn shown(library: &Calls, state: &mut Lent<u16>, [first, second]: [u16; 2], out: &[u16], count: u16) -> Result<Came, String> {
+fn shown(
+    library: &Calls,
+    state: &mut Lent<u16>,
+    [first, second]: [u16; 2],
+    out: &[u16],
+    count: u16,
+) -> Result<Came, String> {
     let mut lent = Lent::new(out, WORD_MARGIN);
     let mut counted = Lent::new(&[count], WORD_MARGIN);
     let proved = (library.ring)(state.proved_array(), first, second, lent.proved(), &mut counted.proved()[0]);
@@ -144,8 +153,10 @@ fn shown(library: &Calls, state: &mut Lent<u16>, [first, second]: [u16; 2], out:
     if number == 0 && ours != 0 {
         let written = usize::from(theirs);
         let site = Survey::from_words(state.plain_array());
-        let ring = lent.proved().get(..written).ok_or(format!("count: proved {theirs}, more than there is room for"))?;
-        judge_ring(site.units, site.pairs(), first.into(), second.into(), ring).map_err(|why| format!("ring {ring:?}: {why}"))?;
+        let ring =
+            lent.proved().get(..written).ok_or(format!("count: proved {theirs}, more than there is room for"))?;
+        judge_ring(site.units, site.pairs(), first.into(), second.into(), ring)
+            .map_err(|why| format!("ring {ring:?}: {why}"))?;
         lent.choose(written);
         counted.choose(1);
     }
@@ -155,7 +166,13 @@ fn shown(library: &Calls, state: &mut Lent<u16>, [first, second]: [u16; 2], out:
 }
 
 /// A load by both sides.
-fn loaded(state: &mut Lent<u16>, [proved, plain]: [LoadCall; 2], units: u16, table: &[u16], levels: &[i16]) -> Result<u32, String> {
+fn loaded(
+    state: &mut Lent<u16>,
+    [proved, plain]: [LoadCall; 2],
+    units: u16,
+    table: &[u16],
+    levels: &[i16],
+) -> Result<u32, String> {
     let mut table = Lent::new(table, WORD_MARGIN);
     let mut levels = Lent::new(levels, LEVEL_MARGIN);
     let proved = proved(state.proved_array(), units, table.proved(), levels.proved());
@@ -167,7 +184,14 @@ fn loaded(state: &mut Lent<u16>, [proved, plain]: [LoadCall; 2], units: u16, tab
 }
 
 /// A load with a plan by both sides.
-fn planned(library: &Calls, state: &mut Lent<u16>, units: u16, table: &[u16], levels: &[i16], parents: &[u16]) -> Result<u32, String> {
+fn planned(
+    library: &Calls,
+    state: &mut Lent<u16>,
+    units: u16,
+    table: &[u16],
+    levels: &[i16],
+    parents: &[u16],
+) -> Result<u32, String> {
     let mut table = Lent::new(table, WORD_MARGIN);
     let mut levels = Lent::new(levels, LEVEL_MARGIN);
     let mut parents = Lent::new(parents, WORD_MARGIN);
@@ -210,16 +234,25 @@ pub fn both_report(library: &Calls, input: &[u8], out: &[u8]) -> Result<(u32, Ve
     Ok((written, out.plain().to_vec()))
 }
 
-/// Reads a file into the words lent for its ends and the places for its levels, and into one word each for the unit count and the
-/// number of links.
-pub fn both_read(library: &Calls, input: &[u8], table: &[u16], levels: &[i16], units: u16, links: u16) -> Result<u32, String> {
+/// Reads a file into the words lent for its ends and the places for its levels, and into one word each for the unit
+/// count and the number of links.
+pub fn both_read(
+    library: &Calls,
+    input: &[u8],
+    table: &[u16],
+    levels: &[i16],
+    units: u16,
+    links: u16,
+) -> Result<u32, String> {
     let mut input = Lent::new(input, BYTE_MARGIN);
     let mut table = Lent::new(table, WORD_MARGIN);
     let mut levels = Lent::new(levels, LEVEL_MARGIN);
     let mut units = Lent::new(&[units], WORD_MARGIN);
     let mut links = Lent::new(&[links], WORD_MARGIN);
-    let proved = (library.read)(input.proved(), table.proved(), levels.proved(), &mut units.proved()[0], &mut links.proved()[0]);
-    let plain = (PLAIN.read)(input.plain(), table.plain(), levels.plain(), &mut units.plain()[0], &mut links.plain()[0]);
+    let proved =
+        (library.read)(input.proved(), table.proved(), levels.proved(), &mut units.proved()[0], &mut links.proved()[0]);
+    let plain =
+        (PLAIN.read)(input.plain(), table.plain(), levels.plain(), &mut units.plain()[0], &mut links.plain()[0]);
     let number = agree(proved, plain)?;
     input.difference("input")?;
     table.difference("table")?;
@@ -245,7 +278,8 @@ pub fn both_write(library: &Calls, units: u16, table: &[u16], levels: &[i16], ou
 
 /// Names the table of a state's word.
 fn named(difference: &str) -> String {
-    let at: Option<usize> = difference.strip_prefix("state[").and_then(|rest| rest.split(']').next()).and_then(|at| at.parse().ok());
+    let at: Option<usize> =
+        difference.strip_prefix("state[").and_then(|rest| rest.split(']').next()).and_then(|at| at.parse().ok());
     let survey = Survey::new();
     let mut first = 0;
     for (name, _, part) in survey.parts() {

@@ -123,7 +123,9 @@ impl Search {
         match (call, number, word) {
             (Call::Round | Call::Run { .. }, 0, _) => self.tally.stage(state.before()[STAGE]),
             (Call::Ring { .. }, 0, Some(units)) => self.tally.reply(if units == 0 { "no ring" } else { "ring" }),
-            (Call::Doubtful { .. }, 0, Some(verdict)) => self.tally.reply(["never", "perhaps", "always"][usize::from(verdict)]),
+            (Call::Doubtful { .. }, 0, Some(verdict)) => {
+                self.tally.reply(["never", "perhaps", "always"][usize::from(verdict)])
+            }
             _ => {}
         }
         state.go_on();
@@ -151,8 +153,9 @@ impl Search {
         let needed = report_of_file(&input, &mut [0; MOST]);
         let length = some_length(random, needed);
         let out = bytes(random, length);
-        let (written, printed) = both_report(&self.library, &input, &out)
-            .map_err(|difference| found(&format!("report, out {out:?}"), &input.escape_ascii().to_string(), &difference))?;
+        let (written, printed) = both_report(&self.library, &input, &out).map_err(|difference| {
+            found(&format!("report, out {out:?}"), &input.escape_ascii().to_string(), &difference)
+        })?;
         let printed = &printed[..written as usize];
         match printed {
             [] => self.tally.number("report", 14),

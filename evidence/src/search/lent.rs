@@ -63,7 +63,8 @@ impl<T: Copy + PartialEq + Debug> Lent<T> {
         Err(format!("{name}[{}]: proved {:?}, plain {:?}", at as isize - *MARGIN as isize, proved[at], plain[at]))
     }
 
-    /// Where the choice is the library's: what it wrote at the front, so far, is taken for what the plain version wrote, and nothing else.
+    /// Where the choice is the library's: what it wrote at the front, so far, is taken for what the plain version
+    /// wrote, and nothing else.
     pub fn choose(&mut self, written: usize) {
         self.plain.copy_from_slice(&self.before);
         self.plain[*MARGIN..][..written].copy_from_slice(&self.proved[*MARGIN..][..written]);

@@ -1,5 +1,5 @@
-//! The search for differences: calls of a library, by its C face or behind the same calls, made beside the plain version's, and all
-//! that they leave compared. A case depends on its seed and its number alone.
+//! The search for differences: calls of a library, by its C face or behind the same calls, made beside the plain
+//! version's, and all that they leave compared. A case depends on its seed and its number alone.
 
 mod calls;
 mod cases;

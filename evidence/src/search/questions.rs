@@ -1,4 +1,5 @@
-//! Calls that ask a state about rings, lifting orders and doubtful links, with numbers that fit the state's counts, whatever these are.
+//! Calls that ask a state about rings, lifting orders and doubtful links, with numbers that fit the state's counts,
+//! whatever these are.
 
 use super::calls::Call;
 use super::cases::{number, some_length, words};
@@ -15,7 +16,8 @@ pub fn any_question(random: &mut Random, state: &[u16]) -> Call {
 
 /// Two positions that exist, mostly; at times the same twice.
 fn positions(random: &mut Random, links: u16) -> (u16, u16) {
-    let mut one = || if random.once_in(16) { number(random, links) } else { random.below(usize::from(links).max(1)) as u16 };
+    let mut one =
+        || if random.once_in(16) { number(random, links) } else { random.below(usize::from(links).max(1)) as u16 };
     let (first, second) = (one(), one());
     if random.once_in(6) { (first, first) } else { (first, second) }
 }

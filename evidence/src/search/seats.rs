@@ -61,7 +61,8 @@ impl Search {
         let seat = if random.once_in(8) { random.word() } else { random.below(SEATS + 1) as u16 };
         let mut table = Lent::new(&site.table, WORD_MARGIN);
         let mut levels = Lent::new(&site.levels, LEVEL_MARGIN);
-        let proved = (self.library.seats.load)(seats_of(seats.proved()), seat, site.units, table.proved(), levels.proved());
+        let proved =
+            (self.library.seats.load)(seats_of(seats.proved()), seat, site.units, table.proved(), levels.proved());
         let plain = (PLAIN.seats.load)(seats_of(seats.plain()), seat, site.units, table.plain(), levels.plain());
         let all = agree(proved, plain).and_then(|number| {
             table.difference("table")?;
@@ -69,7 +70,8 @@ impl Search {
             seats.difference("seats")?;
             Ok(number)
         });
-        let number = all.map_err(|difference| found(&format!("load of seat {seat}"), &format!("{site:?}"), &difference))?;
+        let number =
+            all.map_err(|difference| found(&format!("load of seat {seat}"), &format!("{site:?}"), &difference))?;
         self.tally.number("seat_load", number);
         seats.go_on();
         Ok(())

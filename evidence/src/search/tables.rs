@@ -60,7 +60,11 @@ fn changed(library: &Calls, live: &mut Lent<u16>, change: &Change) -> Result<u32
 
 /// A unit, or a number near the last one.
 fn unit(random: &mut Random, units: u16) -> u16 {
-    if random.once_in(10) { odd_word(random, units, units) } else { random.below(usize::from(units).clamp(1, MAX_UNITS)) as u16 }
+    if random.once_in(10) {
+        odd_word(random, units, units)
+    } else {
+        random.below(usize::from(units).clamp(1, MAX_UNITS)) as u16
+    }
 }
 
 fn any_change(random: &mut Random, live: &[u16]) -> Change {
@@ -91,7 +95,8 @@ fn given_site(random: &mut Random) -> Site {
     site
 }
 
-/// A word changed by hand: a count of the table, an end, a level, a stored number, those past the links and units among them.
+/// A word changed by hand: a count of the table, an end, a level, a stored number, those past the links and units among
+/// them.
 fn spoil_live(random: &mut Random, live: &mut Lent<u16>) {
     let (units, links) = (live.before()[0], live.before()[1]);
     let (n, m) = (usize::from(units).clamp(1, MAX_UNITS), usize::from(links).clamp(1, MAX_LINKS));
@@ -137,8 +142,9 @@ impl Search {
             passes.difference("passes")?;
             Ok(number)
         });
-        let number = all
-            .map_err(|difference| found(&format!("one-way links, {} words", numbers.before().len()), &format!("{site:?}"), &difference))?;
+        let number = all.map_err(|difference| {
+            found(&format!("one-way links, {} words", numbers.before().len()), &format!("{site:?}"), &difference)
+        })?;
         self.tally.number("one_way", number);
         if number == 0 {
             self.tally.reply(match passes.plain()[0] {
@@ -176,8 +182,9 @@ impl Search {
                 spoil_live(random, &mut live);
             }
             let change = any_change(random, live.before());
-            let number = changed(&self.library, &mut live, &change)
-                .map_err(|difference| found(&format!("{change:?}"), &format!("live table {:?}", live.before()), &difference))?;
+            let number = changed(&self.library, &mut live, &change).map_err(|difference| {
+                found(&format!("{change:?}"), &format!("live table {:?}", live.before()), &difference)
+            })?;
             self.tally.number(change.name(), number);
             live.go_on();
         }

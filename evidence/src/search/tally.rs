@@ -2,7 +2,8 @@
 
 use std::collections::BTreeMap;
 
-/// Each call of the header, without its `link_survey_`, with the numbers of its refusals. 14 of a report of a file stands for no room.
+/// Each call of the header, without its `link_survey_`, with the numbers of its refusals. 14 of a report of a file
+/// stands for no room.
 pub const REFUSALS: [(&str, &[u32]); 23] = [
     ("report", &[1, 2, 3, 6, 16, 4, 7, 8, 9, 14]),
     ("read", &[1, 2, 3, 6, 16, 14]),
@@ -93,7 +94,8 @@ impl Tally {
         println!();
         let stages: Vec<String> = self.stages.iter().map(|(stage, count)| format!("  {stage} × {count}")).collect();
         println!("rounds and runs by the stage that they began in:{}", stages.concat());
-        let numbers: Vec<String> = (1..=LAST_NUMBER).map(|number| format!("  {number} × {}", self.times(number))).collect();
+        let numbers: Vec<String> =
+            (1..=LAST_NUMBER).map(|number| format!("  {number} × {}", self.times(number))).collect();
         println!("refusals of all calls:{}", numbers.concat());
         let calls: u64 = self.numbers.values().sum();
         println!("{calls} calls, no difference");

@@ -17,8 +17,8 @@ fn naming_unit(parent: &[u16; 256], pre: &[u16; 256], [a, b]: [u16; 2]) -> u16 {
 }
 
 impl Survey {
-    /// Stage 8: a link off the tree joins its ends where neither is the other's ancestor (T-05), and a unit its parent where
-    /// case 3 says so.
+    /// Stage 8: a link off the tree joins its ends where neither is the other's ancestor (T-05), and a unit its parent
+    /// where case 3 says so.
     pub(super) fn aux_edges_round(&mut self) -> bool {
         for j in 0..usize::from(self.links) {
             let [a, b] = self.ends[j];

@@ -1,4 +1,5 @@
-//! The ten stages. Each round reads the values that the round before left, and says whether its stage's own rule ends it.
+//! The ten stages. Each round reads the values that the round before left, and says whether its stage's own rule ends
+//! it.
 
 mod blocks;
 mod components;

@@ -4,7 +4,8 @@ use super::off_tree;
 use crate::{ABSENT, MAX_NUMBER, Survey, lg};
 
 impl Survey {
-    /// The first round: the local values of each place begin the segments, and those of its last descendant's place begin each unit.
+    /// The first round: the local values of each place begin the segments, and those of its last descendant's place
+    /// begin each unit.
     pub(super) fn range_first(&mut self) -> bool {
         let n = self.n();
         let (low, high) = self.local();

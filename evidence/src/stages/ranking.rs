@@ -48,7 +48,11 @@ impl Survey {
         for v in 0..self.n() {
             let (into, out) = (2 * v, 2 * v + 1);
             let root = self.parent[v] == ABSENT;
-            self.nd[v] = if root { sizes[bucket(self.color[v])] } else { (self.sum[out] + 1).saturating_sub(self.sum[into]) / 2 };
+            self.nd[v] = if root {
+                sizes[bucket(self.color[v])]
+            } else {
+                (self.sum[out] + 1).saturating_sub(self.sum[into]) / 2
+            };
             for a in [into, out] {
                 self.sum[a] = u16::from(!root && self.forward[a] != 0);
                 self.jump[a] = self.pred[a];

@@ -1,4 +1,5 @@
-//! Stage 3, tour: each tree's list of arcs, 2v into v from its parent and 2v + 1 out of v. The tree is what the parents say (W1, W3).
+//! Stage 3, tour: each tree's list of arcs, 2v into v from its parent and 2v + 1 out of v. The tree is what the parents
+//! say (W1, W3).
 
 use crate::survey::ARCS;
 use crate::{ABSENT, Survey};
@@ -71,7 +72,8 @@ impl Survey {
         }
     }
 
-    /// Round two: each arc's predecessor, the least arc that it follows; absent at the start of a list. Sets up the first ranking.
+    /// Round two: each arc's predecessor, the least arc that it follows; absent at the start of a list. Sets up the
+    /// first ranking.
     pub(super) fn pred_round(&mut self) -> bool {
         let n = self.n();
         let children = Children::of(&self.parent[..n]);

@@ -14,7 +14,8 @@ impl Survey {
         !visited
     }
 
-    /// The planner's tree (T-05): a distance is the steps up to the unit that the colour names, absent where the chain never gets there.
+    /// The planner's tree (T-05): a distance is the steps up to the unit that the colour names, absent where the chain
+    /// never gets there.
     fn take_over(&mut self) {
         for v in 0..self.n() {
             self.parent[v] = self.plan[v];
@@ -48,7 +49,8 @@ impl Survey {
         visited
     }
 
-    /// An unvisited unit takes, of its neighbours that the round before visited (W2), the one with the highest level, ties to the least number.
+    /// An unvisited unit takes, of its neighbours that the round before visited (W2), the one with the highest level,
+    /// ties to the least number.
     fn visit_neighbours(&mut self) -> bool {
         let before = self.made - 1;
         let mut chosen = [(Reverse(i16::MIN), ABSENT); 256];

@@ -1,5 +1,6 @@
-//! The stages said slowly: each table after a round is a rule for each entry, over numbers without bounds and reads that give 0
-//! where there is nothing. A rule here is a sentence of document 01 or a row of docs/DECISIONS.md, with no thought for speed.
+//! The stages said slowly: each table after a round is a rule for each entry, over numbers without bounds and reads
+//! that give 0 where there is nothing. A rule here is a sentence of document 01 or a row of docs/DECISIONS.md, with no
+//! thought for speed.
 
 use plain::{ABSENT, FINISHED, Survey, ceiling, level_of_word, lg};
 
@@ -81,7 +82,8 @@ impl Rules<'_> {
         })
     }
 
-    /// Document 02, T-02: of the neighbours visited in the round before, the one with the highest level, ties to the least number.
+    /// Document 02, T-02: of the neighbours visited in the round before, the one with the highest level, ties to the
+    /// least number.
     fn chosen_parent(&self, v: u32) -> u32 {
         let before = |w| at(&self.s.dist, w) == self.made - 1;
         let neighbour = |j| match self.ends(j) {
@@ -95,7 +97,11 @@ impl Rules<'_> {
     }
 
     fn visits(&self, v: u32) -> bool {
-        if self.made == 0 { at(&self.s.color, v) == v } else { at(&self.s.dist, v) == NONE && self.chosen_parent(v) != NONE }
+        if self.made == 0 {
+            at(&self.s.color, v) == v
+        } else {
+            at(&self.s.dist, v) == NONE && self.chosen_parent(v) != NONE
+        }
     }
 
     /// Document 02, T-05: a tree drawn by the planner is given.
@@ -162,7 +168,8 @@ impl Rules<'_> {
 
     fn predecessor(&self, a: u32) -> u32 {
         let (v, p) = (a / 2, at(&self.s.parent, a / 2));
-        let is_start = || a.is_multiple_of(2) && is_root(&self.s.parent, p) && self.tree_neighbours(p).first() == Some(&v);
+        let is_start =
+            || a.is_multiple_of(2) && is_root(&self.s.parent, p) && self.tree_neighbours(p).first() == Some(&v);
         if !self.is_arc(a) || is_start() {
             return NONE;
         }

@@ -6,8 +6,8 @@
 use plain::sites::Site;
 use std::path::{Path, PathBuf};
 
-/// A family of vectors: the streams of `crates/check_FAMILY` and what that program prints; or, where SURVEY_REQUESTS names a folder,
-/// the files FAMILY/NAME.in there and, beside each, NAME.out.
+/// A family of vectors: the streams of `crates/check_FAMILY` and what that program prints; or, where SURVEY_REQUESTS
+/// names a folder, the files FAMILY/NAME.in there and, beside each, NAME.out.
 pub struct Vectors {
     pub streams: Vec<(String, Numbers)>,
     pub expected: String,
@@ -22,8 +22,10 @@ pub fn vectors(family: &str) -> Vectors {
         Some(folder) => {
             let folder = PathBuf::from(folder).join(family);
             let entries = std::fs::read_dir(&folder).unwrap_or_else(|e| panic!("{}: {e}", folder.display()));
-            let mut inputs: Vec<PathBuf> =
-                entries.map(|entry| entry.unwrap().path()).filter(|path| path.extension().is_some_and(|e| e == "in")).collect();
+            let mut inputs: Vec<PathBuf> = entries
+                .map(|entry| entry.unwrap().path())
+                .filter(|path| path.extension().is_some_and(|e| e == "in"))
+                .collect();
             inputs.sort();
             let expected = inputs.iter().map(|path| text(&path.with_extension("out"))).collect();
             (inputs, expected)
@@ -41,7 +43,8 @@ pub fn vectors(family: &str) -> Vectors {
 }
 
 impl Vectors {
-    /// The lines of all cases, each said by a function of the stream's name, are those expected. Returns the number of cases.
+    /// The lines of all cases, each said by a function of the stream's name, are those expected. Returns the number of
+    /// cases.
     pub fn hold(self, mut say: impl FnMut(&str, &mut Numbers, &mut String)) -> usize {
         let (mut said, mut cases) = (String::new(), 0);
         for (name, mut numbers) in self.streams {

@@ -1,4 +1,5 @@
-//! What a question costs beside a survey: a ring, a lifting order, doubtful links, one-way links, on sites as large as may be.
+//! What a question costs beside a survey: a ring, a lifting order, doubtful links, one-way links, on sites as large as
+//! may be.
 
 use crate::work::{LARGEST, site};
 use plain::face::PROVED;
@@ -17,8 +18,12 @@ pub enum Asked {
     OneWay,
 }
 
-pub const ASKED: [(&str, Asked); 4] =
-    [("ring", Asked::Ring), ("lifting", Asked::LiftingOrder), ("doubtful", Asked::Doubtful), ("one-way", Asked::OneWay)];
+pub const ASKED: [(&str, Asked); 4] = [
+    ("ring", Asked::Ring),
+    ("lifting", Asked::LiftingOrder),
+    ("doubtful", Asked::Doubtful),
+    ("one-way", Asked::OneWay),
+];
 
 /// A site with what is asked of it, and the memory for it.
 pub struct Question {
@@ -48,7 +53,17 @@ impl Question {
         survey.run(u16::MAX).expect("a loaded survey runs");
         let out = vec![0; usize::from(site.units)];
         let report = vec![0; report_length(site.units.into(), site.links())];
-        Question { site, first, second, pairs, marks, state: survey.to_words(), out, surveyed: survey.to_words(), report }
+        Question {
+            site,
+            first,
+            second,
+            pairs,
+            marks,
+            state: survey.to_words(),
+            out,
+            surveyed: survey.to_words(),
+            report,
+        }
     }
 
     /// By name: a shape of 256 units, `strip`, or `drawn:` and a number that fixes it.
@@ -128,7 +143,9 @@ fn drawn(number: u64) -> Question {
         site = strip(n, 4);
     }
     let last = site.links() - 1;
-    let position = |random: &mut Random| if random.once_in(2) { random.pick(&[0, last]) as u16 } else { random.below(last + 1) as u16 };
+    let position = |random: &mut Random| {
+        if random.once_in(2) { random.pick(&[0, last]) as u16 } else { random.below(last + 1) as u16 }
+    };
     let (first, second) = (position(random), position(random));
     let often = random.pick(&[3, 30, 3000]);
     let mut marks: Vec<u8> = (0..=last).map(|_| u8::from(random.once_in(often))).collect();
@@ -179,10 +196,21 @@ fn best(times: usize, mut call: impl FnMut()) -> f64 {
 /// The sites on which each call takes longest: of the shapes, and of so many drawn ones.
 pub fn worst(count: u64) {
     println!("Microseconds, the best of some calls: of the question, and of a survey of the same table on lent words.");
-    println!("The three sites on which each question takes longest, of {count} drawn ones and {} shapes.\n", LARGEST.len() + 1);
-    println!("{:10}{:>12}{:>7}{:>7}{:>11}{:>11}{:>8}", "question", "site", "units", "links", "question", "survey", "ratio");
-    let names =
-        || LARGEST.iter().map(|shape| shape.to_string()).chain(["strip".into()]).chain((0..count).map(|number| format!("drawn:{number}")));
+    println!(
+        "The three sites on which each question takes longest, of {count} drawn ones and {} shapes.\n",
+        LARGEST.len() + 1
+    );
+    println!(
+        "{:10}{:>12}{:>7}{:>7}{:>11}{:>11}{:>8}",
+        "question", "site", "units", "links", "question", "survey", "ratio"
+    );
+    let names = || {
+        LARGEST
+            .iter()
+            .map(|shape| shape.to_string())
+            .chain(["strip".into()])
+            .chain((0..count).map(|number| format!("drawn:{number}")))
+    };
     for (name, asked) in ASKED {
         let time = |site: &str, times: usize| {
             let mut question = Question::named(site).expect("a site");
@@ -191,7 +219,8 @@ pub fn worst(count: u64) {
         // a short look at all, a long one at those that seemed to take longest
         let mut found: Vec<(f64, String)> = names().map(|site| (time(&site, 5), site)).collect();
         found.sort_by(|a, b| b.0.total_cmp(&a.0));
-        let mut found: Vec<(f64, String)> = found.into_iter().take(40).map(|(_, site)| (time(&site, 200), site)).collect();
+        let mut found: Vec<(f64, String)> =
+            found.into_iter().take(40).map(|(_, site)| (time(&site, 200), site)).collect();
         found.sort_by(|a, b| b.0.total_cmp(&a.0));
         for (asking, site) in found.into_iter().take(3) {
             let mut question = Question::named(&site).expect("a site");

@@ -2,11 +2,13 @@
 //!
 //!     bench                            times and their growth
 //!     bench stack                      the deepest stack of each call
-//!     bench worst [COUNT]              questions (a ring, a lifting order, doubtful links, one-way links) on the sites on which they take
-//!                                      longest, of the shapes and of COUNT drawn ones, beside a survey
-//!     bench one SIDE WORK SITE TIMES   one side alone, for a count of instructions: proved, plain or plain-words; words or bytes;
-//!                                      path, ring, full, star or ladder of 256 units, or full:64 and its like; or proved or plain;
-//!                                      ring, lifting, doubtful, one-way or survey; one of these sites, strip, or drawn:NUMBER
+//!     bench worst [COUNT]              questions (a ring, a lifting order, doubtful links, one-way links) on the
+//!                                      sites on which they take longest, of the shapes and of COUNT drawn ones,
+//!                                      beside a survey
+//!     bench one SIDE WORK SITE TIMES   one side alone, for a count of instructions: proved, plain or plain-words;
+//!                                      words or bytes; path, ring, full, star or ladder of 256 units, or full:64
+//!                                      and its like; or proved or plain; ring, lifting, doubtful, one-way or survey;
+//!                                      one of these sites, strip, or drawn:NUMBER
 
 mod asked;
 mod stack;
@@ -54,10 +56,12 @@ fn main() -> ExitCode {
         ["one", ref rest @ ..] if one(rest).is_some() => {}
         _ => {
             eprintln!(
-                "usage: bench | bench stack | bench worst [COUNT] | bench one proved|plain|plain-words words|bytes path|ring|full|star|ladder[:UNITS] TIMES"
+                "usage: bench | bench stack | bench worst [COUNT] | bench one proved|plain|plain-words words|bytes \
+                 path|ring|full|star|ladder[:UNITS] TIMES"
             );
             eprintln!(
-                "       bench one proved|plain ring|lifting|doubtful|one-way|survey path|ring|full|star|ladder|strip|drawn:NUMBER TIMES"
+                "       bench one proved|plain ring|lifting|doubtful|one-way|survey \
+                 path|ring|full|star|ladder|strip|drawn:NUMBER TIMES"
             );
             return ExitCode::from(2);
         }

@@ -1,4 +1,5 @@
-//! The deepest stack of each call of the C face: the call is made on a painted stack of its own, and then the paint is looked at.
+//! The deepest stack of each call of the C face: the call is made on a painted stack of its own, and then the paint is
+//! looked at.
 
 use crate::asked::{pairs, positions};
 use crate::work::{LARGEST, site};
@@ -203,7 +204,10 @@ fn depths(meter: &mut Meter, calls: &Calls, site: &Site) -> [usize; CALLS.len()]
 }
 
 pub fn print() {
-    println!("Deepest stack in bytes, to the next 16, over the largest sites and, for a round and a tick, over all their rounds.\n");
+    println!(
+        "Deepest stack in bytes, to the next 16, over the largest sites and, for a round and a tick, over all \
+         their rounds.\n"
+    );
     println!("{:14}{:>10}{:>20}", "call", "proved", "plain on words");
     let mut meter = Meter::new();
     let mut most = [[0; CALLS.len()]; 2];

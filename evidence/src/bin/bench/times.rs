@@ -74,15 +74,25 @@ fn compare(bench: &mut Bench, plain: Side, work: Work, samples: usize) -> Compar
 
 /// The largest sites.
 pub fn largest() {
-    println!("Time of the proved library over that of the plain version: ratio of the medians of {SAMPLES} samples, which alternate");
-    println!("(in brackets: the middle half of the ratios, sample by sample). Words: load, run to the end, report; the plain version on");
+    println!(
+        "Time of the proved library over that of the plain version: ratio of the medians of {SAMPLES} samples, \
+         which alternate"
+    );
+    println!(
+        "(in brackets: the middle half of the ratios, sample by sample). Words: load, run to the end, report; \
+         the plain version on"
+    );
     println!("its struct, or behind the same calls on lent words. Bytes: from a file to its report.\n");
-    println!("{:8}{:>6}{:>6}{:>7}   {:20} {:20} {:20}", "site", "units", "links", "rounds", "words", "words, plain too", "bytes");
+    println!(
+        "{:8}{:>6}{:>6}{:>7}   {:20} {:20} {:20}",
+        "site", "units", "links", "rounds", "words", "words, plain too", "bytes"
+    );
     for shape in LARGEST {
         let mut bench = Bench::new(site(shape, 256).expect("a shape"));
         let rounds = bench.rounds();
         print!("{shape:8}{:>6}{:>6}{rounds:>7}  ", bench.site.units, bench.site.links());
-        for (plain, work) in [(Side::Plain, Work::Words), (Side::PlainOnWords, Work::Words), (Side::Plain, Work::Bytes)] {
+        for (plain, work) in [(Side::Plain, Work::Words), (Side::PlainOnWords, Work::Words), (Side::Plain, Work::Bytes)]
+        {
             let c = compare(&mut bench, plain, work, SAMPLES);
             print!(" {:5.2} ({:5.2} – {:5.2})  ", c.proved / c.plain, c.ratio.low, c.ratio.high);
         }
@@ -92,7 +102,10 @@ pub fn largest() {
 
 /// How the time of load, run and report grows.
 pub fn growth() {
-    println!("\nGrowth: time over that of the first row of its kind; and the same for each round, unit and link (1: linear).\n");
+    println!(
+        "\nGrowth: time over that of the first row of its kind; and the same for each round, unit and link \
+         (1: linear).\n"
+    );
     println!(
         "{:8}{:>6}{:>6}{:>7}   {:>8}{:>8}   {:>16}{:>8}",
         "site", "units", "links", "rounds", "proved", "plain", "each: proved", "plain"
@@ -112,6 +125,10 @@ fn rows(name: &str, sites: [Site; 4]) {
         let size = f64::from(rounds) * (f64::from(units) + links as f64);
         let (proved, plain, least) = *first.get_or_insert((c.proved, c.plain, size));
         let (proved, plain, size) = (c.proved / proved, c.plain / plain, size / least);
-        println!("{name:8}{units:>6}{links:>6}{rounds:>7}   {proved:>8.2}{plain:>8.2}   {:>16.2}{:>8.2}", proved / size, plain / size);
+        println!(
+            "{name:8}{units:>6}{links:>6}{rounds:>7}   {proved:>8.2}{plain:>8.2}   {:>16.2}{:>8.2}",
+            proved / size,
+            plain / size
+        );
     }
 }

@@ -71,7 +71,9 @@ impl Bench {
         let done = match (work, side) {
             (Work::Words, Side::Plain) => {
                 let (survey, site) = (&mut self.survey, &self.site);
-                survey.load(site.units, &site.table, &site.levels).is_ok() && survey.run(u16::MAX).is_ok() && survey.report(out).is_ok()
+                survey.load(site.units, &site.table, &site.levels).is_ok()
+                    && survey.run(u16::MAX).is_ok()
+                    && survey.report(out).is_ok()
             }
             (Work::Words, Side::Proved) => called(&PROVED, &self.site, state, out),
             (Work::Words, Side::PlainOnWords) => called(&PLAIN, &self.site, state, out),
@@ -85,9 +87,12 @@ impl Bench {
     pub fn check(&mut self) {
         self.once(Side::Plain, Work::Words, 0);
         let expected = self.out[..self.length].to_vec();
-        for (side, work) in
-            [(Side::Proved, Work::Words), (Side::PlainOnWords, Work::Words), (Side::Proved, Work::Bytes), (Side::Plain, Work::Bytes)]
-        {
+        for (side, work) in [
+            (Side::Proved, Work::Words),
+            (Side::PlainOnWords, Work::Words),
+            (Side::Proved, Work::Bytes),
+            (Side::Plain, Work::Bytes),
+        ] {
             self.out.fill(0);
             self.once(side, work, 0);
             assert!(self.out[..self.length] == expected, "the reports differ");
