@@ -67,8 +67,8 @@ clockOk n c =
     && leb (c .requests) MAX-REQUESTS
 
 -- every stored name of a unit, list place or link is absent or names one that exists; distances are at most 2,048 or
--- absent, other numbers at most 2,048; every level is in range (document 02, T-01); whether a plan was given is a stored
--- number (T-05)
+-- absent, other numbers at most 2,048; every level is in range (document 02, T-01); whether a plan was given is a
+-- stored number (T-05)
 unfoldable pub entriesOk : State → Bool
 entriesOk s =
     every (every (nameOk (units s))) (unitTables s)

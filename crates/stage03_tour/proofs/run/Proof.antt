@@ -68,7 +68,11 @@ add-made-2 c =
     omega (arith, go t .below, t .before .before .before .before .before .fits .budget)
 
 loop-less-2 : tie.Need-loop-less-2 Inv-loop μ-loop
-loop-less-2 c = omega (arith, go (c .before .before .before .before .before .before .before .before .before .before) .below)
+loop-less-2 c = omega (
+  arith,
+  go (c .before .before .before .before .before .before .before .before
+      .before .before) .below,
+)
 
 loop-again-2 : tie.Need-loop-again-2 Inv-loop μ-loop
 unfolding one
