@@ -431,8 +431,8 @@ uint32_t link_survey_live_withdraw(uint16_t live[LINK_SURVEY_LIVE_WORDS], uint16
 
 /*
  * Several sites over one channel. Eight seats, each the words of a state, and the number of the seat last served, one
- * word. A seat is empty while its unit count (its first word) is 0: begin with all words of the seats 0 and the number
- * LINK_SURVEY_FIRST_TURN. Every call on a state takes a seat too: link_survey_status(seats[i], reply).
+ * word. A seat is empty while its unit count (its first word) and its stage are 0: begin with all words of the seats 0
+ * and the number LINK_SURVEY_FIRST_TURN. Every call on a state takes a seat too: link_survey_status(seats[i], reply).
  */
 
 /*

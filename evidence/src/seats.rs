@@ -36,12 +36,12 @@ pub fn load_seat(seats: &mut Seats, seat: u16, units: u16, table: &[u16], levels
 /// Refused with 10, 11.
 pub fn tick(last: &mut u16, seats: &mut Seats) -> u32 {
     let surveys: Vec<Survey> = seats.iter().map(Survey::from_words).collect();
-    let loaded = |survey: &&Survey| survey.units != 0;
-    if usize::from(*last) >= SEATS || surveys.iter().filter(loaded).any(|survey| !survey.kept()) {
+    let loaded = |survey: &Survey| survey.units != 0 || survey.stage != 0;
+    if usize::from(*last) >= SEATS || surveys.iter().any(|survey| loaded(survey) && !survey.kept()) {
         return 10;
     }
     let after = (*last as usize + 1)..(*last as usize + 1 + SEATS);
-    let unfinished = |seat: &usize| surveys[*seat].units != 0 && surveys[*seat].stage != FINISHED;
+    let unfinished = |seat: &usize| loaded(&surveys[*seat]) && surveys[*seat].stage != FINISHED;
     let Some(seat) = after.map(|seat| seat % SEATS).find(unfinished) else {
         return 11;
     };

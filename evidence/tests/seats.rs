@@ -45,7 +45,7 @@ fn case(numbers: &mut Numbers, lines: &mut String) {
         }
     }
     for seat in 0..SEATS {
-        if seats[seat][0] == 0 {
+        if seats[seat][0] == 0 && seats[seat][STAGE] == 0 {
             lines.push_str("0\n");
         } else {
             lines.push('1');

@@ -22,9 +22,9 @@ pub record Office : Type 0 where
 abbrev pub seat : ℕ → Office → State
 seat i o = getD (o .seats) i unloaded
 
--- a seat is empty while its survey has no unit
-abbrev pub empty : State → Bool
-empty s = eqb (units s) 0
+-- a seat is empty while nothing was loaded: no unit and no stage, as in cleared memory
+unfoldable pub empty : State → Bool
+empty s = eqb (units s) 0 && eqb (s .clock .stage) 0
 
 -- its survey is unfinished; an empty seat counts as finished
 unfoldable pub waiting : State → Bool
