@@ -4,6 +4,12 @@ use crate::LiveWords;
 use crate::seats::{SeatCalls, Seats};
 use crate::words::{Calls, LinkReply, State, StatusReply, UnitReply};
 
+/// Whose turn it is, as the header has it.
+#[repr(C)]
+struct Turn {
+    last: u16,
+}
+
 unsafe extern "C" {
     fn link_survey_report(input: *const u8, input_len: usize, out: *mut u8, out_len: usize) -> u32;
     fn link_survey_read(
@@ -70,7 +76,7 @@ unsafe extern "C" {
         levels: *const i16,
         levels_len: usize,
     ) -> u32;
-    fn link_survey_tick(last: *mut u16, seats: *mut Seats) -> u32;
+    fn link_survey_tick(turn: *mut Turn, seats: *mut Seats) -> u32;
 }
 
 // Each call is lent whole arrays, and whole slices with their true lengths, and keeps none of them.
@@ -168,7 +174,7 @@ fn seat_load(seats: &mut Seats, seat: u16, units: u16, table: &[u16], levels: &[
 }
 
 fn tick(last: &mut u16, seats: &mut Seats) -> u32 {
-    unsafe { link_survey_tick(last, seats) }
+    unsafe { link_survey_tick(std::ptr::from_mut(last).cast(), seats) }
 }
 
 pub const PROVED_SEATS: SeatCalls = SeatCalls { load: seat_load, tick };
@@ -197,31 +203,3 @@ pub const PROVED: Calls = Calls {
     live_withdraw,
     seats: PROVED_SEATS,
 };
-
-/// The tick that takes the turn as a record, of the archive of the crate `words_seats`.
-#[cfg(feature = "record")]
-pub mod record {
-    use super::{SeatCalls, Seats, seat_load};
-
-    #[repr(C)]
-    struct Turn {
-        last: u16,
-    }
-
-    mod archive {
-        use super::{Seats, Turn};
-
-        unsafe extern "C" {
-            pub fn tick(turn: *mut Turn, seats: *mut Seats) -> u32;
-        }
-    }
-
-    fn tick(last: &mut u16, seats: &mut Seats) -> u32 {
-        let mut turn = Turn { last: *last };
-        let number = unsafe { archive::tick(&mut turn, seats) };
-        *last = turn.last;
-        number
-    }
-
-    pub const BY_RECORD: SeatCalls = SeatCalls { load: seat_load, tick };
-}

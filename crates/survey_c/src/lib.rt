@@ -3,10 +3,10 @@
 // was not refused; on a refusal nothing lent is altered.
 mod asked;
 mod live_tables;
+mod seats;
 
 use words_layout::STATE_WORDS;
 ghost use mathlib.Core.Path.{_≡_};
-ghost use Prim.Native.Nat.{ℕ};
 ghost use lib.ListN.{length};
 ghost use Rattle.spec_machine.specs.Calls.{numberOf, loadAnswer, storedLoadAnswer, plannedLoadAnswer};
 ghost use Rattle.words_layout.specs.Layout.{stateOf};
@@ -17,8 +17,6 @@ ghost use Rattle.spec_claim.specs.Play;
 ghost use Rattle.words_claim.specs.Exchange.{numberTo, stateAfter, lentAfter, madeAfter};
 ghost use Rattle.report_program.specs.Printed.{printed, laidOver, laidCount};
 ghost use Rattle.handset_lines.specs.Lines.{foremanAnswer, foremanShown, serviceAnswer, serviceShown};
-ghost use Rattle.spec_channel.specs.Office.{tickRefusal, tick, seatRefusal, loadSeat};
-ghost use Rattle.words_seats.specs.Lent.{officeOf};
 
 // No state: what the program prints for the bytes of a file, at the front of `out`, and the number of bytes; nothing
 // and 0 where `out` is too short.
@@ -214,34 +212,4 @@ pub extern "C" fn link_survey_write(
         ≡ writtenFile units (now (table .entry)) (now (levels .entry)) (now (out .entry)) ⌝ }
 {
     words_calls::write(units, table, levels, out)
-}
-
-// A load of a seat (T-12): 23, then 4 to 6, 15, 16, 7 to 9, 22. The other seats and the turn stay.
-#[no_mangle]
-pub extern "C" fn link_survey_seat_load(
-    seats: &mut [[u16; STATE_WORDS]; 8],
-    seat: u16,
-    units: u16,
-    table: &[u16],
-    levels: &[i16],
-) -> u32
-    ensures number { λ r. ⌜ r ≡ seatRefusal seat
-        (record { units = units; words = now (table .entry); levels = now (levels .entry) }) ⌝ }
-    ensures seats { λ _. ⌜ ((last : ℕ) → officeOf last (now (seats .exit))
-        ≡ loadSeat seat (record { units = units; words = now (table .entry); levels = now (levels .entry) })
-        (officeOf last (now (seats .entry)))) ⌝ }
-{
-    words_seats::load(seats, seat, units, table, levels)
-}
-
-// A tick (T-12): 10, 11. One round to the seat whose turn it is, whose number goes to `last`.
-#[no_mangle]
-pub extern "C" fn link_survey_tick(last: &mut u16, seats: &mut [[u16; STATE_WORDS]; 8]) -> u32
-    ensures number { λ r. ⌜ r ≡ tickRefusal (officeOf (now (last .entry)) (now (seats .entry))) ⌝ }
-    ensures office { λ _. ⌜ officeOf (now (last .exit)) (now (seats .exit))
-        ≡ tick (officeOf (now (last .entry)) (now (seats .entry))) ⌝ }
-{
-    let r = words_seats::serve(*last, seats);
-    *last = r.last;
-    r.number
 }

@@ -16,10 +16,9 @@ pub struct Served {
     pub last: u16,
 }
 
-// A tick: one round to the seat whose turn it is. 10, 11. A caller in Rattle takes `serve`; this one is also for Rust
-// and C, to whom it is exported.
-#[no_mangle]
-pub extern "C" fn tick(turn: &mut Turn, seats: &mut [[u16; STATE_WORDS]; 8]) -> u32
+// A tick: one round to the seat whose turn it is. 10, 11. It is what C gets (survey_c); a caller in Rattle, who would
+// need a walk of its own (docs/DECISIONS.md, T-12f), takes `serve`.
+pub fn tick(turn: &mut Turn, seats: &mut [[u16; STATE_WORDS]; 8]) -> u32
     ensures { λ r. ⌜ (r ≡ tickRefusal (officeOf (now (turn .entry) .last) (now (seats .entry))))
         × (officeOf (now (turn .exit) .last) (now (seats .exit))
         ≡ tick (officeOf (now (turn .entry) .last) (now (seats .entry)))) ⌝ }
