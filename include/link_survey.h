@@ -41,7 +41,8 @@
  * link_survey_load_stored, and link_survey_load, link_survey_seat_load and link_survey_write refuse with 22; 8 has
  * link_survey_load_planned, and a state has 257 words more; 9 has link_survey_ring, link_survey_lifting_order,
  * link_survey_doubtful, link_survey_one_way and live tables: link_survey_live_open, link_survey_live_add and
- * link_survey_live_withdraw; 10 has struct link_survey_turn, which link_survey_tick takes.
+ * link_survey_live_withdraw; 10 has struct link_survey_turn, which link_survey_tick takes,
+ * link_survey_seat_load_stored and link_survey_seat_load_planned.
  */
 #define LINK_SURVEY_VERSION 10
 
@@ -452,6 +453,24 @@ struct link_survey_turn {
  */
 uint32_t link_survey_seat_load(uint16_t seats[LINK_SURVEY_SEATS][LINK_SURVEY_STATE_WORDS], uint16_t seat, uint16_t units,
                                const uint16_t *table, size_t table_len, const int16_t *levels, size_t levels_len);
+
+/*
+ * The same as link_survey_load_stored loads a state.
+ *
+ * returns  23, 4, 5, 6, 15, 16, 7, 8, 9, or 0.
+ */
+uint32_t link_survey_seat_load_stored(uint16_t seats[LINK_SURVEY_SEATS][LINK_SURVEY_STATE_WORDS], uint16_t seat,
+                                      uint16_t units, const uint16_t *table, size_t table_len, const int16_t *levels,
+                                      size_t levels_len);
+
+/*
+ * The same as link_survey_load_planned loads a state.
+ *
+ * returns  23, 4, 5, 6, 15, 16, 7, 8, 9, 17, 18, 22, or 0.
+ */
+uint32_t link_survey_seat_load_planned(uint16_t seats[LINK_SURVEY_SEATS][LINK_SURVEY_STATE_WORDS], uint16_t seat,
+                                       uint16_t units, const uint16_t *table, size_t table_len, const int16_t *levels,
+                                       size_t levels_len, const uint16_t *parents, size_t parents_len);
 
 /*
  * Give one round to the next unfinished seat after the one last served, going round. An empty seat counts as finished.

@@ -76,6 +76,26 @@ unsafe extern "C" {
         levels: *const i16,
         levels_len: usize,
     ) -> u32;
+    fn link_survey_seat_load_stored(
+        seats: *mut Seats,
+        seat: u16,
+        units: u16,
+        table: *const u16,
+        table_len: usize,
+        levels: *const i16,
+        levels_len: usize,
+    ) -> u32;
+    fn link_survey_seat_load_planned(
+        seats: *mut Seats,
+        seat: u16,
+        units: u16,
+        table: *const u16,
+        table_len: usize,
+        levels: *const i16,
+        levels_len: usize,
+        parents: *const u16,
+        parents_len: usize,
+    ) -> u32;
     fn link_survey_tick(turn: *mut Turn, seats: *mut Seats) -> u32;
 }
 
@@ -173,11 +193,21 @@ fn seat_load(seats: &mut Seats, seat: u16, units: u16, table: &[u16], levels: &[
     unsafe { link_survey_seat_load(seats, seat, units, table.as_ptr(), table.len(), levels.as_ptr(), levels.len()) }
 }
 
+fn seat_load_stored(seats: &mut Seats, seat: u16, units: u16, table: &[u16], levels: &[i16]) -> u32 {
+    unsafe { link_survey_seat_load_stored(seats, seat, units, table.as_ptr(), table.len(), levels.as_ptr(), levels.len()) }
+}
+
+fn seat_load_planned(seats: &mut Seats, seat: u16, units: u16, table: &[u16], levels: &[i16], parents: &[u16]) -> u32 {
+    let (words, len) = (table.as_ptr(), table.len());
+    let (heights, links) = (levels.as_ptr(), levels.len());
+    unsafe { link_survey_seat_load_planned(seats, seat, units, words, len, heights, links, parents.as_ptr(), parents.len()) }
+}
+
 fn tick(last: &mut u16, seats: &mut Seats) -> u32 {
     unsafe { link_survey_tick(std::ptr::from_mut(last).cast(), seats) }
 }
 
-pub const PROVED_SEATS: SeatCalls = SeatCalls { load: seat_load, tick };
+pub const PROVED_SEATS: SeatCalls = SeatCalls { load: seat_load, load_stored: seat_load_stored, load_planned: seat_load_planned, tick };
 
 pub const PROVED: Calls = Calls {
     report,

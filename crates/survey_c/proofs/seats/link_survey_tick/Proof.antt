@@ -37,6 +37,7 @@ use denote.Triple.Walked.{says, Stays, gave-ref, walkOf, goes-gave-ref, Walks, e
 use denote.Signature.{Slot, plain}
 use Rattle.spec_channel.specs.Office as office
 use Rattle.words_seats.specs.Lent.{officeOf}
+use Rattle.words_seats.specs.SeatsLeft.{TickedWords}
 use Rattle.channel_turns.specs.declared.Turn.{Turn}
 use Rattle.channel_turns.proofs.Turn as T
 use Rattle.words_seats.proofs.tick as tick
@@ -69,7 +70,7 @@ Tick 𝓤 H A mem run = tripleOf 𝓤 H A tick.signature (tick.spec 𝓤 H A mem
 -- what that tick ensures, with the last turn and the last words of the seats
 abbrev Told : Turn → List (List ℕ) → ℕ → Turn → List (List ℕ) → Type 0
 Told t ys r u zs = (r ≡ office.tickRefusal (officeOf (t .last) ys))
-    × (officeOf (u .last) zs ≡ office.tick (officeOf (t .last) ys))
+    × (officeOf (u .last) zs ≡ office.tick (officeOf (t .last) ys)) × TickedWords (t .last) (u .last) ys zs
 
 module _ {M : Type 1} (𝓤 : URA M) (H : Heap 𝓤) (A : Atoms 𝓤) (W : Given 𝓤 H A) (at-mem : Memory →
     SProp 𝓤) (run : Routine → Fun 𝓤) (κ κ′ : Lft) (bounds : AllOutlive 2 (own.signature .outlives) (κ, (κ′, tt)))
