@@ -41,9 +41,10 @@
  * link_survey_load_stored, and link_survey_load, link_survey_seat_load and link_survey_write refuse with 22; 8 has
  * link_survey_load_planned, and a state has 257 words more; 9 has link_survey_ring, link_survey_lifting_order,
  * link_survey_doubtful, link_survey_one_way and live tables: link_survey_live_open, link_survey_live_add and
- * link_survey_live_withdraw.
+ * link_survey_live_withdraw; 10 has struct link_survey_turn, which link_survey_tick takes,
+ * link_survey_seat_load_stored and link_survey_seat_load_planned.
  */
-#define LINK_SURVEY_VERSION 9
+#define LINK_SURVEY_VERSION 10
 
 /*
  * The words of a state, lent by the caller to every call on a state (all but link_survey_report, link_survey_read,
@@ -71,9 +72,8 @@
 /* The most pairs "this before that" of a lifting order. */
 #define LINK_SURVEY_MAX_PAIRS 256
 
-/* The seats of an office, and the seat last served before any tick: the search then begins at seat 0. */
+/* The seats of an office. */
 #define LINK_SURVEY_SEATS 8
-#define LINK_SURVEY_FIRST_TURN 7
 
 /* The level of a link: its received signal in dBm, from the lowest to the highest. */
 #define LINK_SURVEY_LOWEST_LEVEL (-127)
@@ -430,10 +430,19 @@ uint32_t link_survey_live_add(uint16_t live[LINK_SURVEY_LIVE_WORDS], uint16_t a,
 uint32_t link_survey_live_withdraw(uint16_t live[LINK_SURVEY_LIVE_WORDS], uint16_t a, uint16_t b);
 
 /*
- * Several sites over one channel. Eight seats, each the words of a state, and the number of the seat last served, one
- * word. A seat is empty while its unit count (its first word) is 0: begin with all words of the seats 0 and the number
- * LINK_SURVEY_FIRST_TURN. Every call on a state takes a seat too: link_survey_status(seats[i], reply).
+ * Several sites over one channel. Eight seats, each the words of a state, and a record of whose turn it is: the seat
+ * last served. A seat is empty while its unit count (its first word) and its stage are 0: begin with all words of the
+ * seats 0 and a turn that no tick has moved, from which the search begins at seat 0:
+ *
+ *     struct link_survey_turn turn = LINK_SURVEY_FIRST_TURN;
+ *
+ * Every call on a state takes a seat too: link_survey_status(seats[i], reply).
  */
+struct link_survey_turn {
+    uint16_t last; /* the seat last served */
+};
+
+#define LINK_SURVEY_FIRST_TURN {7}
 
 /*
  * Load a seat with a table and its levels, as link_survey_load loads a state.
@@ -446,13 +455,32 @@ uint32_t link_survey_seat_load(uint16_t seats[LINK_SURVEY_SEATS][LINK_SURVEY_STA
                                const uint16_t *table, size_t table_len, const int16_t *levels, size_t levels_len);
 
 /*
+ * The same as link_survey_load_stored loads a state.
+ *
+ * returns  23, 4, 5, 6, 15, 16, 7, 8, 9, or 0.
+ */
+uint32_t link_survey_seat_load_stored(uint16_t seats[LINK_SURVEY_SEATS][LINK_SURVEY_STATE_WORDS], uint16_t seat,
+                                      uint16_t units, const uint16_t *table, size_t table_len, const int16_t *levels,
+                                      size_t levels_len);
+
+/*
+ * The same as link_survey_load_planned loads a state.
+ *
+ * returns  23, 4, 5, 6, 15, 16, 7, 8, 9, 17, 18, 22, or 0.
+ */
+uint32_t link_survey_seat_load_planned(uint16_t seats[LINK_SURVEY_SEATS][LINK_SURVEY_STATE_WORDS], uint16_t seat,
+                                       uint16_t units, const uint16_t *table, size_t table_len, const int16_t *levels,
+                                       size_t levels_len, const uint16_t *parents, size_t parents_len);
+
+/*
  * Give one round to the next unfinished seat after the one last served, going round. An empty seat counts as finished.
  *
- * last     altered: the seat that was served (one word).
+ * turn     altered: the seat that was served.
  * seats    altered: the words of that seat, one round on. The other seven stay.
- * returns  10 (last is above 7, or a loaded seat is not kept), 11 (every seat is finished), or 0.
+ * returns  10 (turn->last is above 7, or a loaded seat is not kept), 11 (every seat is finished), or 0.
  */
-uint32_t link_survey_tick(uint16_t *last, uint16_t seats[LINK_SURVEY_SEATS][LINK_SURVEY_STATE_WORDS]);
+uint32_t link_survey_tick(struct link_survey_turn *turn,
+                          uint16_t seats[LINK_SURVEY_SEATS][LINK_SURVEY_STATE_WORDS]);
 
 #ifdef __cplusplus
 }

@@ -1,9 +1,10 @@
 """The vectors of document 02's requests through the calls from C, for tools/test_examples.py: from the numbers of a stream to the lines that the check
-programs of T-04, T-07, T-08, T-09 and T-11 print for it (crates/check_*/stdout, from an independent model). Whatever a call must leave is judged here.
+programs of T-04, T-07, T-08, T-09, T-11 and T-12 print for it (crates/check_*/stdout, from an independent model). Whatever a call must leave is judged here.
 """
-from ctypes import byref, c_int16, c_size_t, c_uint16, c_uint8
+from ctypes import Structure, byref, c_int16, c_size_t, c_uint16, c_uint8
 
-STATE_WORDS, LIVE_WORDS = 12295, 3330
+STATE_WORDS, LIVE_WORDS, SEATS = 12295, 3330, 8
+STAGE = 2050  # where a state has it
 LIVE_ENDS, LIVE_LEVELS, LIVE_COUNTS = 2, 2050, 3074
 OTHER = 7777  # what stands in lent words before a call
 
@@ -34,6 +35,11 @@ def table(stream):
 def must(holds, what):
     if not holds:
         raise AssertionError(what)
+
+
+class Turn(Structure):
+    """struct link_survey_turn."""
+    _fields_ = [("last", c_uint16)]
 
 
 class Player:
@@ -102,6 +108,37 @@ class Player:
         must(not number or passes.value == OTHER, "the passes on a refusal")
         must(set(numbers[0 if number else units:]) <= {OTHER}, "places past the numbers")
         return [" ".join(map(str, [number] if number else [0, passes.value, *numbers[:units]]))]
+
+    def seats(self, stream):
+        """Steps 1 to 4 from eight empty seats and a turn that no tick has moved, then how each seat stands."""
+        lines, seats, turn = [], (c_uint16 * STATE_WORDS * SEATS)(), Turn(7)
+        for _ in range(next(stream)):
+            step = next(stream)
+            if step == 3:
+                turn.last = next(stream)
+            elif step == 4:
+                seat = next(stream)
+                seats[seat][STAGE] = next(stream)
+            else:
+                lines.append(self.seat_load(stream, seats) if step == 1 else self.tick(turn, seats))
+        return lines + [f"1{self.status(seat)}" if seat[0] or seat[STAGE] else "0" for seat in seats]
+
+    def seat_load(self, stream, seats):
+        seat, before = next(stream), list(map(bytes, seats))
+        number = self.call("seat_load", seats, c_uint16(seat), *self.tables(*table(stream)))
+        must(all(bytes(seats[k]) == before[k] for k in range(SEATS) if number or k != seat), "the other seats")
+        return str(number)
+
+    def tick(self, turn, seats):
+        last, before = turn.last, list(map(bytes, seats))
+        number = self.call("tick", byref(turn), seats)
+        must(all(bytes(seats[k]) == before[k] for k in range(SEATS) if number or k != turn.last), "the other seats")
+        must(not number or turn.last == last, "the turn on a refusal")
+        return str(number) if number else f"0 {turn.last}{self.status(seats[turn.last])}"
+
+    def status(self, state):
+        reply = words([OTHER] * 4)
+        return "" if self.call("status", state, reply) else "".join(f" {word}" for word in reply)
 
     def changes(self, stream, given):
         """A live table: steps 1 to 4. With `given` each step tells its number alone, else what is in hand too."""

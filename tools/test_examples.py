@@ -216,7 +216,7 @@ class Calls(unittest.TestCase):
         cls.library = ctypes.CDLL(path)
 
     def test_vectors(self):
-        for family in "rings", "lifting", "doubtful", "one_way", "live":
+        for family in "rings", "lifting", "doubtful", "one_way", "live", "seats":
             crate = os.path.join(ROOT, "crates", "check_" + family)
             lines = []
             for name in re.findall(r"\S+\.in\b", contents(os.path.join(crate, "args"))):

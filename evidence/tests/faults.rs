@@ -483,7 +483,7 @@ const SEAT: [Fault; 7] = [
     ("a finished seat is not judged", |calls| {
         calls.seats.tick = |last, seats| {
             let mut judged = *seats;
-            judged.iter_mut().filter(|seat| seat[2050] == 11).for_each(|seat| seat[0] = 0);
+            judged.iter_mut().filter(|seat| seat[2050] == 11).for_each(|seat| (seat[0], seat[2050]) = (0, 0));
             let mut turn = *last;
             match tick(&mut turn, &mut judged) {
                 0 => {

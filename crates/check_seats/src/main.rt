@@ -49,9 +49,9 @@ fn status(seat: &[u16; STATE_WORDS], at: usize, line: &mut [u8]) -> usize {
     more(reply[3], rounds, line)
 }
 
-// A seat as it is at the end: 0 where it is empty, else 1 and its status.
+// A seat as it is at the end: 0 where nothing was loaded, else 1 and its status.
 fn seen(seat: &[u16; STATE_WORDS]) {
-    if seat[0] == 0 {
+    if seat[0] == 0 && seat[STAGE] == 0 {
         told(0);
         return;
     }
