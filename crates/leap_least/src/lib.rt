@@ -1,7 +1,7 @@
 // Leaps: many rounds of the least value at once, of stage 1 over links and of stage 9 over joins.
 use spec_state::Clock;
 ghost use mathlib.Core.Path.{_≡_};
-ghost use mathlib.Core.Bool.{true};
+ghost use mathlib.Core.Bool.{true, false};
 ghost use Prim.Native.Nat.{_+_, _≤_, min};
 ghost use Rattle.leap_least.specs.Leapt.{Leapt, roundsIn, passed};
 
@@ -24,8 +24,10 @@ pub fn leap(
     clock: Clock,
     made: u16,
 ) -> Landed
-    ensures { λ r. ⌜ (r .right ≡ true → Leapt units pairs (now (ends .entry)) most budget value clock made (r .value)
+    ensures leapt { λ r. ⌜ (r .right ≡ true →
+        Leapt units pairs (now (ends .entry)) most budget value clock made (r .value)
         (r .clock) (r .made)) ⌝ }
+    ensures stays { λ r. ⌜ (r .right ≡ false → (r .value ≡ value) × (r .clock ≡ clock) × (r .made ≡ made)) ⌝ }
 {
     let mut new = value;
     let found = leap_search::found(units, pairs, ends, &mut new);

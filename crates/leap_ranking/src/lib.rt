@@ -4,7 +4,7 @@ use spec_state::Clock;
 use table::ABSENT;
 use table_values::bounds;
 ghost use mathlib.Core.Path.{_≡_};
-ghost use mathlib.Core.Bool.{true};
+ghost use mathlib.Core.Bool.{true, false};
 ghost use Prim.Native.Nat.{_+_, _≤_};
 ghost use Rattle.spec_rules.specs.Ceilings.{rankingCeiling};
 ghost use Rattle.leap_ranking.specs.Leapt.{tried, cleared, passed, Found, Leapt};
@@ -38,7 +38,10 @@ pub fn tried(units: u16, budget: u16) -> bool
 
 // The rest of a ranking of the arcs of `units` units.
 pub fn leap(units: u16, budget: u16, clock: Clock, jump: [u16; 512], sum: [u16; 512]) -> Landed
-    ensures { λ r. ⌜ (r .right ≡ true → Leapt units budget jump sum clock (r .jump) (r .sum) (r .clock) (r .made)) ⌝ }
+    ensures leapt { λ r. ⌜ (r .right ≡ true →
+        Leapt units budget jump sum clock (r .jump) (r .sum) (r .clock) (r .made)) ⌝ }
+    ensures stays { λ r. ⌜ (r .right ≡ false →
+        (r .jump ≡ jump) × (r .sum ≡ sum) × (r .clock ≡ clock) × (r .made ≡ 0)) ⌝ }
 {
     if 256 < units {
         return Landed {

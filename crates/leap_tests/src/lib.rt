@@ -28,7 +28,8 @@ pub fn tested<'a>(
 ) -> Arrived
     ensures found { λ r. ⌜ (r .right ≡ true →
         Found units pairs (now (ends .entry)) (now (value .entry)) (now (value .exit)) (r .rounds)) ⌝ }
-    ensures stays { λ r. ⌜ (r .right ≡ false → now (value .exit) ≡ now (value .entry)) ⌝ }
+    ensures stays { λ r. ⌜ (r .right ≡ false →
+        (r .rounds ≡ 0) × (now (value .exit) ≡ now (value .entry))) ⌝ }
 {
     if !fits(units, pairs, ends, value) {
         return Arrived {
@@ -43,7 +44,7 @@ pub fn tested<'a>(
     if !base_choice::both(rounds < 65535, both) {
         return Arrived {
             right: false,
-            rounds,
+            rounds: 0,
         };
     }
     end(units, key, value);

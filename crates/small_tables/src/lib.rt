@@ -7,6 +7,8 @@ ghost use Rattle.file_frames.specs.Frame.{lineOver};
 ghost use Rattle.small_tables.specs.Small.{tableOf, maskOf, smallBody};
 ghost use Rattle.small_tables.specs.SmallLaws.{laid, blank, takes, rowBy};
 
+pub mod listing;
+
 // The most units of a small site, and the words of all its pairs.
 pub const MOST: u16 = 5;
 

@@ -3,7 +3,7 @@
 use table::ABSENT;
 use table_values::bounds;
 ghost use mathlib.Core.Path.{_≡_};
-ghost use mathlib.Core.Bool.{true, not, _&&_};
+ghost use mathlib.Core.Bool.{true, false, not, _&&_};
 ghost use Prim.Native.Nat.{ℕ, _+_, _≤_, _<_};
 ghost use lib.Dec.{eqb, leb};
 ghost use lib.ListN.{length, getD};
@@ -49,8 +49,9 @@ pub fn tested<'a>(
     parent: [u16; 256],
     dist: [u16; 256],
 ) -> Leap
-    ensures { λ r. ⌜ (r .right ≡ true → Leapt units links made (r .last) (now (ends .entry))
+    ensures leapt { λ r. ⌜ (r .right ≡ true → Leapt units links made (r .last) (now (ends .entry))
         (now (levels .entry)) parent dist (r .parent) (r .dist)) ⌝ }
+    ensures stays { λ r. ⌜ (r .right ≡ false → (r .parent ≡ parent) × (r .dist ≡ dist) × (r .last ≡ 0)) ⌝ }
 {
     let fits = base_choice::both(units <= 256, bounds::links_fit(units, links, ends));
     let top = base_slices::word(far, tip as usize);
@@ -68,13 +69,21 @@ pub fn tested<'a>(
     let new = settle(units, made, last, far, &near.best, parent, dist);
     let begun = base_choice::both(1 <= made, made <= last);
     let wrong = base_choice::either(near.apart, new.stray);
+    if !base_choice::both(begun, !wrong) {
+        return Leap {
+            parent,
+            dist,
+            last: 0,
+            right: false,
+        };
+    }
     let new_parent = new.parent;
     let new_dist = new.dist;
     Leap {
         parent: new_parent,
         dist: new_dist,
         last,
-        right: base_choice::both(begun, !wrong),
+        right: true,
     }
 }
 

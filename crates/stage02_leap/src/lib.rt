@@ -2,7 +2,7 @@
 // The search is proved to end and to stay within its tables, no more.
 use distances::Leap;
 ghost use mathlib.Core.Path.{_≡_};
-ghost use mathlib.Core.Bool.{true};
+ghost use mathlib.Core.Bool.{true, false};
 ghost use Rattle.stage02_leap.specs.Goal.{Leapt};
 
 mod ahead;
@@ -18,8 +18,9 @@ pub fn leap<'a>(
     parent: [u16; 256],
     dist: [u16; 256],
 ) -> Leap
-    ensures { λ r. ⌜ (r .right ≡ true → Leapt units links made (r .last) (now (ends .entry))
+    ensures leapt { λ r. ⌜ (r .right ≡ true → Leapt units links made (r .last) (now (ends .entry))
         (now (levels .entry)) parent dist (r .parent) (r .dist)) ⌝ }
+    ensures stays { λ r. ⌜ (r .right ≡ false → (r .parent ≡ parent) × (r .dist ≡ dist) × (r .last ≡ 0)) ⌝ }
 {
     let count = base_choice::least_of(units, 256);
     let most = base_choice::least_of(links, 1024);

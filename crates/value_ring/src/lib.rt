@@ -49,10 +49,7 @@ pub fn lay_ring<'a>(
     ensures past { λ r. ⌜ drop r (now (out .exit)) ≡ drop r (now (out .entry)) ⌝ }
 {
     let marks = ring_tables::unmarked();
-    let mut found = ring_tables::zeros();
-    let count = ring_search::ring(&marks, units, links, ends, first, second, &mut found);
-    base_copies::lay_first(count, &found, out);
-    count
+    ring_search::ring(&marks, units, links, ends, first, second, out)
 }
 
 // The ring of a finished survey: 10, 12, 13, 14. Words past the ring are not touched; without a ring, no word is.

@@ -44,7 +44,7 @@ ready c = may (c .args .units) 2 (c .args .clock) (omega arith) (c .pre .1)
 -- few rounds are left
 few : (c : tie.Else1) → c .before .before .before .difference .result < 257
 few c =
-    let l = found c .leap .ensures (fine c .right) in
+    let l = found c .leap .ensures .0 (fine c .right) in
     omega (arith, c .before .before .before .difference .ensures, l .room, l .goal .few)
 
 returns : tie.Need-returns
@@ -75,7 +75,7 @@ returns-2 c =
     let e = c .before .before .before .before in
     let s = start e in
     let a = s .args in
-    let l = found e .leap .ensures (fine e .right) in
+    let l = found e .leap .ensures .0 (fine e .right) in
     λ t. leapt-run (a .units) (a .links) (a .left) (a .given) (found e .leap .result .last) _ _ (a .plan .now)
     (a .ends .now) (a .levels .now) (a .color .now)
     (record { parent = a .parent; dist = a .dist; clock = a .clock; made = a .made }) _ _ (fine e .none) (s .pre .0)

@@ -1,6 +1,6 @@
 -- The tests passed say that the distances are right.
-use mathlib.Core.Path.{_≡_, sym, _∙_}
-use mathlib.Core.Bool.{true, false≢true, _&&_}
+use mathlib.Core.Path.{_≡_, refl, sym, _∙_}
+use mathlib.Core.Bool.{true, false≢true, true≢false, _&&_}
 use Prim.Native.Nat.{_≤_, _<_}
 use native.Mathlib.Omega.{arith}
 use lib.Dec.{leb, ltb}
@@ -45,7 +45,7 @@ fine c =
     }
 
 returns : tie.Need-returns
-returns c = λ t. absurd (false≢true t)
+returns c = (λ t. absurd (false≢true t), λ _. (refl, refl, refl))
 
 add-last : tie.Need-add-last
 add-last c = record { fits = omega (arith, fine c .top, fine c .few) }
@@ -63,20 +63,26 @@ settle-requires c κs = (
 )
 
 returns-2 : tie.Need-returns-2
-returns-2 c =
-    let e = c .before .before .before in
+returns-2 c = (λ t. absurd (false≢true t), λ _. (refl, refl, refl))
+
+returns-3 : tie.Need-returns-3
+returns-3 c =
+    let right = c .before .before in
+    let b = right .before in
+    let e = b .before in
     let new = e .before .before in
     let near = new .before .before .before .before .before in
     let ahead = near .before .before .before .before in
     let s = start ahead in
-    let f = fine ahead in
-    λ t. leapt-tested (s .args .units) (s .args .links) (s .args .made) _ _ (s .args .ends .now) (s .args .levels .now)
-    (s .args .parent) (s .args .dist) _ (near .nearest .result .best) _ _ _ _ _
-    (f .few) (omega (arith, s .good .1 .1 .1 .1 .1 .1 .1 .1)) (f .within) (f .tip) (f .top)
-    (ahead .before .before .before .word .ensures)
-    (near .nearest .ensures .0) (near .nearest .ensures .1) (new .settle .ensures .0) (new .settle .ensures .1 .0)
-    (new .settle .ensures .1 .1)
-    (rw (e .before .both4 .ensures, e .either .ensures) at (c .both5 .ensures)) t
+    let f = fine ahead in (
+      λ t. leapt-tested (s .args .units) (s .args .links) (s .args .made) _ _ (s .args .ends .now)
+          (s .args .levels .now) (s .args .parent) (s .args .dist) _ (near .nearest .result .best) _ _ _ _ _ (f .few)
+          (omega (arith, s .good .1 .1 .1 .1 .1 .1 .1 .1)) (f .within) (f .tip) (f .top)
+          (ahead .before .before .before .word .ensures) (near .nearest .ensures .0) (near .nearest .ensures .1)
+          (new .settle .ensures .0) (new .settle .ensures .1 .0) (new .settle .ensures .1 .1)
+          (rw (e .before .both4 .ensures, e .either .ensures) at (b .both5 .ensures)) (not-false _ (right .if2 .left)),
+      λ t. absurd (true≢false t),
+    )
 
 pub tested-spec : {M : Type 1} → statement M
 tested-spec =
@@ -94,4 +100,5 @@ tested-spec =
     (λ c κs. search needs)  -- both-requires-4
     (λ c κs. search needs)  -- either-requires
     (λ c κs. search needs)  -- both-requires-5
-    returns-2)
+    returns-2
+    returns-3)
