@@ -3,6 +3,7 @@
 // was not refused; on a refusal nothing lent is altered.
 mod asked;
 mod live_tables;
+mod version;
 
 use words_layout::STATE_WORDS;
 ghost use mathlib.Core.Path.{_≡_};
