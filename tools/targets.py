@@ -9,11 +9,18 @@ import tempfile
 ROOT = os.path.dirname(os.path.dirname(os.path.abspath(__file__)))
 EXAMPLES, INCLUDE = os.path.join(ROOT, "examples"), os.path.join(ROOT, "include")
 HEADER = os.path.join(INCLUDE, "link_survey.h")
+BARE_METAL = "self-test passed\ncase B: 27 rounds, unit 2 is a single point\n"
 WARNINGS = ["-std=c99", "-Wall", "-Wextra", "-Wpedantic", "-Werror"]
 
 # triple and words: for the kit's clang; compiler: a C compiler with the processor's C library; emulator: what runs its
 # programs here; machine: the processor's number in an object file
 Target = collections.namedtuple("Target", "name triple words compiler emulator machine")
+
+# a processor without an operating system: the emulator has a whole board, and what a program says comes by semihosting
+BARE = ["arm-none-eabi-gcc", "-mcpu=cortex-m4", "-mthumb", "-ffreestanding", "-nostdlib", "-O1", "-Wl,-z,noexecstack",
+        "-T", os.path.join(EXAMPLES, "bare_metal.ld")]
+BOARD = ["qemu-system-arm", "-M", "mps2-an386", "-nographic", "-monitor", "none", "-serial", "none", "-chardev",
+         "stdio,id=out", "-semihosting-config", "enable=on,target=native,chardev=out", "-kernel"]
 
 TARGETS = {target.name: target for target in [
     Target("aarch64-linux-gnu", "aarch64-unknown-linux-gnu", ["-fPIC"], ["aarch64-linux-gnu-gcc", "-static"],
@@ -21,11 +28,10 @@ TARGETS = {target.name: target for target in [
     Target("armv7-linux-gnueabihf", "armv7-unknown-linux-gnueabihf", ["-fPIC"], ["arm-linux-gnueabihf-gcc", "-static"],
            ["qemu-arm"], 40),
     # -meabi gnu: memcpy and memset under their own names
-    Target("thumbv7em-none-eabi", "thumbv7em-unknown-none-eabi", ["-meabi", "gnu"],
-           ["arm-none-eabi-gcc", "-mcpu=cortex-m4", "-mthumb", "-ffreestanding", "-nostdlib", "-O1",
-            "-T", os.path.join(EXAMPLES, "bare_metal.ld")],
-           ["qemu-system-arm", "-M", "mps2-an386", "-nographic", "-monitor", "none", "-serial", "none",
-            "-chardev", "stdio,id=out", "-semihosting-config", "enable=on,target=native,chardev=out", "-kernel"], 40),
+    Target("thumbv7em-none-eabi", "thumbv7em-unknown-none-eabi", ["-meabi", "gnu", "-mfloat-abi=soft", "-mfpu=none"],
+           [*BARE, "-mfloat-abi=soft"], BOARD, 40),
+    Target("thumbv7em-none-eabihf", "thumbv7em-unknown-none-eabihf", ["-meabi", "gnu", "-mfpu=fpv4-sp-d16"],
+           [*BARE, "-mfloat-abi=hard", "-mfpu=fpv4-sp-d16"], BOARD, 40),
     Target("riscv64-linux-gnu", "riscv64-unknown-linux-gnu", ["-fPIC", "-march=rv64gc", "-mabi=lp64d"],
            ["riscv64-linux-gnu-gcc", "-static"], ["qemu-riscv64"], 243),
 ]}
@@ -47,7 +53,8 @@ def bare(target):
 def build(target, folder, name, *sources):
     """Builds examples over the target's archive; the path of the program."""
     made = os.path.join(folder, name)
-    paths = [os.path.join(EXAMPLES, source) for source in sources]
+    start = ["bare_metal_start.c"] if bare(target) else []
+    paths = [os.path.join(EXAMPLES, source) for source in [*sources, *start]]
     # the compiler's own helpers stand after the archive that needs them
     command = [*target.compiler, *WARNINGS, "-I" + INCLUDE, *paths, archive(target), "-lgcc", "-o", made]
     done = subprocess.run(command, capture_output=True, text=True, check=False)
@@ -88,15 +95,10 @@ def tried(target):
     if lacking:
         return "not run: not installed here: " + ", ".join(lacking)
     with tempfile.TemporaryDirectory() as folder:
-        if bare(target):
-            program = build(target, folder, "bare_metal", "bare_metal.c", "self_test.c")
-            good = ran(target, program) == (0, "self-test passed\ncase B: 27 rounds, unit 2 is a single point\n")
-            what = "the self-test, and case B by budgets, without an operating system"
-        else:
-            tests = ran(target, build(target, folder, "self_test", "self_test_main.c", "self_test.c"))
-            lines = ran(target, build(target, folder, "acceptance", "acceptance.c"))
-            good = tests == (0, "passed\n") and lines == (0, small_sites())
-            what = "the self-test, and T-13's 1,099 lines"
-    if not good:
-        raise AssertionError(f"{target.name}: {what}: NOT as expected under {target.emulator[0]}")
-    return f"{what}: as expected under {target.emulator[0]}"
+        main, passed = ("bare_metal.c", BARE_METAL) if bare(target) else ("self_test_main.c", "passed\n")
+        tests = ran(target, build(target, folder, "self_test", main, "self_test.c"))
+        lines = ran(target, build(target, folder, "acceptance", "acceptance.c"))
+    what = f"the self-test and T-13's 1,099 lines under {target.emulator[0]}"
+    if tests != (0, passed) or lines != (0, small_sites()):
+        raise AssertionError(f"{target.name}: NOT as expected: {what}")
+    return f"{what}: as expected"

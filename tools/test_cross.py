@@ -56,18 +56,17 @@ class OnTarget:
         """The functions of the header, no variables, and nothing needed but what the manual says."""
         self.assertEqual(self.archive.defined, targets.functions())
         self.assertEqual(self.archive.variables, 0)
-        self.assertEqual(self.archive.needed, {"memcpy", "memset"} | self.helpers)
+        self.assertEqual(self.archive.needed, {"memcpy", "memset"})
+
+    def test_acceptance(self):
+        self.assertEqual(self.printed("acceptance", "acceptance.c"), (0, targets.small_sites()))
 
 
 class Hosted(OnTarget):
     """A processor under Linux."""
-    helpers = set()
 
     def test_self_test(self):
         self.assertEqual(self.printed("self_test", "self_test_main.c", "self_test.c"), (0, "passed\n"))
-
-    def test_acceptance(self):
-        self.assertEqual(self.printed("acceptance", "acceptance.c"), (0, targets.small_sites()))
 
     def test_reports(self):
         expected = "".join(contents(path[:-3] + ".out") for path in vectors())
@@ -94,13 +93,16 @@ class Riscv64(Hosted, unittest.TestCase):
 
 
 class Thumb(OnTarget, unittest.TestCase):
-    """A processor without an operating system."""
+    """A processor without an operating system, and without floating point."""
     name = "thumbv7em-none-eabi"
-    helpers = set()
 
     def test_bare_metal(self):
-        printed = self.printed("bare_metal", "bare_metal.c", "self_test.c")
-        self.assertEqual(printed, (0, "self-test passed\ncase B: 27 rounds, unit 2 is a single point\n"))
+        self.assertEqual(self.printed("bare_metal", "bare_metal.c", "self_test.c"), (0, targets.BARE_METAL))
+
+
+class ThumbHard(Thumb):
+    """The same with floating point, for firmware that passes such numbers in registers."""
+    name = "thumbv7em-none-eabihf"
 
 
 class SelfTest(unittest.TestCase):

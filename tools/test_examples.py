@@ -263,8 +263,8 @@ class Texts(unittest.TestCase):
         self.assertEqual(listings, [contents(example("case_b.c"))])
 
     def test_warnings_in_c(self):
-        """All but what is for a processor without an operating system, which tools/test_cross.py builds."""
-        sources = sorted(set(glob.glob(example("*.c"))) - {example("bare_metal.c")})
+        """All but the start without an operating system, which is for one processor: tools/test_cross.py builds it."""
+        sources = sorted(set(glob.glob(example("*.c"))) - {example("bare_metal_start.c")})
         self.compiled(compilers("gcc", "clang"), ["c99", "c11", "c17", "c2x"], sources)
 
     def test_every_refusal_is_told(self):
