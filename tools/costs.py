@@ -11,23 +11,17 @@ import sys
 import tempfile
 
 import elf
-import proved_module
 import targets
-from targets import ROOT, Target
+from targets import HOST, ROOT
 
 CALLS = os.path.join(ROOT, "tools", "cost_calls")
-HOST = Target("x86_64-linux-gnu", "x86_64-unknown-linux-gnu", [], ["cc"], [], 62)
 ALL = [HOST, *targets.TARGETS.values()]
-
-
-def archive(target):
-    return proved_module.ARCHIVE if target is HOST else targets.archive(target)
 
 
 def sizes():
     rows = [("archive", "code", "constants", "needs")]
     for target in ALL:
-        found = elf.Archive(archive(target))
+        found = elf.Archive(targets.archive(target))
         needs = ", ".join(f"`{name}`" for name in sorted(found.needed))
         rows.append((f"`{target.name}`", f"{found.code:,}", f"{found.constants:,}", needs))
     return rows
@@ -43,7 +37,7 @@ def measured(name):
     with tempfile.TemporaryDirectory() as folder:
         program = os.path.join(folder, "costs")
         command = [*target.compiler, "-std=c99", "-O1", "-I" + targets.INCLUDE, "-I" + CALLS, *sources]
-        subprocess.run([*command, archive(target), "-lgcc", "-o", program], check=True)
+        subprocess.run([*command, targets.archive(target), "-lgcc", "-o", program], check=True)
         # an instruction a nanosecond; only the emulator of a whole board can count
         counted = ["-icount", "shift=0"] if targets.bare(target) else []
         run = [*target.emulator[:1], *counted, *target.emulator[1:], program]
@@ -55,9 +49,9 @@ def measured(name):
 def runnable():
     found = []
     for target in ALL:
-        lacking = [] if target is HOST else targets.missing(target)
+        lacking = targets.missing(target)
         if lacking:
-            print(f"{target.name} is left out: not installed: {', '.join(lacking)}", file=sys.stderr)
+            print(f"{target.name} is left out: not here: {', '.join(lacking)}", file=sys.stderr)
         else:
             found.append(target)
     return found
@@ -66,7 +60,7 @@ def runnable():
 def stacks():
     costs = {target.name: measured(target.name) for target in runnable()}
     rows = [("call", *(f"`{name}`" for name in costs))]
-    for call in costs[HOST.name]:
+    for call in next(iter(costs.values()), ()):
         rows.append((call, *(f"{of[call][0]:,}" for of in costs.values())))
     return rows
 
@@ -74,7 +68,7 @@ def stacks():
 def instructions():
     target = targets.TARGETS["thumbv7em-none-eabi"]
     if targets.missing(target):
-        raise SystemExit(f"not installed: {', '.join(targets.missing(target))}")
+        raise SystemExit(f"not here: {', '.join(targets.missing(target))}")
     costs = measured(target.name)
     return [("call", "instructions"), *((call, f"{count:,}") for call, (_, count) in costs.items())]
 

@@ -9,6 +9,7 @@ import os
 import platform
 import shutil
 import subprocess
+import sys
 import tempfile
 
 import elf
@@ -126,6 +127,7 @@ def kept(kit):
         with open(stamp, encoding="utf-8") as file:
             if file.read() == now:
                 return KEPT
+    print("proving the library: rt staticlib survey_c", file=sys.stderr, flush=True)
     with tempfile.TemporaryDirectory() as folder:
         prove(kit, folder)
         same_as_archive(kit, folder)

@@ -1,6 +1,8 @@
 """The archive of another processor from the proved module, by the kit's own clang and llvm-ar."""
+import hashlib
 import os
 import re
+import shutil
 import tempfile
 
 import elf
@@ -19,8 +21,8 @@ def text_of(kit):
 def retargeted(kit, text, target):
     """The same module for another processor: its first lines name the processor, and no function names one.
 
-    Where pointers have 32 bits the module must take none for a number, nor a number for one. On RISC-V a caller may rely
-    on the sign of a 32-bit number in the upper half of the register, which a module for x86-64 does not ask for.
+    Where pointers have 32 bits the module must take none for a number, nor a number for one. On RISC-V a caller may
+    rely on the sign of a 32-bit number in the whole register, which a module for x86-64 does not ask for.
     """
     def once(pattern, new, text, least=1, most=1):
         text, count = re.subn(pattern, new, text)
@@ -66,17 +68,30 @@ def checked(kit, target, path):
     return archive
 
 
+def digest(path):
+    with open(path, "rb") as file:
+        return hashlib.sha256(file.read()).hexdigest()
+
+
 def make(kit, target, text):
-    """Makes the archive of one target: its path, and the words that the kit's clang was called with."""
-    path = targets.archive(target)
-    words = words_for(kit, target)
+    """Makes the archive of one target: its path, and the words that the kit's clang was called with.
+
+    One that was made from the same text by the same words, and was not altered since, is kept.
+    """
+    path, words, given = targets.archive(target), words_for(kit, target), retargeted(kit, text, target)
+    stamp, inputs = path + ".stamp", hashlib.sha256("\n".join([kit.identity, *words, given]).encode()).hexdigest()
+    if os.path.exists(stamp) and os.path.exists(path):
+        with open(stamp, encoding="utf-8") as file:
+            if file.read() == inputs + digest(path):
+                return path, words
     os.makedirs(os.path.dirname(path), exist_ok=True)
     with tempfile.TemporaryDirectory() as folder:
         with open(os.path.join(folder, "module.ll"), "w", encoding="utf-8") as file:
-            file.write(retargeted(kit, text, target))
+            file.write(given)
         run([kit.clang, *words, "-x", "ir", "module.ll", "-o", "survey_c.o"], "the kit's clang", cwd=folder)
         run([kit.ar, "rcsD", "libsurvey_c.a", "survey_c.o"], "the kit's llvm-ar", cwd=folder)
         checked(kit, target, os.path.join(folder, "libsurvey_c.a"))
-        with open(os.path.join(folder, "libsurvey_c.a"), "rb") as file, open(path, "wb") as out:
-            out.write(file.read())
+        shutil.copyfile(os.path.join(folder, "libsurvey_c.a"), path)
+    with open(stamp, "w", encoding="utf-8") as file:
+        file.write(inputs + digest(path))
     return path, words

@@ -1,6 +1,7 @@
 """The processors that tools/cross makes the library for, and how its examples are built and run for each."""
 import collections
 import os
+import platform
 import re
 import shutil
 import subprocess
@@ -22,6 +23,9 @@ BARE = ["arm-none-eabi-gcc", "-mcpu=cortex-m4", "-mthumb", "-ffreestanding", "-n
 BOARD = ["qemu-system-arm", "-M", "mps2-an386", "-nographic", "-monitor", "none", "-serial", "none", "-chardev",
          "stdio,id=out", "-semihosting-config", "enable=on,target=native,chardev=out", "-kernel"]
 
+# this machine, where it is the one that rt makes the archive for
+HOST = Target("x86_64-linux-gnu", "x86_64-unknown-linux-gnu", [], ["cc"], [], 62)
+
 TARGETS = {target.name: target for target in [
     Target("aarch64-linux-gnu", "aarch64-unknown-linux-gnu", ["-fPIC"], ["aarch64-linux-gnu-gcc", "-static"],
            ["qemu-aarch64"], 183),
@@ -38,12 +42,14 @@ TARGETS = {target.name: target for target in [
 
 
 def archive(target):
-    return os.path.join(ROOT, "target", "cross", target.name, "libsurvey_c.a")
+    folder = ["staticlib"] if target is HOST else ["cross", target.name]
+    return os.path.join(ROOT, "target", *folder, "libsurvey_c.a")
 
 
 def missing(target):
-    """What is not installed that a run for the target needs."""
-    return [command[0] for command in (target.compiler, target.emulator) if not shutil.which(command[0])]
+    """What is not here that a run for the target needs."""
+    lacking = [command[0] for command in (target.compiler, target.emulator) if command and not shutil.which(command[0])]
+    return lacking + (["a processor x86-64"] if target is HOST and platform.machine() != "x86_64" else [])
 
 
 def bare(target):
@@ -93,12 +99,12 @@ def tried(target):
     """Runs the self-test and T-13's lines on the target; says so in one line, or why not."""
     lacking = missing(target)
     if lacking:
-        return "not run: not installed here: " + ", ".join(lacking)
+        return "not run: not here: " + ", ".join(lacking)
     with tempfile.TemporaryDirectory() as folder:
         main, passed = ("bare_metal.c", BARE_METAL) if bare(target) else ("self_test_main.c", "passed\n")
         tests = ran(target, build(target, folder, "self_test", main, "self_test.c"))
         lines = ran(target, build(target, folder, "acceptance", "acceptance.c"))
-    what = f"the self-test and T-13's 1,099 lines under {target.emulator[0]}"
+    what = f"the self-test and T-13's 1,099 lines {'under ' + target.emulator[0] if target.emulator else 'here'}"
     if tests != (0, passed) or lines != (0, small_sites()):
         raise AssertionError(f"{target.name}: NOT as expected: {what}")
     return f"{what}: as expected"

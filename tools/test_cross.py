@@ -5,6 +5,7 @@ lines, the program's vectors. What cannot be run for want of the toolchain, of a
 and said so.
 """
 import os
+import platform
 import re
 import shutil
 import subprocess
@@ -51,6 +52,17 @@ class OnTarget:
     def printed(self, name, *sources, arguments=()):
         program = targets.build(self.target, self.folder, name, *sources)
         return targets.ran(self.target, program, *arguments)
+
+    def test_made_anew(self):
+        """An archive that was altered is not taken for the one that was made."""
+        path = targets.archive(self.target)
+        with open(path, "rb") as file:
+            whole = file.read()
+        with open(path, "wb") as file:
+            file.write(whole[:-1])
+        Made.archive(self.target)
+        with open(path, "rb") as file:
+            self.assertEqual(file.read(), whole)
 
     def test_archive(self):
         """The functions of the header, no variables, and nothing needed but what the manual says."""
@@ -189,6 +201,34 @@ class Kits(unittest.TestCase):
         self.assertEqual((done.returncode, done.stdout), (1, ""))
         self.assertIn("tools/cross: ", done.stderr)
         self.assertIn(words, done.stderr)
+
+    def other(self, rt, words):
+        """Over a toolchain that has this for its rt, tools/cross says so; its clang writes a file that is no object."""
+        with tempfile.TemporaryDirectory() as folder:
+            tools = os.path.join(folder, "on", platform.machine(), "toolchain", "bin")
+            for path, text in [
+                (os.path.join(folder, "KIT-ID"), "another toolchain\n"),
+                (os.path.join(folder, "bin", "rt"), "#!/bin/sh\n" + rt),
+                (os.path.join(tools, "clang"), '#!/bin/sh\nfor last; do :; done\necho none >"$last"\n'),
+                (os.path.join(tools, "llvm-ar"), "#!/bin/sh\n"),
+            ]:
+                os.makedirs(os.path.dirname(path), exist_ok=True)
+                with open(path, "w", encoding="utf-8") as file:
+                    file.write(text)
+                os.chmod(path, 0o755)
+            path = os.path.join(folder, "bin") + os.pathsep + os.environ["PATH"]
+            environment = {**os.environ, "PATH": path}
+            environment.pop("RATTLE_HOME", None)
+            self.told(environment, words)
+
+    def test_other_toolchain(self):
+        test_examples.archive()
+        clang = '"$RATTLE_HOME"/on/*/toolchain/bin/clang'
+        inside = 'mkdir "$RATTLE_HOME/work" && cd "$RATTLE_HOME/work" || exit 2\necho some >module.bc\n'
+        self.other("echo it is not proved\nexit 1\n", "rt staticlib survey_c failed:\nit is not proved")
+        self.other("exit 0\n", "rt handed its clang no module.bc")
+        self.other(inside + f"{clang} -c module.bc -o module.o\n", "its clang is called in another way")
+        self.other(inside + f"{clang} --target=x86_64 -c module.bc -o module.o\n", "is not that of the archive")
 
     def test_other_module(self):
         if not shutil.which("rt"):

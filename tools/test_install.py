@@ -139,7 +139,7 @@ class Released(Folder):
             with open(self.path("release", *name.split("/")), "rb") as file:
                 self.assertEqual(hashlib.sha256(file.read()).hexdigest(), digest, name)
         wanted = {"include/link_survey.h", "examples/self_test.c", "docs/MANUAL.md"}
-        wanted |= {f"lib/{name}/libsurvey_c.a" for name in ["x86_64-linux-gnu", *targets.TARGETS]}
+        wanted |= {f"lib/{name}/libsurvey_c.a" for name in [targets.HOST.name, *targets.TARGETS]}
         self.assertLessEqual(wanted, set(sums))
         self.assertEqual(contents(self.path("release", "examples", "acceptance.txt")), targets.small_sites())
         self.told()
@@ -152,8 +152,8 @@ class Released(Folder):
         text = contents(self.path("release", "RELEASE.txt"))
         self.assertIn(f"version {targets.version()} ", text)
         self.assertIn("toolchain: " + self.ran("rt", "version").strip() + "\n", text)
-        for name in targets.TARGETS:
-            said = rf"(?m)^  {re.escape(name)}: \d+ bytes of code, .*; run: .*(as expected|not installed)"
+        for name in [targets.HOST.name, *targets.TARGETS]:
+            said = rf"(?m)^  {re.escape(name)}: \d+ bytes of code, .*; run: .*(as expected|not here: .+)$"
             self.assertRegex(text, said)
         self.assertNotIn(ROOT, text)
 
