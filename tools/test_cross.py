@@ -4,10 +4,12 @@ Makes the archives as tools/cross does, and runs the examples of each processor 
 lines, the program's vectors. What cannot be run for want of the toolchain, of a compiler or of an emulator is skipped,
 and said so.
 """
+import ctypes
 import os
 import platform
 import re
 import shutil
+import struct
 import subprocess
 import tempfile
 import unittest
@@ -17,7 +19,38 @@ import proved_module
 import retarget
 import targets
 import test_examples
+from request_vectors import STATE_WORDS
 from test_examples import CASE_B, REQUESTS, ROOT, WARNINGS, contents, example, vectors
+
+
+class Served:
+    """The library in a process on its processor, by the calls of tools/call_server.c. A state stays there."""
+    CALLS = ["load", "run", "ring", "lifting_order", "doubtful", "one_way", "live_open", "live_add", "live_withdraw"]
+
+    def __init__(self, command):
+        self.process = subprocess.Popen(command, stdin=subprocess.PIPE, stdout=subprocess.PIPE)
+
+    def __getattr__(self, name):
+        which = self.CALLS.index(name.removeprefix("link_survey_"))
+        return lambda *arguments: self.call(which, arguments)
+
+    def call(self, which, arguments):
+        numbers = [argument.value % 2**64 for argument in arguments if hasattr(argument, "value")]
+        lent = [getattr(argument, "_obj", argument) for argument in arguments if not hasattr(argument, "value")]
+        lent = [array for array in lent if ctypes.sizeof(array) != 2 * STATE_WORDS]
+        sizes = [ctypes.sizeof(array) for array in lent]
+        head = struct.pack("<7Q", which, *numbers, *[0] * (3 - len(numbers)), *sizes, *[0] * (3 - len(sizes)))
+        self.process.stdin.write(head + b"".join(map(bytes, lent)))
+        self.process.stdin.flush()
+        number = struct.unpack("<Q", self.process.stdout.read(8))[0]
+        for array, size in zip(lent, sizes):
+            ctypes.memmove(ctypes.addressof(array), self.process.stdout.read(size), size)
+        return number
+
+    def close(self):
+        self.process.stdin.close()
+        self.process.stdout.close()
+        return self.process.wait(timeout=60)
 
 
 class Made:
@@ -42,16 +75,18 @@ class OnTarget:
     def setUpClass(cls):
         cls.target = targets.TARGETS[cls.name]
         cls.archive = Made.archive(cls.target)
-        lacking = targets.missing(cls.target)
-        if lacking:
-            raise unittest.SkipTest(f"{cls.name}: made, not run: not installed: {', '.join(lacking)}")
         folder = tempfile.TemporaryDirectory()
         cls.addClassCleanup(folder.cleanup)
         cls.folder = folder.name
 
+    def built(self, name, *sources):
+        lacking = targets.missing(self.target)
+        if lacking:
+            self.skipTest(f"{self.name} is not run: not here: {', '.join(lacking)}")
+        return targets.build(self.target, self.folder, name, *sources)
+
     def printed(self, name, *sources, arguments=()):
-        program = targets.build(self.target, self.folder, name, *sources)
-        return targets.ran(self.target, program, *arguments)
+        return targets.ran(self.target, self.built(name, *sources), *arguments)
 
     def test_made_anew(self):
         """An archive that was altered is not taken for the one that was made."""
@@ -90,6 +125,12 @@ class Hosted(OnTarget):
 
     def test_requests(self):
         self.assertEqual(self.printed("requests", "requests.c"), (0, REQUESTS))
+
+    def test_vectors_of_requests(self):
+        program = self.built("call_server", os.path.join("..", "tools", "call_server.c"))
+        served = Served([*self.target.emulator, program])
+        test_examples.play_requests(self, served)
+        self.assertEqual(served.close(), 0)
 
 
 class Aarch64(Hosted, unittest.TestCase):
@@ -255,4 +296,5 @@ class Kits(unittest.TestCase):
 
 
 if __name__ == "__main__":
-    unittest.main()
+    # what is skipped is named
+    unittest.main(verbosity=2)

@@ -113,6 +113,17 @@ def vectors():
     return found + levels
 
 
+def play_requests(test, library):
+    """The vectors of the requests through a library's calls, against what an independent model says."""
+    for family in "rings", "lifting", "doubtful", "one_way", "live":
+        crate = os.path.join(ROOT, "crates", "check_" + family)
+        lines = []
+        for name in re.findall(r"\S+\.in\b", contents(os.path.join(crate, "args"))):
+            lines += request_vectors.played(library, family, name, contents(os.path.join(crate, "data", name)))
+        with test.subTest(family):
+            test.assertEqual(lines, contents(os.path.join(crate, "stdout")).splitlines())
+
+
 class Programs(unittest.TestCase):
     @classmethod
     def setUpClass(cls):
@@ -248,13 +259,7 @@ class Calls(unittest.TestCase):
         cls.library = ctypes.CDLL(path)
 
     def test_vectors(self):
-        for family in "rings", "lifting", "doubtful", "one_way", "live":
-            crate = os.path.join(ROOT, "crates", "check_" + family)
-            lines = []
-            for name in re.findall(r"\S+\.in\b", contents(os.path.join(crate, "args"))):
-                lines += request_vectors.played(self.library, family, name, contents(os.path.join(crate, "data", name)))
-            with self.subTest(family):
-                self.assertEqual(lines, contents(os.path.join(crate, "stdout")).splitlines())
+        play_requests(self, self.library)
 
 
 class Texts(unittest.TestCase):

@@ -159,4 +159,5 @@ class Released(Folder):
 
 
 if __name__ == "__main__":
-    unittest.main()
+    # what is skipped is named
+    unittest.main(verbosity=2)
