@@ -104,7 +104,8 @@ def tried(target):
         main, passed = ("bare_metal.c", BARE_METAL) if bare(target) else ("self_test_main.c", "passed\n")
         tests = ran(target, build(target, folder, "self_test", main, "self_test.c"))
         lines = ran(target, build(target, folder, "acceptance", "acceptance.c"))
-    what = f"the self-test and T-13's 1,099 lines {'under ' + target.emulator[0] if target.emulator else 'here'}"
+    where = "under " + target.emulator[0] if target.emulator else "on this machine"
+    what = f"the self-test and T-13's 1,099 lines {where}"
     if tests != (0, passed) or lines != (0, small_sites()):
         raise AssertionError(f"{target.name}: NOT as expected: {what}")
     return f"{what}: as expected"
