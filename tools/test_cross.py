@@ -220,6 +220,26 @@ class SelfTest(unittest.TestCase):
                 self.assertEqual(self.failed_with(name, declared[name], body), number)
 
 
+class Header(unittest.TestCase):
+    """The header on each processor, by the toolchain's clang, which knows later standards than many compilers."""
+
+    def test_standards(self):
+        lacking = [name for name in ("rt", "gcc") if not shutil.which(name)]
+        if lacking:
+            self.skipTest("not here: " + ", ".join(lacking))
+        # gcc's own folder has the two headers that a freestanding program may take
+        found = subprocess.run(["gcc", "-print-file-name=include"], capture_output=True, text=True, check=True)
+        words = ["-fsyntax-only", "-ffreestanding", "-nostdinc", "-isystem", found.stdout.strip(), *WARNINGS]
+        clang = proved_module.Kit().clang
+        for target in [targets.HOST, *targets.TARGETS.values()]:
+            for standard in "c99", "c11", "c17", "c23", "c++11", "c++17", "c++20", "c++23":
+                language = "c++-header" if "+" in standard else "c-header"
+                with self.subTest(f"{target.name} {standard}"):
+                    command = [clang, "--target=" + target.triple, "-std=" + standard, *words, "-x", language]
+                    done = subprocess.run([*command, targets.HEADER], capture_output=True, text=True, check=False)
+                    self.assertEqual((done.returncode, done.stderr), (0, ""))
+
+
 class Kits(unittest.TestCase):
     """A toolchain that works in another way is met with a message, and no archive is made."""
 
