@@ -1,7 +1,8 @@
-"""The vectors of document 02's requests through the calls from C, for tools/test_examples.py: from the numbers of a stream to the lines that the check
-programs of T-04, T-07, T-08, T-09, T-11 and T-12 print for it (crates/check_*/stdout, from an independent model). Whatever a call must leave is judged here.
+"""The vectors of document 02's requests through the calls from C, for tools/test_examples.py: from the numbers of a
+stream to the lines that the check programs of T-04, T-07, T-08, T-09, T-11 and T-12 print for it (crates/check_*/stdout,
+from an independent model). Whatever a call must leave is judged here.
 """
-from ctypes import Structure, byref, c_int16, c_size_t, c_uint16, c_uint8
+from ctypes import Structure, byref, c_int16, c_uint16, c_uint64, c_uint8
 
 STATE_WORDS, LIVE_WORDS, SEATS = 12295, 3330, 8
 STAGE = 2050  # where a state has it
@@ -52,7 +53,7 @@ class Player:
         return getattr(self.library, "link_survey_" + name)(*arguments)
 
     def tables(self, units, ends, heard):
-        return c_uint16(units), words(ends), c_size_t(len(ends)), levels(heard), c_size_t(len(heard))
+        return c_uint16(units), words(ends), c_uint64(len(ends)), levels(heard), c_uint64(len(heard))
 
     def surveyed(self, stream):
         """Loads a table and makes the rounds of its budget."""
@@ -69,7 +70,7 @@ class Player:
 
     def ring(self, ends, first, second, places):
         out, count = lent(places), c_uint16(OTHER)
-        number = self.call("ring", self.state, c_uint16(first), c_uint16(second), out, c_size_t(places), byref(count))
+        number = self.call("ring", self.state, c_uint16(first), c_uint16(second), out, c_uint64(places), byref(count))
         written = 0 if number else count.value
         must(not number or count.value == OTHER, "the count on a refusal")
         must(set(out[written:]) <= {OTHER}, "places past the ring")
@@ -86,7 +87,7 @@ class Player:
         units, _ = self.surveyed(stream)
         places = next(stream)
         pairs, out = listed(stream), lent(places)
-        number = self.call("lifting_order", self.state, words(pairs), c_size_t(len(pairs)), out, c_size_t(places))
+        number = self.call("lifting_order", self.state, words(pairs), c_uint64(len(pairs)), out, c_uint64(places))
         must(set(out[0 if number else units:]) <= {OTHER}, "places past the order")
         return [" ".join(map(str, [number] if number else [0, *out[:units]]))]
 
@@ -97,14 +98,16 @@ class Player:
 
     def doubt(self, marks, first, second):
         verdict, given = c_uint16(OTHER), (c_uint8 * max(1, len(marks)))(*marks)
-        number = self.call("doubtful", self.state, c_uint16(first), c_uint16(second), given, c_size_t(len(marks)), byref(verdict))
+        links = c_uint16(first), c_uint16(second)
+        number = self.call("doubtful", self.state, *links, given, c_uint64(len(marks)), byref(verdict))
         must(not number or verdict.value == OTHER, "the verdict on a refusal")
         return number or verdict.value
 
     def one_way(self, stream):
         units, ends, places = next(stream), listed(stream), next(stream)
         numbers, passes = lent(places), c_uint16(OTHER)
-        number = self.call("one_way", c_uint16(units), words(ends), c_size_t(len(ends)), numbers, c_size_t(places), byref(passes))
+        given = c_uint16(units), words(ends), c_uint64(len(ends))
+        number = self.call("one_way", *given, numbers, c_uint64(places), byref(passes))
         must(not number or passes.value == OTHER, "the passes on a refusal")
         must(set(numbers[0 if number else units:]) <= {OTHER}, "places past the numbers")
         return [" ".join(map(str, [number] if number else [0, passes.value, *numbers[:units]]))]
@@ -152,7 +155,8 @@ class Player:
             if step == 1:
                 number = self.call("live_open", self.live, *self.tables(*table(stream)))
             elif step == 2:
-                number = self.call("live_add", self.live, c_uint16(next(stream)), c_uint16(next(stream)), c_int16(next(stream)))
+                link = c_uint16(next(stream)), c_uint16(next(stream)), c_int16(next(stream))
+                number = self.call("live_add", self.live, *link)
             else:
                 number = self.call("live_withdraw", self.live, c_uint16(next(stream)), c_uint16(next(stream)))
             must(not number or bytes(self.live) == before, "a live table on a refusal")

@@ -5,6 +5,7 @@
 mod asked;
 mod live_tables;
 mod seats;
+mod version;
 
 use words_layout::STATE_WORDS;
 ghost use mathlib.Core.Path.{_≡_};
