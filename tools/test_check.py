@@ -179,6 +179,16 @@ class Check(Tree):
         self.assertEqual((status, groups["test_new"][0]), (0, "passed"))
         self.assertIn("left out (1): no browser here", groups["test_new"][1])
 
+    def test_an_example_for_another_processor(self):
+        self.write("examples/start.c", '__asm__("svc 0");\n')
+        status, groups, _ = self.check("header")
+        self.assertEqual((status, groups["header"][0]), (0, "passed"))
+        self.assertIn("left out, for another processor: examples/start.c", groups["header"][1])
+        with open(self.calls, encoding="utf-8") as file:
+            calls = file.read()
+        self.assertIn("examples/a.c", calls)
+        self.assertNotIn("examples/start.c", calls)
+
     def test_fast_builds_nothing(self):
         status, groups, _ = self.check("--fast")
         self.assertEqual(status, 0)
