@@ -264,7 +264,7 @@ def full_svg(losses, names=None, before=None, bare=False):
     return "\n".join(out + ["</svg>"]) + "\n"
 
 
-def svg_of(losses, names=None, before=None, full=False):
+def svg_of(losses, names=None, before=None, full=False, found=None, proved=True):
     """The drawing of a site. With the site before, units that were there keep their places."""
     if losses.site.units > FULL and not full:
         return block_drawing.svg_of(losses, names)

@@ -3,6 +3,8 @@ from collections import namedtuple
 
 from survey_text import ABSENT
 
+ROW = 5  # numbers in a row are told by no more words than this
+
 # a single point (its unit as number, no ends) or a lone link (its position and ends), the parts that its loss leaves of its group, the
 # smallest first, and how many units it cuts off: all but those of the largest part
 Weak = namedtuple("Weak", "number ends parts cut")
@@ -168,17 +170,30 @@ def named(v, names=None):
 
 
 def listed(numbers, names=None):
-    """3, 5 to 9, 12: four or more in a row are shortened, but those with a name stand alone: 3, 5 (gate), 6 to 9"""
+    """3, 5 to 9, 12: four or more in a row are shortened, but those with a name stand alone, 3, 5 (gate), 6 to 9, unless
+    that takes many words: then 0 (gate) to 12 (relay)."""
     runs = []
     for k in sorted(numbers):
-        if runs and k == runs[-1][1] + 1 and not (names and (k in names or k - 1 in names)):
+        if runs and k == runs[-1][1] + 1:
             runs[-1][1] = k
         else:
             runs.append([k, k])
     words = []
     for a, b in runs:
-        words += [f"{a} to {b}"] if b > a + 2 else [named(k, names) for k in range(a, b + 1)]
+        told = told_apart(a, b, names or {})
+        words += told if len(told) <= ROW else [f"{named(a, names)} to {named(b, names)}"]
     return ", ".join(words)
+
+
+def told_apart(a, b, names):
+    """The words for the numbers from a to b, where each that has a name stands alone."""
+    words, start = [], a
+    for k in range(a, b + 2):
+        if k > b or k in names:
+            words += [f"{start} to {k - 1}"] if k - start > 3 else [str(v) for v in range(start, k)]
+            words += [named(k, names)] if k <= b else []
+            start = k + 1
+    return words
 
 
 def units_of(numbers, names=None):

@@ -201,7 +201,7 @@ def inline(svg):
     return re.sub(r' (?:xmlns|width|height)="[^"]*"', "", svg[: svg.index(">")]) + svg[svg.index(">") :]
 
 
-def html_of(losses, names=None, before=None):
+def html_of(losses, names=None, before=None, found=None, proved=True):
     """The page of a site."""
     site = losses.site
     title = (

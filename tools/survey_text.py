@@ -40,7 +40,13 @@ REFUSALS = {
     14: "the output has too little room",
     15: "the levels are not as many as the links",
     16: "a link has a level below -127 or above 0",
+    17: "the parents of a drawn tree are not as many as the units",
+    18: "a drawn tree leaves the links, runs in a circle, or does not lead to the lowest unit of its group",
+    19: "there are more than 256 pairs or an odd number of words, or a pair names a unit that does not exist",
+    20: "no lifting order exists: a pair cuts a standing unit off, or no order can keep them all",
+    21: "no link joins the two units whose link was to be withdrawn",
     22: "a unit has no link; perhaps it was not switched on",
+    23: "the seat is none of 0 to 7",
 }
 
 

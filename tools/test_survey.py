@@ -19,8 +19,10 @@ import unittest
 import xml.etree.ElementTree as ElementTree
 from unittest import mock
 
+import judge
 import plain_text
 import survey
+from folds import Fold, Folding, most_cut
 from losses import Losses, changes
 from survey_text import Fault, Site, level_of, read_site, write_site
 
@@ -136,7 +138,7 @@ class Door(unittest.TestCase):
 
     def said_of(self, units, links, names=(), *arguments):
         """The exit status and the words of a table, whose report is not looked at."""
-        with mock.patch.object(survey, "contradictions", lambda losses, report: []):
+        with mock.patch.object(judge, "contradictions", lambda losses, report: []):
             rows = [line(0x12, 0, v, 0, 0, 0, 0, 0, 0, 0) for v in range(units)] + [line(0x13, *divmod(j, 256), 0, 0, 0) for j in range(len(links))]
             report = line(0x11, 0, 1, 0, 0) + b"".join(rows) + line(0x1F, 0, 0, 0, 0)
             code, said, told = self.reported(text_of(units, links, names), report, *arguments)
@@ -276,7 +278,7 @@ class Words(Door):
     def test_the_smaller_sides_are_named(self):
         chain = [(v, v + 1) for v in range(9)]
         self.assertEqual(
-            self.said_of(10, chain)[1][2:5],
+            self.said_of(10, chain, (), "--full")[1][2:5],
             [
                 "  5  link 4 (4-5) is lone: its loss cuts off units 0 to 4 from 5 others",
                 "  4  unit 4 is a single point: its loss cuts off units 0 to 3 from 5 others",
@@ -290,6 +292,61 @@ class Words(Door):
             self.said_of(8, tails)[1][2],
             "  4  unit 0 is a single point: its loss leaves 4 parts: units 3, 4, each alone; units 1, 2; 3 others",
         )
+
+    def test_chains_are_folded(self):
+        """Two rings with a chain between them, and a chain with two ends; with --full each place alone."""
+        rings = [(0, 1), (1, 2), (0, 2), (16, 17), (17, 18), (16, 18)]
+        links = rings + [(v, v + 1) for v in range(2, 16)]
+        told = "  9  units 2 to 16 in one chain: each of 15 units and 14 links is weak: a loss cuts off 2 to 9 units"
+        self.assertEqual(self.said_of(19, links)[1][2:4], [told, "the 3 links among units 0, 1, 2 back each other up"])
+        self.assertEqual(len(self.said_of(19, links, (), "--full")[1]), 2 + 15 + 14 + 2 + 2)
+        chain = [(v, v + 1) for v in range(9)]
+        told = "  5  units 1 to 8 in one chain: each of 8 units and 9 links is weak: a loss cuts off 1 to 5 units"
+        self.assertEqual(self.said_of(10, chain)[1][2], told)
+        names = [(v, f"N{v}") for v in range(10)]
+        self.assertIn("units 1 (N1) to 8 (N8) in one chain", self.said_of(10, chain, names)[1][2])
+
+    def test_chains_that_do_not_count_up(self):
+        row = [4, 9, 0, 7, 2, 5, 1, 8, 3, 6]
+        said = self.said_of(10, list(zip(row, row[1:])))[1][2:4]
+        told = "  5  the units from 9 over 0 to 3 in one chain: each of 8 units and 9 links is weak: a loss cuts off 1 to 5"
+        self.assertEqual(said, [told, "     units"])
+        said = self.said_of(4, [(2, 0), (0, 3), (3, 1)])[1][2]
+        self.assertEqual(said, "  2  units 3, 0 in one chain: each of 2 units and 3 links is weak: a loss cuts off 1 to 2 units")
+
+    def test_ends_are_folded(self):
+        told = "  1  units 1 to 5, each on one lone link to unit 0: each of 5 links is weak: a loss cuts off 1 unit"
+        self.assertIn(told, self.said_of(6, [(0, v) for v in range(1, 6)])[1])
+
+    def test_every_weak_place_is_in_one_line(self):
+        """Folded or not, each weak place is told once, the worst first: against removal."""
+        folded = 0
+        for seed in range(150):
+            pick = random.Random(seed)
+            units = pick.randint(2, 16)
+            pairs = [(v, v + 1) for v in range(units - 1)] if seed % 2 else list(itertools.combinations(range(units), 2))
+            links = pick.sample(pairs, min(len(pairs), pick.randint(units // 2, units + 1)))
+            links += [(0, v) for v in range(2, units) if pick.random() < 0.2 and (0, v) not in links]
+            losses = Losses(Site(units, links, [-127] * len(links)))
+            told = Folding(losses, losses.weak()).in_order()
+            cuts = [most_cut(each) for each in told]
+            self.assertEqual(cuts, sorted(cuts, reverse=True))
+            keys = []
+            for each in told:
+                places = each.places if isinstance(each, Fold) else [each]
+                folded += isinstance(each, Fold)
+                keys += [frozenset(place.ends) if place.ends else place.number for place in places]
+            self.assertEqual(len(keys), len(set(keys)))
+            self.assertEqual(set(keys), set(weak_by_removal(units, links)))
+        self.assertGreater(folded, 30)
+
+    def test_no_line_is_broken_inside_a_range(self):
+        """Sites with many ranges: whatever the width, `to` stands with both its numbers."""
+        for seed in range(40):
+            pick = random.Random(seed)
+            links = [(v, v + 1) for v in range(199) if pick.random() < 0.9]
+            said = "\n".join(self.said_of(200, links)[1])
+            self.assertNotRegex(said, r"\d *\n[ !]*to \d|\bto *\n[ !]*\d")
 
     def test_names(self):
         names = [(0, "head N1"), (2, "gate"), (3, "relay")]
@@ -501,9 +558,10 @@ class PlainText(Door):
             ("units 5\n" + "1" * 5000 + "-0\n", "line 2: there is no unit 111111111"),
             ("units 5\n2-2\n", "line 2: the link joins unit 2 to itself"),
             ("units 5\n0-1\n1-2\n1-0 -50\n", "line 4: units 1 and 0 have a link already, in line 2"),
-            ("units 5\n0 - 1\n", "line 2: '0 - 1': a link is written without spaces"),
-            ("units 5\n0 1\n", "line 2: '0 1' is not understood: a line is a link like 0-1"),
-            ("units 5\n0-1-2\n", "line 2: '0-1-2': a link is written without spaces, like 0-1"),
+            ("units 5\n0 1\n", "line 2: '0 1' is not understood: a link is written with a dash, like 0-1"),
+            ("units 5\n0-1-2\n", "line 2: '0-1-2': a link has two units, like 0-1, and its level stands behind a space"),
+            ("units 5\n0 - 1 - 2 - 3\n", "line 2: '0 - 1 - 2 - 3': a link has two units"),
+            ("units 5\ngate\n", "line 2: 'gate' is not understood: a line is a link like 0-1"),
             ("units 5\n0-1 63\n", "line 2: '63' is no level: it is -127 to 0 dBm"),
             ("units 5\n0-1 -128\n", "line 2: '-128' is no level: it is -127 to 0 dBm"),
             ("units 5\n0-1 -6.5\n", "line 2: '-6.5' is no level: it is a number of dBm, -127 to 0"),
@@ -542,7 +600,7 @@ class PlainText(Door):
         code, said, told = self.run_door("-", "--to-file", "-", given=named)
         self.assertEqual((code, said.encode()), (0, file_of(4, [(0, 1)])))
         self.assertEqual(told, "no link ends at units 2, 3: a handset refuses such a table with 22\n")
-        self.fails(self.run_door("-", "--to-text", "-", given=file[:-1]), "-: line 6: the line lacks its line feed")
+        self.fails(self.run_door("-", "--to-text", "-", given=file[:-1]), "-: its last line lacks the line feed: press Enter")
         self.fails(self.run_door("-", "--to-file", "-", given=b"units 2\n0-0\n"), "-: line 2: the link joins unit 0 to itself")
 
 
@@ -781,7 +839,7 @@ class Programs(Door):
             self.fails(self.run_door(example("case-b.txt"), "--program", path), words)
         self.fails(self.run_door(example("case-b.txt"), "--program", self.program("exit 0")), "the report is empty")
         self.fails(self.run_door(example("case-b.txt"), "--program", self.program("echo hello")), "line 1: the character 'h'")
-        with mock.patch.object(survey, "SECONDS", 0.2):
+        with mock.patch.object(judge, "SECONDS", 0.2):
             self.fails(self.run_door(example("case-b.txt"), "--program", self.program("exec sleep 20")), "it was stopped after 0.2 seconds")
 
     def test_the_program_on_every_vector(self):
@@ -790,7 +848,7 @@ class Programs(Door):
         for path in vectors("*", VECTORS) + vectors("*", LEVELS):
             with self.subTest(os.path.basename(path)):
                 file = contents(path + ".in")
-                self.assertEqual(survey.run_program(PROGRAM, file), contents(path + ".out"))
+                self.assertEqual(judge.run_program(PROGRAM, file), contents(path + ".out"))
                 if len(file) < 500:
                     self.assertEqual(self.run_door(path + ".in", "--program", PROGRAM), self.run_door(path + ".in", "--report", path + ".out"))
 
@@ -825,9 +883,9 @@ class Outputs(Door):
         report = "--report", example("case-b.report.txt")
         self.run_door(named, *report, "--svg", "-", "--full", "--before", example("case-e.txt"))
         self.run_door(named, *report, "--html", self.at("x"))
-        (losses, names, before, full), page = self.made
-        self.assertEqual((losses.site.units, names, before.site.units, full), (4, {3: "relay"}, 5, True))
-        self.assertEqual((page[0].site.units, *page[1:]), (4, {3: "relay"}, None))
+        (losses, names, before, *drawn), page = self.made
+        self.assertEqual((losses.site.units, names, before.site.units, *drawn), (4, {3: "relay"}, 5, True, None, True))
+        self.assertEqual((page[0].site.units, *page[1:]), (4, {3: "relay"}, None, None, True))
 
     def test_unwritable(self):
         """The words are there all the same."""
