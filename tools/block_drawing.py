@@ -6,6 +6,7 @@ rather than leaving the page to the right.
 from ink import DASH, FONT, INK, PAGE, WEAK, escape, opened, path, straight, text, width_of, wrapped
 from blocks import Forest, Point
 from captions import deaf_units, footer, header, linked_groups
+from legend import Rows, name_rows, spare_rows
 from losses import counted, listed
 
 LINE = 19  # from one line of text to the next
@@ -16,6 +17,7 @@ STEP = 17  # from a single point to what hangs on it
 INDENT = 20  # from a box to the single points below it
 NARROW = 90  # no text is set narrower
 EDGE = 16
+HEADED = 160  # about as high as the lines over and under a tree
 
 
 def pill_width(v):
@@ -326,46 +328,60 @@ def fitted(losses, high):
     raise AssertionError("a site of 256 units fits three pages")
 
 
-def legend(losses, wide):
+def legend(losses, wide, found=None):
+    """What the marks of the tree mean, and the spares that are proposed."""
     rows = []
 
     def row(sample, said):
         rows.append((sample, 26, wrapped(said, wide - 100)))
 
+    def box(radius, color, stroke):
+        frame = f'x="-20" y="-9" width="40" height="18" rx="{radius}" fill="white"'
+        return f'<rect {frame} stroke="{color}" {stroke}/>'
+
     if losses.unit_parts:
-        row(pill(-14, 0, 0).replace(">0</text>", "></text>"), "single point: its loss parts what hangs on it from the rest; in boxes, bold")
+        sample = pill(-14, 0, 0).replace(">0</text>", "></text>")
+        row(sample, "single point: its loss parts what hangs on it from the rest; in boxes, bold")
     if losses.link_parts:
-        row(path(straight(-22, 0, 22, 0), WEAK, 3.5, "6 4"), "lone link; in a dashed box, units on one lone link each, or a chain of lone links")
+        sample = path(straight(-22, 0, 22, 0), WEAK, 3.5, "6 4")
+        row(sample, "lone link; in a dashed box, units on one lone link each, or a chain of lone links")
     if losses.backed():
-        box = f'<rect x="-20" y="-9" width="40" height="18" rx="3" fill="white" stroke="{INK}" stroke-width="2.2"/>'
-        row(box, "units whose links back each other up: any one of these links may fail")
+        sample = box(3, INK, 'stroke-width="2.2"')
+        row(sample, "units whose links back each other up: any one of these links may fail")
     if deaf_units(losses):
-        box = f'<rect x="-20" y="-9" width="40" height="18" rx="8" fill="white" stroke="{WEAK}" stroke-width="3" stroke-dasharray="2 4"/>'
-        row(box, f"hears nobody: {counted(len(deaf_units(losses)), 'unit')}")
-    return rows
+        sample = box(8, WEAK, 'stroke-width="3" stroke-dasharray="2 4"')
+        row(sample, f"hears nobody: {counted(len(deaf_units(losses)), 'unit')}")
+    proposed = Rows(wide)
+    spare_rows(proposed, found)
+    return rows + proposed.rows
 
 
-def named(losses, names, wide):
+def named(losses, names):
     """The names of the units at weak places."""
     weak = set(losses.unit_parts) | set(deaf_units(losses)) | {v for j in losses.link_parts for v in losses.site.links[j]}
-    said = ", ".join(f"{v} = {names[v]}" for v in sorted(weak) if v in names) if names else ""
-    return [("", 20, wrapped("names: " + said, wide - 100))] if said else []
+    return {v: names[v] for v in sorted(weak) if v in names} if names else {}
 
 
-def svg_of(losses, names=None, bare=False):
+def largeness(losses):
+    """How many times larger than a page the block tree is."""
+    return fitted(losses, HEADED)[3]
+
+
+def svg_of(losses, names=None, bare=False, found=None, proved=True):
     """The block tree of a site; bare, without the lines over it."""
-    wide = PAGE[0]
+    names = named(losses, names)
     for large in (1, 1.5, 2.2):
-        rows = legend(losses, large * wide) + named(losses, names, large * wide)
-        head, top = header(losses, 0, 0, large * wide)
-        _, foot = footer(rows, 0, 0)
+        wide = large * PAGE[0]
+        head, top = header(losses, 0, 0, wide, proved)
+        _, foot = footer(legend(losses, wide, found), 0, 0)
+        _, foot = name_rows(names, 0, foot, wide)
         if foot - top < 0.6 * PAGE[1] * large:
             break
     outline, tops, room, large = fitted(losses, foot - top + 20)
-    wide = large * wide
+    wide = large * PAGE[0]
     drawn, high = columns(outline, tops, room)
-    rows = legend(losses, wide) + named(losses, names, wide)
-    head, top = header(losses, 0, 0, wide) if not bare else ([], 0)
-    feet, bottom = footer(rows, 0, high + 14)
+    head, top = header(losses, 0, 0, wide, proved) if not bare else ([], 0)
+    feet, bottom = footer(legend(losses, wide, found), 0, high + 14)
+    told, bottom = name_rows(names, 0, bottom, wide)
     title = f"{losses.site.units} units, {len(losses.site.links)} links: the block tree"
-    return "\n".join(opened(0, top, wide, bottom - top, title) + head + drawn + feet + ["</svg>"]) + "\n"
+    return "\n".join(opened(0, top, wide, bottom - top, title) + head + drawn + feet + told + ["</svg>"]) + "\n"

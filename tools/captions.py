@@ -3,6 +3,9 @@ from ink import FONT, INK, WEAK, text, wrapped
 from losses import counted, listed
 
 
+UNPROVED = "NOT BY THE PROVED PROGRAM: each unit and link was taken away once instead"
+
+
 def deaf_units(losses):
     """The units that hear nobody; a site of one unit has none."""
     return [part[0] for part in losses.groups if len(part) == 1] if losses.site.units > 1 else []
@@ -26,14 +29,15 @@ def pieces(losses):
     return said
 
 
-def header(losses, left, bottom, wide):
+def header(losses, left, bottom, wide, proved=True):
     """The lines over a drawing, which end at its bottom, and where they begin."""
     site = losses.site
     first = (
         f"{counted(site.units, 'unit')}, {counted(len(site.links), 'link')}: "
         f"{counted(len(losses.unit_parts), 'single point')}, {counted(len(losses.link_parts), 'lone link')}"
     )
-    loud = [line for said in pieces(losses) for line in wrapped(said, wide - 70, FONT + 1, True)]
+    told = [*([] if proved else [UNPROVED]), *pieces(losses)]
+    loud = [line for said in told for line in wrapped(said, wide - 70, FONT + 1, True)]
     titles = wrapped(first, wide - 40, FONT, True)
     box = 24 * len(loud) + 14 if loud else 0
     top = bottom - 22 * len(titles) - (box + 20 if loud else 0) - 14

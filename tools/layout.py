@@ -3,6 +3,7 @@
 A group is laid out by springs, or, where its links are too many for that, on a rim across which they bend. Groups stand in frames of
 their own, and so do, together, the units that hear nobody.
 """
+import itertools
 import math
 from collections import namedtuple
 
@@ -19,8 +20,8 @@ NAMES = 22  # and more at the sides and below, where units have names
 HEADED = 12 * FONT  # a frame is no narrower
 LEAST = 560  # a page is no narrower
 GAP = 18  # between frames
-ROOM = PAGE[0] - 2 * GAP, 1190  # what the units of a site of up to 60 may fill
-ROOMY = 60  # up to so many units
+ROOM = PAGE[0] - 2 * GAP, 1190  # what the units of a site may fill on one page
+ROOMY = 140  # up to so many units
 
 # frames are (x, y, wide, high, units), rims (x, y, radius, angle from unit to unit) by unit
 Layout = namedtuple("Layout", "places wide high frames deaf rims")
@@ -259,8 +260,8 @@ class Group:
         self.links = sorted({(min(v, w), max(v, w)) for v in part for w, _ in near[v]})
         self.radius = 0
         self.centre = 0.0, 0.0
-        hub = hub_of(near, part)
-        if hub is not None or (len(part) > 4 and len(self.links) > DENSE * len(part)):
+        on_a_rim, hub = rimmed(near, part)
+        if on_a_rim:
             self.at, self.radius = on_rim(near, part, hub)
             self.turn = 2 * math.pi / (len(part) - (hub is not None))
             self.rim = [v for v in part if v != hub]
@@ -323,6 +324,40 @@ def grid_of(units, limit):
 def margin(groups, named):
     """Around the units of a group; a frame has room for names."""
     return MARGIN + (NAMES if named and len(groups) > 1 else 0)
+
+
+def crossings(places, links):
+    """How many pairs of links cross, were they all straight."""
+    lines = []
+    for a, b in links:
+        (ax, ay), (bx, by) = places[a], places[b]
+        lines.append((min(ax, bx), max(ax, bx), ax, ay, bx, by, a, b))
+    lines.sort()
+    found = 0
+    for i, (_, right, ax, ay, bx, by, a, b) in enumerate(lines):
+        for left, _, cx, cy, dx, dy, c, d in itertools.islice(lines, i + 1, None):
+            if left > right:
+                break
+            if a in (c, d) or b in (c, d):
+                continue
+            of_c, of_d = ((bx - ax) * (y - ay) - (by - ay) * (x - ax) for x, y in ((cx, cy), (dx, dy)))
+            of_a, of_b = ((dx - cx) * (y - cy) - (dy - cy) * (x - cx) for x, y in ((ax, ay), (bx, by)))
+            found += of_c * of_d < 0 and of_a * of_b < 0
+    return found
+
+
+def rimmed(near, part):
+    """Whether a group stands on a rim, and its hub if it has one."""
+    hub = hub_of(near, part)
+    links = sum(len(near[v]) for v in part) / 2
+    return hub is not None or (len(part) > 4 and links > DENSE * len(part)), hub
+
+
+def largeness(near, groups):
+    """How many times larger than a page a layout must be for its digits."""
+    units = sum(len(part) for part in groups)
+    widest = max(len(part) * ON_RIM[0] / math.pi if rimmed(near, part)[0] else 0 for part in groups)
+    return max(1.0, (units / ROOMY) ** 0.5, widest / ROOM[0])
 
 
 def laid_out(near, groups, named=False):

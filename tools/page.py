@@ -212,7 +212,7 @@ def html_of(losses, names=None, before=None, found=None, proved=True):
     tools += '<button data-key="">clear</button>'
     whole = inline(drawing.full_svg(losses, names, before, bare=True))
     sheets = f'<div class="sheet" id="whole">{whole}</div>'
-    if site.units > drawing.FULL:
+    if not drawing.is_full(losses, bool(names)):
         for sheet, said, first in ("blocks", "weak places", "true"), ("whole", "all units and links", "false"):
             tools += f'<button data-show="{sheet}" aria-pressed="{first}">{said}</button>'
         tree = inline(block_drawing.svg_of(losses, names, bare=True))

@@ -12,6 +12,7 @@ import re
 import unittest
 import xml.etree.ElementTree as ElementTree
 
+import block_drawing
 import blocks
 import drawing
 import ink
@@ -462,7 +463,7 @@ def special_sites():
 def large_drawings():
     sites = [(name, losses_of(units, links)) for name, units, links in repository_sites() if units > 60]
     sites += special_sites()
-    return [(name, losses, ElementTree.fromstring(drawing.svg_of(losses))) for name, losses in sites]
+    return [(name, losses, ElementTree.fromstring(block_drawing.svg_of(losses))) for name, losses in sites]
 
 
 def numbers_in(said):
@@ -590,9 +591,46 @@ class Blocks(unittest.TestCase):
         self.assertEqual("NOBODY" in said, any(len(part) == 1 for part in losses.groups))
         self.assertEqual("SEPARATE GROUPS" in said, sum(len(part) > 1 for part in losses.groups) > 1)
 
-    def test_names_of_weak_places(self):
-        losses = made(70, [(i, i + 1) for i in range(69)])
-        self.assertIn("5 = head N5, 69 = end", "".join(ElementTree.fromstring(drawing.svg_of(losses, {5: "head N5", 69: "end"})).itertext()))
+
+def town(units, seed):
+    """Streets between crossings that stand in rows, some of them missing."""
+    pick = random.Random(seed)
+    rows = [(v, v + 1) for v in range(units - 1) if v % 16 < 15 and pick.random() < 0.75]
+    return made(units, rows + [(v, v + 16) for v in range(units - 16) if pick.random() < 0.75])
+
+
+def rings_in_a_row(units):
+    """Rings of six units, each joined to the next by a lone link: as a block tree, a staircase."""
+    links = []
+    for start in range(0, units - 5, 6):
+        links += [(start + k, start + (k + 1) % 6) for k in range(6)] + [(start + 3, start + 6)] * (start + 6 < units - 5)
+    return made(units - units % 6, links)
+
+
+class Kinds(unittest.TestCase):
+    """Every unit and link is drawn where that is legible, else the block tree."""
+
+    def test_what_is_legible(self):
+        pick = random.Random(4)
+        crossed = [pick.sample(range(100), 2) for _ in range(230)]
+        star = [(0, v) for v in range(1, 200)]
+        for name, losses, full in [
+            ("town of 120", town(120, 1), True),
+            ("town of 256", town(256, 2), True),
+            ("rings", rings_in_a_row(256), True),
+            ("links that cross", made(100, crossed), False),
+            ("star", made(200, star), False),
+        ]:
+            with self.subTest(name):
+                root = ElementTree.fromstring(drawing.svg_of(losses))
+                heights = digit_heights(root)
+                if full:
+                    self.assertEqual(len(circles(root)), losses.site.units)
+                    self.assertEqual(list(lies(losses, root)), [])
+                else:
+                    kinds = {g.get("class") for g in root.iter(SVG + "g")}
+                    self.assertTrue(kinds & {"box set", "box ends"})
+                self.assertGreaterEqual(min(heights), 1.8 if not full or losses.site.units <= 140 else 1.3)
 
 
 class Large(unittest.TestCase):
