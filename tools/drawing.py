@@ -220,7 +220,7 @@ class Sheet:
         beside, left_over = self.words_beside()
         units, singles = self.units(beside)
         numbers = self.numbers(False)
-        head, top = header(self.was, self.left, self.above, self.wide, proved) if not bare else ([], self.above)
+        head, top = header(self.was, self.left, self.above, self.wide, proved) if not bare else ([], self.above - 8)
         room = PAGE[1] - self.under + top - 30
         rows = legend(self.losses, self.was, self.styles, self.tags, self.wide, room, self.grouped, self.found)
         foot, bottom = footer(rows, self.left, self.under + 8)

@@ -4,6 +4,7 @@ What a tap shows is tried in Chromium without a window, from Debian's package ch
 cut off is flooded here anew.
 """
 import glob
+import html
 import html.parser
 import json
 import os
@@ -123,11 +124,19 @@ class Written(unittest.TestCase):
     def test_the_list_is_in_working_order(self):
         for losses in road(), stored("bridge_chain"), stored("tree_256"):
             cut = {key: sum(map(len, parts)) for key, parts in wanted(losses).items() if parts}
-            keys = [a["data-key"] for tag, a in Elements(page.html_of(losses)).found if tag == "li" and "data-key" in a]
+            found = [(tag, a) for tag, a in Elements(page.html_of(losses)).found if tag in ("li", "details")]
+            keys = [a["data-key"] for tag, a in found if "data-key" in a]
             deaf = [f"u{part[0]}" for part in losses.groups if len(part) == 1]
             self.assertEqual(keys[: len(deaf)], deaf)
             self.assertEqual(sorted(keys[len(deaf) :]), sorted(cut))
-            counts = [cut[key] for key in keys[len(deaf) :]]
+            # the worst first: within a chain that is folded, and among chains and places
+            folds = re.split(r'<li class="fold">|</details>', page.html_of(losses))
+            for inner in folds[1::2]:
+                counts = [cut[key] for key in re.findall(r'data-key="(\w+)"', inner)]
+                self.assertEqual(counts, sorted(counts, reverse=True))
+                self.assertIn(f"<summary><b>{counts[0]}</b> ", inner)
+            top = re.sub(r'(?s)<details><summary>(.*?)</summary>.*?</details>', r"\1", page.html_of(losses))
+            counts = [int(k) for k in re.findall(r"<b>(\d+)</b>", top)]
             self.assertEqual(counts, sorted(counts, reverse=True))
 
     def test_every_unit_and_link_can_be_tapped(self):
@@ -186,15 +195,73 @@ class Tapped(unittest.TestCase):
         self.addCleanup(folder.cleanup)
         self.folder = folder.name
 
-    def opened(self, written, fragment=""):
-        """The page's elements after its script ran."""
+    def browser(self, written, *options, fragment=""):
+        """What the browser prints about a page."""
         path = os.path.join(self.folder, "page.html")
         with open(path, "w", encoding="utf-8") as file:
             file.write(written)
         command = [CHROMIUM, "--headless", "--no-sandbox", "--disable-gpu", f"--user-data-dir={self.folder}/browser"]
-        command += ["--virtual-time-budget=20000", "--dump-dom", f"file://{path}{fragment}"]
-        done = subprocess.run(command, capture_output=True, timeout=PATIENCE, check=True)
-        return done.stdout.decode()
+        command += ["--virtual-time-budget=20000", *options, f"file://{path}{fragment}"]
+        return subprocess.run(command, capture_output=True, timeout=PATIENCE, check=True).stdout.decode()
+
+    def opened(self, written, fragment="", *options):
+        """The page's elements after its script ran."""
+        return self.browser(written, *options, "--dump-dom", fragment=fragment)
+
+    def told_by(self, written, script, *options):
+        """What a script that runs in the page gives back."""
+        say = 'const say = (what) => { document.getElementById("told").textContent = JSON.stringify(what); };'
+        body = f'<pre id="told"></pre><script>(async () => {{ {say} {script} }})();</script></body>'
+        dom = self.opened(written.replace("</body>", body), "", *options)
+        return json.loads(html.unescape(re.search(r'<pre id="told">(.*?)</pre>', dom, re.S)[1]))
+
+    def test_legible_on_a_phone(self):
+        """60 units with names on a screen 390 wide: digits are as high as in small print, and what is wider scrolls."""
+        losses = site_of(60, [(v, v + 1) for v in range(59)] + [(v, v + 2) for v in range(0, 58, 4)])
+        script = """
+          const sheet = document.querySelector(".sheet");
+          const high = Array.from(sheet.querySelectorAll("[data-unit] > text"), (e) => e.getBoundingClientRect().height);
+          say({high: Math.min(...high), scrolls: sheet.scrollWidth > sheet.clientWidth,
+               wide: document.documentElement.scrollWidth, screen: window.innerWidth});"""
+        told = self.told_by(page.html_of(losses, {v: f"head {v}" for v in range(60)}), script, "--window-size=390,844")
+        self.assertGreaterEqual(told["high"], 12)
+        self.assertTrue(told["scrolls"])
+        self.assertLessEqual(told["wide"], told["screen"])
+
+    def test_by_key(self):
+        """Tab reaches one unit of the drawing, arrows go on to every unit and link, Enter shows what its loss cuts off."""
+        losses = stored("case_b")
+        script = """
+          const press = (key) => document.activeElement.dispatchEvent(new KeyboardEvent("keydown", {key: key, bubbles: true}));
+          const stops = Array.from(document.querySelectorAll("#whole [tabindex='0']"));
+          const seen = [], shown = {};
+          stops[0].focus();
+          for (let k = 0; k < 8; k++) {
+            const e = document.activeElement;
+            const key = e.hasAttribute("data-unit") ? "u" + e.getAttribute("data-unit") : "l" + e.getAttribute("data-link");
+            seen.push(key);
+            const changed = new Promise((done) => window.addEventListener("hashchange", done, {once: true}));
+            press("Enter");
+            await changed;
+            shown[key] = document.body.getAttribute("data-chosen");
+            press("ArrowRight");
+          }
+          const label = document.querySelector("#whole [data-unit='2']").getAttribute("aria-label");
+          say({stops: stops.length, seen: seen, shown: shown, label: label, sheet: document.getElementById("whole").tabIndex});"""
+        told = self.told_by(page.html_of(losses), script)
+        self.assertEqual((told["stops"], told["sheet"]), (1, 0))
+        self.assertEqual(told["seen"], ["u0", "u1", "u2", "u3", "l0", "l1", "l2", "l3"])
+        self.assertEqual(told["shown"], {key: key for key in told["seen"]})
+        self.assertEqual(told["label"], "unit 2: single point")
+
+    @unittest.skipUnless(shutil.which("pdftotext"), "no pdftotext here: apt-get install poppler-utils")
+    def test_printed_whole(self):
+        """A road of 40 named units on paper: every name is there."""
+        losses = site_of(40, [(v, v + 1) for v in range(39)])
+        paper = os.path.join(self.folder, "paper.pdf")
+        self.browser(page.html_of(losses, {v: f"head-{v}-end" for v in range(40)}), f"--print-to-pdf={paper}")
+        said = subprocess.run(["pdftotext", "-f", "1", "-l", "1", paper, "-"], capture_output=True, check=True).stdout.decode()
+        self.assertEqual({int(v) for v in re.findall(r"head-(\d+)-end", said)}, set(range(40)))
 
     def test_by_address(self):
         losses = road()
