@@ -1,7 +1,8 @@
-"""The block tree drawn as an outline: a box for each set of links that back each other up, single points between the boxes, lone links dashed.
+"""The block tree drawn as an outline: a box for each set of links that back each other up, single points between the
+boxes, lone links dashed.
 
-What hangs on a single point stands to its right and below; the heaviest branch goes on straight down, so that a long site fills columns
-rather than leaving the page to the right.
+What hangs on a single point stands to its right and below; the heaviest branch goes on straight down, so that a long
+site fills columns rather than leaving the page to the right.
 """
 from ink import DASH, FONT, INK, PAGE, WEAK, escape, opened, path, straight, text, width_of, wrapped
 from blocks import Forest, Point
@@ -73,7 +74,10 @@ def along(units, marked):
             k = i
             words.append(units[i])
         i = k + 1
-    said = [(str(word) + (" -" if n < len(words) - 1 else ""), word in marked or word == "…") for n, word in enumerate(words)]
+    said = [
+        (str(word) + (" -" if n < len(words) - 1 else ""), word in marked or word == "…")
+        for n, word in enumerate(words)
+    ]
     return said
 
 
@@ -113,7 +117,9 @@ def together(words, wide):
 
 def set_in_lines(words, wide):
     """The words in lines no wider than this."""
-    words = [(part, weak) for said, weak in words for part in (said.split(" ") if width_of(said) > wide / 2 else [said])]
+    words = [
+        (part, weak) for said, weak in words for part in (said.split(" ") if width_of(said) > wide / 2 else [said])
+    ]
     lines, room = [[]], wide
     for bunch, taken in together(words, wide):
         if lines[-1] and taken > room:
@@ -122,6 +128,10 @@ def set_in_lines(words, wide):
         lines[-1] += bunch
         room -= taken
     return lines
+
+
+def spaced(numbers):
+    return " ".join(map(str, numbers))
 
 
 class Narrow(Exception):
@@ -143,7 +153,9 @@ class Outline:
         for k, part in enumerate(parts):
             alike = sizes.count(len(part))
             if len(losses.groups) > 1 and sizes.index(len(part)) == k:
-                self.heading(f"{alike} groups of {len(part)} units each" if alike > 1 else f"group of {len(part)} units")
+                self.heading(
+                    f"{alike} groups of {len(part)} units each" if alike > 1 else f"group of {len(part)} units"
+                )
             elif alike > 1 and len(part) > 2:
                 self.rule()
             root = next(root for root in forest.roots if self.holds(root, part))
@@ -192,17 +204,24 @@ class Outline:
         lines = set_in_lines(words, room)
         w = max(sum(width_of(said + " ", FONT, weak) for said, weak in line) for line in lines) + 2 * PAD
         top, high = y - PILL, 2 * PILL + LINE * (len(lines) - 1)
-        look = {"set": f'stroke="{INK}" stroke-width="2.2"', "deaf": f'stroke="{WEAK}" stroke-width="3" stroke-dasharray="2 4"'}
+        look = {
+            "set": f'stroke="{INK}" stroke-width="2.2"',
+            "deaf": f'stroke="{WEAK}" stroke-width="3" stroke-dasharray="2 4"',
+        }
         frame = look.get(kind, f'stroke="{WEAK}" stroke-width="2.2" stroke-dasharray="{DASH}"')
         said = []
         for k, line in enumerate(lines):
-            spans = " ".join(f'<tspan font-weight="bold" fill="{WEAK}">{escape(word)}</tspan>' if weak else escape(word) for word, weak in line)
+            spans = " ".join(
+                f'<tspan font-weight="bold" fill="{WEAK}">{escape(word)}</tspan>' if weak else escape(word)
+                for word, weak in line
+            )
             said.append(f'<text x="{x + PAD:.1f}" y="{y + FONT * 0.36 + LINE * k:.1f}" fill="{INK}">{spans}</text>')
         flat = [v for u in units for v in (u if isinstance(u, list) else [u])]
         self.grown(top + high)
         self.put(
-            f'<g class="box {kind}" data-units="{" ".join(map(str, sorted(set(flat))))}" data-links="{" ".join(map(str, links))}">'
-            f'<rect x="{x:.1f}" y="{top:.1f}" width="{w:.1f}" height="{high:.1f}" rx="{3 if kind == "set" else 8}" fill="white" {frame}/>'
+            f'<g class="box {kind}" data-units="{spaced(sorted(set(flat)))}" data-links="{spaced(links)}">'
+            f'<rect x="{x:.1f}" y="{top:.1f}" width="{w:.1f}" height="{high:.1f}" rx="{3 if kind == "set" else 8}" '
+            f'fill="white" {frame}/>'
             f'{"".join(said)}</g>'
         )
         return top + high
@@ -222,7 +241,8 @@ class Outline:
         self.points(node, x, x, bottom)
 
     def points(self, node, x, heavy_x, bottom):
-        """The single points of a box that ends at bottom, each with what hangs on it; the last stands at heavy_x if more follows there."""
+        """The single points of a box that ends at bottom, each with what hangs on it; the last stands at heavy_x if
+        more follows there."""
         dashed = node.kind != "set"
         for point in node.points:
             heavy = heavy_x is not None and point is node.points[-1] and any(n.points for n in point.nodes)
@@ -258,7 +278,13 @@ class Outline:
                 self.point(node.points[0], x, y2)
                 break
             at = y if k == 0 else self.opened(2 * PILL)
-            self.level(x + w if k == 0 else x + 10, right, at, node.kind != "set", node.links[0] if node.kind == "link" else None)
+            self.level(
+                x + w if k == 0 else x + 10,
+                right,
+                at,
+                node.kind != "set",
+                node.links[0] if node.kind == "link" else None,
+            )
             rows.append(at)
             if node.kind == "link":
                 self.point(node.points[0], right, at)
@@ -270,7 +296,10 @@ class Outline:
         if len(rows) > 1:
             self.trunk(x + 10, y, rows[-1], False, WEAK)
         top = next(row for row in self.rows if row[0] <= y <= row[1])
-        top[2].append(f'<g class="single unit" data-unit="{point.unit}"><title>unit {point.unit}: single point</title>{pill(x, y, point.unit)}</g>')
+        top[2].append(
+            f'<g class="single unit" data-unit="{point.unit}"><title>unit {point.unit}: single '
+            f'point</title>{pill(x, y, point.unit)}</g>'
+        )
 
 
 def cut(outline, high):
@@ -358,7 +387,9 @@ def legend(losses, wide, found=None):
 
 def named(losses, names):
     """The names of the units at weak places."""
-    weak = set(losses.unit_parts) | set(deaf_units(losses)) | {v for j in losses.link_parts for v in losses.site.links[j]}
+    weak = set(losses.unit_parts) | set(deaf_units(losses)) | {
+        v for j in losses.link_parts for v in losses.site.links[j]
+    }
     return {v: names[v] for v in sorted(weak) if v in names} if names else {}
 
 

@@ -22,7 +22,10 @@ def pieces(losses):
     said = []
     if len(groups) > 1:
         sizes = [len(part) for part in groups]
-        said.append(f"{len(groups)} SEPARATE GROUPS that no link joins, of {', '.join(map(str, sizes[:-1]))} and {sizes[-1]} units")
+        said.append(
+            f"{len(groups)} SEPARATE GROUPS that no link joins, of {', '.join(map(str, sizes[:-1]))} and {sizes[-1]} "
+            "units"
+        )
     if deaf:
         who = "1 UNIT HEARS NOBODY" if len(deaf) == 1 else f"{len(deaf)} UNITS HEAR NOBODY"
         said.append(f"{who}: {listed(deaf)}: switched on?")
@@ -51,7 +54,9 @@ def header(losses, left, bottom, wide, proved=True):
         frame = f'x="{left + 14:.0f}" y="{y:.0f}" width="{wide - 28:.0f}" height="{box}"'
         out.append(f'<g class="pieces"><rect {frame} rx="6" fill="white" stroke="{WEAK}" stroke-width="4"/>')
         for k, line in enumerate(loud):
-            out.append(text(left + 30, y + 23 + 24 * k, line, f'font-size="{FONT + 1}" font-weight="bold" fill="{WEAK}"'))
+            out.append(
+                text(left + 30, y + 23 + 24 * k, line, f'font-size="{FONT + 1}" font-weight="bold" fill="{WEAK}"')
+            )
         out.append("</g>")
     return out, top
 

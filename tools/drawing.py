@@ -1,7 +1,7 @@
 """A surveyed site drawn: every unit and link where that is legible, else the block tree.
 
-`svg_of` gives the text of the drawing. Weak places are drawn last, so that nothing hides them, and no link passes through a unit that
-is no end of it.
+`svg_of` gives the text of the drawing. Weak places are drawn last, so that nothing hides them, and no link passes
+through a unit that is no end of it.
 """
 import functools
 
@@ -25,8 +25,8 @@ NAMED_WIDE = 900  # a drawing with names is no narrower
 
 
 def styles_of(losses):
-    """A line for each label of more than one link. Up to three sets that meet at a unit differ in their line, and up to four in colour: each
-    set is chosen after one that it meets, so all that it must differ from meet at one unit."""
+    """A line for each label of more than one link. Up to three sets that meet at a unit differ in their line, and up
+    to four in colour: each set is chosen after one that it meets, so all that it must differ from meet at one unit."""
     sets = losses.backed()
     touched = [{v for j in links for v in losses.site.links[j]} for links in sets]
     meeting = {}
@@ -41,16 +41,18 @@ def styles_of(losses):
                 continue
             near = sorted({k for v in touched[i] for k in meeting[v]} - {i})
             taken = [chosen[k] for k in near if k in chosen]
-            wide, core = LINES[scarcest(range(len(LINES)), lambda n: LINES[n][0], [t.wide for t in taken], [t.wide for t in chosen.values()])]
-            color = COLORS[scarcest(range(len(COLORS)), lambda n: COLORS[n], [t.color for t in taken], [t.color for t in chosen.values()])]
+            used = list(chosen.values())
+            wides = [wide for wide, _ in LINES]
+            wide, core = LINES[scarcest(wides, [t.wide for t in taken], [t.wide for t in used])]
+            color = COLORS[scarcest(COLORS, [t.color for t in taken], [t.color for t in used])]
             chosen[i] = Line(color, wide, core)
             ahead += [k for k in near if k not in chosen]
     return {losses.labels[links[0]]: chosen[i] for i, links in enumerate(sets)}
 
 
-def scarcest(some, look, taken, used):
-    """Which of some has the look that is taken least, then used least."""
-    return min(some, key=lambda n: (taken.count(look(n)), used.count(look(n)), n))
+def scarcest(looks, taken, used):
+    """Which of some looks is taken least, then used least."""
+    return min(range(len(looks)), key=lambda n: (taken.count(looks[n]), used.count(looks[n]), n))
 
 
 def letters_of(losses):
@@ -236,7 +238,9 @@ def written(placed, look):
     """The lines of words beside a unit."""
     lines, (x, y), anchor = placed
     anchored = f'text-anchor="{anchor}"' if anchor != "start" else ""
-    return "".join(text(x, y + labels.LINE * k, said, f"{anchored} {look} {HALO}".strip()) for k, said in enumerate(lines))
+    return "".join(
+        text(x, y + labels.LINE * k, said, f"{anchored} {look} {HALO}".strip()) for k, said in enumerate(lines)
+    )
 
 
 def grouped_by_tag(losses, plan):
@@ -267,8 +271,8 @@ def full_svg(losses, names=None, before=None, bare=False, found=None, proved=Tru
 
 
 def is_full(losses, named=False):
-    """Whether every unit and link is drawn, and not the block tree: where that is legible on a page, or no less so than the
-    tree is."""
+    """Whether every unit and link is drawn, and not the block tree: where that is legible on a page, or no less so
+    than the tree is."""
     if losses.site.units <= SMALL:
         return True
     large = layout.largeness(neighbours_of(losses.site), losses.groups)

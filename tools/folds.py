@@ -1,10 +1,12 @@
-"""Weak places told in one breath: the units and links of a chain, and units that hang on one unit by a lone link each."""
+"""Weak places told in one breath: the units and links of a chain, and units that hang on one unit by a lone link
+each."""
 from collections import namedtuple
 
 CHAIN = 3  # from so many lone links in a row on they are a chain
 ENDS = 4  # from so many units on one lone link each on, at one unit, they are told together
 
-# several weak places: the units and links told, in their order, what hub they hang on (None for a chain), and the places
+# several weak places: the units and links told, in their order, what hub they hang on (None for a chain), and the
+# places
 Fold = namedtuple("Fold", "units links hub places")
 
 

@@ -1,7 +1,8 @@
 """Colours, lines and marks of the drawings, and the page that they must fit.
 
-Every meaning is told twice, by colour and by shape, so that a print in grey tells it as well: weak places are dark and either dashed or
-filled, links that back each other up are paler and unbroken, and sets of them that meet differ in their line.
+Every meaning is told twice, by colour and by shape, so that a print in grey tells it as well: weak places are dark
+and either dashed or filled, links that back each other up are paler and unbroken, and sets of them that meet differ
+in their line.
 """
 import unicodedata
 from collections import namedtuple
@@ -51,7 +52,8 @@ def opened(left, top, wide, high, title):
     scale = scale_on_sheet(wide, high)
     return [
         f'<svg xmlns="http://www.w3.org/2000/svg" viewBox="{left:.0f} {top:.0f} {wide:.0f} {high:.0f}" '
-        f'width="{wide * scale:.1f}mm" height="{high * scale:.1f}mm" font-family="DejaVu Sans, Arial, sans-serif" font-size="{FONT}">',
+        f'width="{wide * scale:.1f}mm" height="{high * scale:.1f}mm" '
+        f'font-family="DejaVu Sans, Arial, sans-serif" font-size="{FONT}">',
         f"<title>{escape(title)}</title>",
         f'<rect class="paper" x="{left:.0f}" y="{top:.0f}" width="{wide:.0f}" height="{high:.0f}" fill="white"/>',
     ]
@@ -116,7 +118,10 @@ def disc(x, y, said, kind):
         )
         look = f'fill="{INK}"'
     elif kind == "deaf":
-        marks = f'<circle cx="{x:.1f}" cy="{y:.1f}" r="{RADIUS}" fill="#e4e4e4" stroke="{INK}" stroke-width="3" stroke-dasharray="{DOTS}"/>'
+        marks = (
+            f'<circle cx="{x:.1f}" cy="{y:.1f}" r="{RADIUS}" fill="#e4e4e4" stroke="{INK}" stroke-width="3" '
+            f'stroke-dasharray="{DOTS}"/>'
+        )
         look = f'fill="{INK}" font-weight="bold"'
     else:
         marks = f'<circle cx="{x:.1f}" cy="{y:.1f}" r="{RADIUS}" fill="white" stroke="{INK}" stroke-width="1.5"/>'

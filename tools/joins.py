@@ -1,8 +1,8 @@
 """The block trees of a site to which links are added, and what each further link would do.
 
-A node is a block (units whose links back each other up, or the two ends of a lone link) or a single point, which touches
-several blocks. A link between two units makes one block of all that lie on the way between them: lone links on it are
-cured, and single points with nothing else hanging on them.
+A node is a block (units whose links back each other up, or the two ends of a lone link) or a single point, which
+touches several blocks. A link between two units makes one block of all that lie on the way between them: lone links
+on it are cured, and single points with nothing else hanging on them.
 """
 from collections import namedtuple
 
@@ -15,7 +15,8 @@ NOTHING = Gain(0, 0, 0)
 
 
 class Tree:
-    """Blocks by number with their units, those that are lone links, and the blocks at each unit; some units may be left out."""
+    """Blocks by number with their units, those that are lone links, and the blocks at each unit; some units may be
+    left out."""
 
     def __init__(self, losses, left_out=()):
         found = blocks_of(losses)
@@ -102,7 +103,8 @@ class Tree:
         return len(self.at) - 1
 
     def behind(self):
-        """For each unit and each block at it, how many units lie behind that block; for each unit, behind the fullest."""
+        """For each unit and each block at it, how many units lie behind that block; for each unit, behind the
+        fullest."""
         found = {}
         for part in self.pieces():
             steps = list(self.walk(part[0]))

@@ -40,8 +40,8 @@ def run_program(path, data):
 
 
 def site_of(given):
-    """The site of a survey file. Where it is none, the cause that lies in the file as a whole comes first, and last a word
-    on what may have been meant."""
+    """The site of a survey file. Where it is none, the cause that lies in the file as a whole comes first, and last
+    a word on what may have been meant."""
     try:
         return read_site(given.data)
     except Fault as fault:
@@ -97,7 +97,8 @@ def judged(given, source, data):
 
 
 def surveyed(program, given):
-    """What the losses of a table do and its report; without a program, by taking each unit and link away, and no report."""
+    """What the losses of a table do and its report; without a program, by taking each unit and link away, and no
+    report."""
     if program is None:
         return Losses(site_of(given)), None
     return judged(given, "the report", run_program(program, given.data))

@@ -1,7 +1,7 @@
 """Where words stand in a drawing: names beside their units and numbers beside their links, none over another.
 
-Room is kept as boxes and discs that are taken. A name stands in full, in one line or several; where it finds no room, it
-goes to the legend, under its unit's number.
+Room is kept as boxes and discs that are taken. A name stands in full, in one line or several; where it finds no
+room, it goes to the legend, under its unit's number.
 """
 import math
 
@@ -148,7 +148,8 @@ def around(x, y, w, h):
 
 
 def name_place(room, x, y, said):
-    """The lines of a name beside a unit, where the first stands and how they are anchored; None where there is no room."""
+    """The lines of a name beside a unit, where the first stands and how they are anchored; None where there is no
+    room."""
     best = None
     for count in 1, 2, 3, 4:
         lines = in_lines(said, count)

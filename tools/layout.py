@@ -1,7 +1,7 @@
 """Where the units of a site stand on the page. The same site always gives the same page.
 
-A group is laid out by springs, or, where its links are too many for that, on a rim across which they bend. Groups stand in frames of
-their own, and so do, together, the units that hear nobody.
+A group is laid out by springs, or, where its links are too many for that, on a rim across which they bend. Groups
+stand in frames of their own, and so do, together, the units that hear nobody.
 """
 import itertools
 import math
@@ -51,7 +51,8 @@ def shuffled(items, seed):
 
 
 def springs(near, part):
-    """Each pair of units is a spring as long as the way between them; pair by pair is moved to its length, by ever less."""
+    """Each pair of units is a spring as long as the way between them; pair by pair is moved to its length, by ever
+    less."""
     at = {v: [math.cos(2.4 * i) * (i + 1) ** 0.5, math.sin(2.4 * i) * (i + 1) ** 0.5] for i, v in enumerate(part)}
     if len(part) == 1:
         return at
@@ -144,7 +145,9 @@ def shoved(at, links, room):
             left, right = (p[0], q[0]) if p[0] < q[0] else (q[0], p[0])
             top, bottom = (p[1], q[1]) if p[1] < q[1] else (q[1], p[1])
             for v, r in at.items():
-                if r[0] < left - wanted or r[0] > right + wanted or r[1] < top - wanted or r[1] > bottom + wanted or v == a or v == b:
+                if v == a or v == b or not (left - wanted <= r[0] <= right + wanted):
+                    continue
+                if not top - wanted <= r[1] <= bottom + wanted:
                     continue
                 t = ((r[0] - p[0]) * x + (r[1] - p[1]) * y) / length
                 if not 0 < t < 1:
@@ -191,11 +194,14 @@ def sprung(at, scale, room, links):
 def across(near, order):
     """How far the links lead around a rim in all."""
     place = {v: i for i, v in enumerate(order)}
-    return sum(min((place[v] - place[w]) % len(order), (place[w] - place[v]) % len(order)) for v in order for w, _ in near[v])
+    return sum(
+        min((place[v] - place[w]) % len(order), (place[w] - place[v]) % len(order)) for v in order for w, _ in near[v]
+    )
 
 
 def walked(near, part):
-    """The units in the order of a walk that goes on to a neighbour while there is a new one, those with few links first."""
+    """The units in the order of a walk that goes on to a neighbour while there is a new one, those with few links
+    first."""
     order, seen = [], set()
     for start in sorted(part, key=lambda v: (len(near[v]), v)):
         ahead = [start]
@@ -378,7 +384,9 @@ def laid_out(near, groups, named=False):
     for share in 1, 0.9, 0.8, 0.7, 0.6, 0.5, 0.4, 0.3:
         for group in found:
             group.sized(share, most)
-        corners, sizes, wide, high = packed([group.size for group in found] + [size_of(grid)] * bool(alone), above, around, framed, room)
+        corners, sizes, wide, high = packed(
+            [group.size for group in found] + [size_of(grid)] * bool(alone), above, around, framed, room
+        )
         if high <= room[1]:
             break
     boxes = [group.settled() for group in found] + [grid] * bool(alone)
@@ -399,7 +407,8 @@ def laid_out(near, groups, named=False):
 
 
 def kept(old, near, groups, named=False):
-    """The layout of a site where each unit of an old layout stands as before; new units stand near those that they hear."""
+    """The layout of a site where each unit of an old layout stands as before; new units stand near those that they
+    hear."""
     places = {v: p for v, p in old.places.items() if v < len(near)}
     rims = {v: rim for v, rim in old.rims.items() if v < len(near)}
     fresh = [v for v in range(len(near)) if v not in places]

@@ -1,4 +1,5 @@
-"""The rows under a drawing of every unit and link: what its marks mean, and the names that found no room beside their units."""
+"""The rows under a drawing of every unit and link: what its marks mean, and the names that found no room beside
+their units."""
 from captions import deaf_units
 from ink import FONT, INK, WEAK, cured, disc, lone, spare_line, spare_mark, straight, styled, text, width_of, wrapped
 from losses import listed

@@ -1,7 +1,7 @@
 """Which two units a spare or a link may join: pairs that the foreman names, or units near enough to each other.
 
-Positions are in metres, along the road and across. Two units hear each other within the reach; where none is given, it is
-the length of the longest link of the table. A spare between two units reaches twice as far.
+Positions are in metres, along the road and across. Two units hear each other within the reach; where none is given,
+it is the length of the longest link of the table. A spare between two units reaches twice as far.
 """
 import math
 import os

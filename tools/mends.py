@@ -11,11 +11,16 @@ def causes(data):
     if data.startswith(b"\xef\xbb\xbf"):
         yield "a byte order mark stands before the first line: save it as UTF-8 without BOM"
     if b"\r" in data:
-        yield r"its lines end in a carriage return, as on Windows: save it with line ends LF (or: tr -d '\r' < OLD > NEW)"
+        yield (
+            r"its lines end in a carriage return, as on Windows: save it with line ends LF (or: tr -d '\r' < OLD > NEW)"
+        )
     if is_lower(data):
         yield "its digits A to F are in lower case: they must be in upper case (tr a-f A-F < OLD > NEW)"
     if data and not data.endswith(b"\n") and not data.endswith(b"\r"):
-        yield "its last line lacks the line feed: press Enter at its end and save it again (it may also have been cut short)"
+        yield (
+            "its last line lacks the line feed: press Enter at its end and save it again (it may also have been cut "
+            "short)"
+        )
 
 
 def is_lower(data):

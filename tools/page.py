@@ -1,7 +1,8 @@
-"""A page for the planner: the drawing, and beside it the list of weak places; tap a unit or a link to see what its loss cuts off.
+"""A page for the planner: the drawing, and beside it the list of weak places; tap a unit or a link to see what its
+loss cuts off.
 
-`html_of` gives one file that asks nothing of a network. What each loss cuts off stands in the page as data; the script only
-shows it.
+`html_of` gives one file that asks nothing of a network. What each loss cuts off stands in the page as data; the
+script only shows it.
 """
 import json
 import re
@@ -31,7 +32,9 @@ def cut_off(left):
 
 def weak_places(losses):
     """(key, units cut off, parts cut off, the rest) of every weak place, those that cut off the most first."""
-    found = [("u", v, left) for v, left in losses.unit_parts.items()] + [("l", j, left) for j, left in losses.link_parts.items()]
+    found = [("u", v, left) for v, left in losses.unit_parts.items()] + [
+        ("l", j, left) for j, left in losses.link_parts.items()
+    ]
     places = []
     for kind, k, left in found:
         parts, rest = cut_off(left)
@@ -135,13 +138,18 @@ def sheets_of(losses, names, before, found):
 
 def section_of(sheets):
     """The drawings with their buttons."""
-    tools = "".join(f'<button data-zoom="{by}">{said}</button>' for by, said in ((1.4, "+"), (0.714, "−"), (0, "whole")))
+    tools = "".join(
+        f'<button data-zoom="{by}">{said}</button>' for by, said in ((1.4, "+"), (0.714, "−"), (0, "whole"))
+    )
     tools += '<button data-key="">clear</button>'
     out = ""
     for k, (sheet, said, svg) in enumerate(sheets):
         if len(sheets) > 1:
             tools += f'<button data-show="{sheet}" aria-pressed="{"false" if k else "true"}">{said}</button>'
-        look = f'class="sheet" id="{sheet}"{" hidden" if k else ""} tabindex="0" role="region" aria-label="drawing: {said}"'
+        look = (
+            f'class="sheet" id="{sheet}"{" hidden" if k else ""} tabindex="0" role="region" aria-label="drawing: '
+            f'{said}"'
+        )
         out += f"<div {look}>{inline(svg)}</div>\n"
     return f'<section id="drawing"><div class="tools">{tools}</div>\n{out}</section>'
 

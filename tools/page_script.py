@@ -1,4 +1,5 @@
-"""What the planner's page does: it shows what each loss cuts off, which stands in the page as data, by tap or by key."""
+"""What the planner's page does: it shows what each loss cuts off, which stands in the page as data, by tap or by
+key."""
 
 SCRIPT = """
 "use strict";

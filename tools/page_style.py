@@ -6,13 +6,17 @@ STYLE = """
 body { margin: 0; color: #1a1a1a; background: #f2f2f2; }
 header { padding: 8px 14px; background: white; border-bottom: 1px solid #bbb; }
 h1 { font-size: 1.05rem; margin: 0; }
-.loud { margin: 6px 0 0; padding: 6px 10px; border: 4px solid #b5121b; border-radius: 6px; color: #b5121b; font-weight: bold; }
+.loud { margin: 6px 0 0; padding: 6px 10px; border: 4px solid #b5121b; border-radius: 6px; }
+.loud { color: #b5121b; font-weight: bold; }
 main { display: flex; align-items: flex-start; }
 #drawing { flex: 1 1 60%; min-width: 0; }
-#list { flex: 0 1 26rem; padding: 8px 12px; background: white; max-height: 100vh; overflow: auto; position: sticky; top: 0; }
-#said { min-height: 3.2em; margin: 0 0 8px; padding: 8px; border-left: 6px solid #b5121b; background: #f6f6f6; overflow-wrap: anywhere; }
+#list { flex: 0 1 26rem; padding: 8px 12px; background: white; }
+#list { max-height: 100vh; overflow: auto; position: sticky; top: 0; }
+#said { min-height: 3.2em; margin: 0 0 8px; padding: 8px; border-left: 6px solid #b5121b; }
+#said { background: #f6f6f6; overflow-wrap: anywhere; }
 .tools { display: flex; gap: 6px; padding: 6px; flex-wrap: wrap; }
-button { font: inherit; padding: 8px 12px; border: 1px solid #888; border-radius: 6px; background: white; cursor: pointer; text-align: left; }
+button { font: inherit; padding: 8px 12px; border: 1px solid #888; border-radius: 6px; }
+button { background: white; cursor: pointer; text-align: left; }
 button[aria-pressed="true"] { background: #1a1a1a; color: white; }
 .sheet { overflow: auto; background: white; max-height: 100vh; }
 .sheet[hidden] { display: none; }
@@ -49,7 +53,8 @@ svg .lost > path:not(.hit) { stroke: #1a1a1a; stroke-width: 9; }
   header { border: 0; padding: 0 0 3mm; }
   .tools, #said { display: none; }
   .sheet { overflow: visible; max-height: none; break-inside: avoid; }
-  .sheet svg { width: 100% !important; height: auto !important; min-width: 0; max-height: calc(248mm - var(--loud, 0) * 14mm); }
+  .sheet svg { width: 100% !important; height: auto !important; min-width: 0; }
+  .sheet svg { max-height: calc(248mm - var(--loud, 0) * 14mm); }
   svg .cut, svg .gone, svg .some { opacity: 1; }
   #list { max-height: none; overflow: visible; position: static; padding: 3mm 0; }
   li, #spares p { break-inside: avoid; }

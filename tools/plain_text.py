@@ -1,4 +1,5 @@
-"""A site as plain text, for whoever writes one by hand; read into a Site and what else stands there, and written from these.
+"""A site as plain text, for whoever writes one by hand; read into a Site and what else stands there, and written
+from these.
 
     # the bridge, night shift
     units 5
@@ -8,12 +9,13 @@
     3 @ 120 4
     reach 250
 
-`units` and their number stand first. Then a line for each link: its two units, and where it was measured its level in
-dBm. A link without a level becomes a line of kind 02 in the survey file, one with a level a line of kind 03, -127 too:
-so a link of kind 03 that has the lowest level is told from one that has none, and a survey file comes back from its text
-byte for byte. A unit's number, `=` and a name name it; `@` and one or two numbers give its place in metres, along the
-road and across; `reach` is how far two units hear each other. Empty lines don't count, nor does what stands behind `#`;
-in a line with a name, `#` begins a remark only between spaces. Links have their positions by their order.
+`units` and their number stand first. Then a line for each link: its two units, and where it was measured its level
+in dBm. A link without a level becomes a line of kind 02 in the survey file, one with a level a line of kind 03, -127
+too: so a link of kind 03 that has the lowest level is told from one that has none, and a survey file comes back from
+its text byte for byte. A unit's number, `=` and a name name it; `@` and one or two numbers give its place in metres,
+along the road and across; `reach` is how far two units hear each other. Empty lines don't count, nor does what
+stands behind `#`; in a line with a name, `#` begins a remark only between spaces. Links have their positions by
+their order.
 """
 import re
 from collections import namedtuple

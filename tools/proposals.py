@@ -1,4 +1,5 @@
 """Spares and plans that are proposed: each is put in the table and surveyed before it is told."""
+import functools
 from collections import namedtuple
 
 from joins import Tree
@@ -11,8 +12,8 @@ Step = namedtuple("Step", "heard_by losses too")
 # links that cure all or, within limits, what they can; the fewest that any plan needs; and the losses of the table with
 # them, None where it has no room for them
 Remedy = namedtuple("Remedy", "links fewest losses")
-# what is proposed for a site: whether spares (else links, for want of room for more units), the steps, the remedy of the
-# groups, and, where units hear nobody, that of the whole site; whether limits are known
+# what is proposed for a site: whether spares (else links, for want of room for more units), the steps, the remedy of
+# the groups, and, where units hear nobody, that of the whole site; whether limits are known
 Proposals = namedtuple("Proposals", "losses spares steps remedy whole left_out limited")
 
 
@@ -30,7 +31,7 @@ def with_links(site, links):
 class Proposer:
     def __init__(self, losses, limits, survey):
         self.losses, self.site, self.limits, self.survey = losses, losses.site, limits, survey
-        self.alone = losses.alone()
+        self.alone = tuple(losses.alone())
         self.linked = {(min(pair), max(pair)) for pair in self.site.links}
         self.spares = self.site.units < MAX_UNITS and len(self.site.links) + 2 <= MAX_LINKS
         self.far = hops_of(self.site)
@@ -48,12 +49,15 @@ class Proposer:
         links = MAX_LINKS - len(self.site.links)
         return min(MAX_UNITS - self.site.units, links // 2) if self.spares else links
 
+    @functools.cache
+    def plan(self, left_out):
+        """The fewest links that cure all, whichever units they join."""
+        return Plan(Tree(self.losses, left_out), self.far).links
+
     def pairs(self, tree, most):
         """The plan that cures all where it is no longer than wanted, else the best one by one."""
-        if not self.limits.known():
-            plan = Plan(tree, self.far).links
-            if 0 < len(plan) <= most:
-                return plan
+        if not self.limits.known() and 0 < len(self.plan(self.alone)) <= most:
+            return self.plan(self.alone)
         return one_by_one(tree, self.far, most, self.allowed, self.spares)
 
     def steps(self, most):
@@ -76,7 +80,7 @@ class Proposer:
         tree = Tree(self.losses, left_out)
         fewest = bound_of(tree)
         if not self.limits.known():
-            links = Plan(tree, self.far).links
+            links = self.plan(left_out)
         else:
             links = pruned(tree, one_by_one(tree, self.far, MAX_LINKS, self.allowed, False))
         fits = links and len(self.site.links) + len(links) <= MAX_LINKS and not self.linked & set(links)
@@ -105,6 +109,5 @@ def proposed(losses, most, limits, survey):
     proposer = Proposer(losses, limits, survey)
     steps = list(proposer.steps(most))
     whole = proposer.remedy(()) if proposer.alone and not limits.known() else None
-    return Proposals(
-        losses, proposer.spares, steps, proposer.remedy(proposer.alone), whole, proposer.alone, limits.known()
-    )
+    remedy = proposer.remedy(proposer.alone)
+    return Proposals(losses, proposer.spares, steps, remedy, whole, list(proposer.alone), limits.known())

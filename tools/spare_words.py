@@ -1,4 +1,5 @@
-"""Where spares go, in words: the units that must hear each, what it cures and what stays, and the fewest links for all."""
+"""Where spares go, in words: the units that must hear each, what it cures and what stays, and the fewest links for
+all."""
 from losses import changes, counted, named, units_of
 from words import held_names, in_short, links_of
 

@@ -80,8 +80,9 @@ def one_by_one(tree, far, most, allowed, spare):
 
 
 def bound_of(tree):
-    """No fewer links make the site whole and cure all: each leaf of a block tree needs one end, a piece without single
-    points two; and as many links as the most pieces that the loss of one unit leaves, less one. A site of one block needs none."""
+    """No fewer links make the site whole and cure all: each leaf of a block tree needs one end, a piece without
+    single points two; and as many links as the most pieces that the loss of one unit leaves, less one. A site of one
+    block needs none."""
     pieces = tree.pieces()
     points = set(tree.points())
     whole = sum(not points & set(part) for part in pieces)
@@ -143,9 +144,11 @@ class Plan:
         return tuple(min(leaves.keys() & set(part) or part) for part in pieces[:2])
 
     def within(self):
-        """A link between two leaves that brings the bound down: the one that cures the most if it does, else the first."""
+        """A link between two leaves that brings the bound down: the one that cures the most if it does, else the
+        first."""
         bound = bound_of(self.tree)
-        for u, v in itertools.chain(self.widest(), self.balanced(bound)):
+        every = itertools.combinations(sorted(self.leaves()), 2)
+        for u, v in itertools.chain(self.widest(), self.balanced(bound), every):
             if bound_after(self.tree, u, v) < bound:
                 return u, v
         raise AssertionError("two leaves bring the bound down")
@@ -160,8 +163,8 @@ class Plan:
         yield min(u, v), max(u, v)
 
     def balanced(self, bound):
-        """Pairs of leaves from different branches of the middle, the fullest branches first, and those behind crowded single
-        points before the others."""
+        """Pairs of leaves from different branches of the middle, the fullest branches first, and those behind
+        crowded single points before the others."""
         middle = self.middle(bound)
         leaves = self.leaves()
         branches = {}
@@ -169,12 +172,10 @@ class Plan:
         for w, before, over in self.tree.walk(middle):
             if before is None:
                 continue
-            of[w] = (over, w) if before == middle and len(self.tree.at[middle]) == 1 else over if before == middle else of[before]
+            of[w] = over if before == middle else of[before]
             crowd[w] = crowd[before] + (len(self.tree.at[w]) - 1 == bound) + (len(self.tree.at[w]) > 2) / 1000
             if w in leaves:
                 branches.setdefault(of[w], []).append(w)
-        if middle in leaves:
-            branches[None] = [middle]
         ordered = sorted(branches.values(), key=len, reverse=True)
         for part in ordered:
             part.sort(key=lambda w: -crowd[w])
@@ -182,7 +183,8 @@ class Plan:
             yield from itertools.product(one, other)
 
     def middle(self, bound):
-        """A single point that every further link must pass, else the unit whose fullest branch has the fewest leaves."""
+        """A single point that every further link must pass, else the unit whose fullest branch has the fewest
+        leaves."""
         points = self.tree.points()
         most = max(points, key=lambda v: len(self.tree.at[v]))
         if len(self.tree.at[most]) - 1 == bound:

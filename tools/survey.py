@@ -56,13 +56,25 @@ def command_line():
     add("site", metavar="SITE", help="the table of links: a survey file or plain text")
     add("--spares", metavar="K", nargs="?", type=number, const=SPARES,
         help=f"say where up to K spare repeaters go ({SPARES} without a number), each surveyed before it is told")
-    add("--near", metavar="PAIRS", help="pairs of units that can be joined, like 0-7,3-9, or a file of them: no others are proposed")
+    add(
+        "--near",
+        metavar="PAIRS",
+        help="pairs of units that can be joined, like 0-7,3-9, or a file of them: no others are proposed",
+    )
     add("--svg", metavar="OUT", help="write a drawing of the site")
     add("--html", metavar="OUT", help="write a page on which a tap shows what a loss parts")
     add("--before", metavar="SITE", help="an earlier table of the site: say what is cured, new and remaining")
     add("--full", action="store_true", help="tell each weak place and set of links alone, and draw every unit and link")
-    add("--report", metavar="FILE", help="a report made elsewhere, from C, say; the program is not run, not on --before either")
-    add("--program", metavar="PATH", help=f"the program (else what {PROGRAM_VARIABLE} says, else target/bin/link_survey)")
+    add(
+        "--report",
+        metavar="FILE",
+        help="a report made elsewhere, from C, say; the program is not run, not on --before either",
+    )
+    add(
+        "--program",
+        metavar="PATH",
+        help=f"the program (else what {PROGRAM_VARIABLE} says, else target/bin/link_survey)",
+    )
     add("--to-file", metavar="OUT", help="no survey: write SITE as a survey file (names and places are lost)")
     add("--to-text", metavar="OUT", help="no survey: write SITE as plain text")
     return parser

@@ -1,7 +1,7 @@
 """Tests of the words in drawings: python3 tools/test_names.py
 
-On dozens of named roads every name is read back from the drawing and measured here anew, by the widths of its letters in
-DejaVu Sans: it stands in full, on the page, beside its own unit, and over no other name, number or unit.
+On dozens of named roads every name is read back from the drawing and measured here anew, by the widths of its
+letters in DejaVu Sans: it stands in full, on the page, beside its own unit, and over no other name, number or unit.
 """
 import functools
 import math
@@ -19,9 +19,10 @@ from test_drawing import SVG, circles, classed, digit_heights, lies, made, road_
 
 ROADS = 40
 KINDS = [
-    "Verstärker Brücke Nord", "Verstärker Brücke Süd", "Verstärker Brücke Mitte", "Ampel Hauptstraße Ost", "Kopf N{}", "Tor {}",
-    "Baustellenausfahrt Lkw {}", "repeater {}", "head S{}", "Übergang Schule Görlitzer Straße", "lorry exit", "side road {}",
-    "Fußgängerüberweg Rathausplatz {}", "Zufahrt #2 - West", "Straßenbahnhaltestelle Österreichring {}", "WWWWWWWWWWWWWWWW {}",
+    "Verstärker Brücke Nord", "Verstärker Brücke Süd", "Verstärker Brücke Mitte", "Ampel Hauptstraße Ost", "Kopf N{}",
+    "Baustellenausfahrt Lkw {}", "repeater {}", "head S{}", "Übergang Schule Görlitzer Straße", "lorry exit", "Tor {}",
+    "Fußgängerüberweg Rathausplatz {}", "Zufahrt #2 - West", "Straßenbahnhaltestelle Österreichring {}",
+    "side road {}", "WWWWWWWWWWWWWWWW {}",
 ]
 # thousandths of the font's size
 NARROW, BROAD = set("fijltIJ .,:;-'()r/"), set("mwMWOQGDHNU#Ö@")
@@ -47,7 +48,9 @@ def drawings():
     for seed in range(ROADS):
         losses, names = named_road(seed)
         spares = proposed(losses, 2, Limits(), Losses) if seed % 4 == 0 else None
-        found.append((f"road {seed}", losses, names, ElementTree.fromstring(drawing.svg_of(losses, names, found=spares))))
+        found.append(
+            (f"road {seed}", losses, names, ElementTree.fromstring(drawing.svg_of(losses, names, found=spares)))
+        )
     return found
 
 
@@ -114,13 +117,17 @@ class Names(unittest.TestCase):
     def test_none_passes_the_edge(self):
         for _, _, root in self.each():
             left, top, width, high = view(root)
-            boxes = [box for box, _ in beside_units(root).values()] + [box_of(lines) for lines in in_legend(root).values()]
+            boxes = [box for box, _ in beside_units(root).values()] + [
+                box_of(lines) for lines in in_legend(root).values()
+            ]
             for x1, x2, y1, y2 in boxes:
                 self.assertTrue(left <= x1 and x2 <= left + width and top <= y1 and y2 <= top + high)
 
     def test_none_over_another(self):
         for _, _, root in self.each():
-            boxes = [box for box, _ in beside_units(root).values()] + [box_of(lines) for lines in in_legend(root).values()]
+            boxes = [box for box, _ in beside_units(root).values()] + [
+                box_of(lines) for lines in in_legend(root).values()
+            ]
             for i, box in enumerate(boxes):
                 for other in boxes[:i]:
                     self.assertFalse(over(box, other))
@@ -176,7 +183,10 @@ class Spares(unittest.TestCase):
             said = ["".join(g.find(SVG + "text").itertext()) for g in classed(root, "spare")]
             self.assertEqual(said, [f"S{k + 1}" for k in range(len(found.steps))])
             self.assertEqual(len(classed(root, "line")), 2 * len(found.steps))
-            marked = {kind: {int(g.get("data-unit")) for g in classed(root, "unit") if kind in g.get("class")} for kind in ("single", "cured")}
+            marked = {
+                kind: {int(g.get("data-unit")) for g in classed(root, "unit") if kind in g.get("class")}
+                for kind in ("single", "cured")
+            }
             self.assertEqual(marked["single"], {v for v in after.unit_parts if v < losses.site.units})
             self.assertEqual(marked["cured"], set(losses.unit_parts) - set(after.unit_parts))
             links = {int(g.get("data-link")) for g in classed(root, "link") if "cured" in g.get("class")}

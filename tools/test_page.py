@@ -1,7 +1,7 @@
 """Tests of the planner's page: python3 tools/test_page.py
 
-What a tap shows is tried in Chromium without a window, from Debian's package chromium; without it these tests are skipped. What must be
-cut off is flooded here anew.
+What a tap shows is tried in Chromium without a window, from Debian's package chromium; without it these tests are
+skipped. What must be cut off is flooded here anew.
 """
 import glob
 import html
@@ -25,7 +25,13 @@ PATIENCE = 120  # seconds for one start of the browser
 
 
 def site_of(units, links):
-    return Losses(Site(units, list(dict.fromkeys((min(pair), max(pair)) for pair in links)), [-127] * len(set(map(frozenset, links)))))
+    return Losses(
+        Site(
+            units,
+            list(dict.fromkeys((min(pair), max(pair)) for pair in links)),
+            [-127] * len(set(map(frozenset, links))),
+        )
+    )
 
 
 def stored(name):
@@ -36,12 +42,15 @@ def stored(name):
 
 def road():
     """A road with a side road, a ring, a piece apart and two units that hear nobody."""
-    links = [(i, i + 1) for i in range(19)] + [(i, i + 2) for i in range(4, 12)] + [(7, 20), (20, 21), (21, 22), (22, 20), (24, 25), (25, 26)]
+    links = [(i, i + 1) for i in range(19)] + [(i, i + 2) for i in range(4, 12)] + [
+        (7, 20), (20, 21), (21, 22), (22, 20), (24, 25), (25, 26)
+    ]
     return site_of(29, links)
 
 
 def flooded(losses, lost_unit=None, lost_link=None):
-    """The units that a loss cuts off from the most of those that it was linked with: by flooding, from the links alone."""
+    """The units that a loss cuts off from the most of those that it was linked with: by flooding, from the links
+    alone."""
     links = [pair for j, pair in enumerate(losses.site.links) if j != lost_link and lost_unit not in pair]
     near = {v: set() for v in range(losses.site.units)}
     for a, b in losses.site.links:
@@ -114,7 +123,9 @@ class Written(unittest.TestCase):
             self.assertFalse([tag for tag, _ in Elements(written).found if tag in ("link", "img", "iframe", "object")])
 
     def test_data(self):
-        for name, losses in ("road", road()), ("case b", stored("case_b")), ("rings", stored("rings_at_points")), ("tree", stored("tree_256")):
+        for name, losses in ("road", road()), ("case b", stored("case_b")), ("rings", stored("rings_at_points")), (
+            "tree", stored("tree_256")
+        ):
             with self.subTest(name):
                 data = json.loads(Elements(page.html_of(losses)).scripts[0])
                 self.assertEqual(data["units"], losses.site.units)
@@ -143,7 +154,9 @@ class Written(unittest.TestCase):
         for losses in road(), stored("full_256_1024"), stored("path_256"):
             found = Elements(page.html_of(losses)).found
             self.assertEqual({int(a["data-unit"]) for _, a in found if "data-unit" in a}, set(range(losses.site.units)))
-            self.assertEqual({int(a["data-link"]) for _, a in found if "data-link" in a}, set(range(len(losses.site.links))))
+            self.assertEqual(
+                {int(a["data-link"]) for _, a in found if "data-link" in a}, set(range(len(losses.site.links)))
+            )
 
     def test_names_cannot_break_it(self):
         losses = stored("case_b")
@@ -163,7 +176,8 @@ DRIVER = """<script>
   const shown = {};
   const tap = (e) => e.dispatchEvent(new MouseEvent("click", {bubbles: true}));
   const held = (name, attribute) =>
-    Array.from(new Set(Array.from(document.querySelectorAll("#whole ." + name + "[" + attribute + "]"), (e) => Number(e.getAttribute(attribute)))));
+    Array.from(new Set(Array.from(document.querySelectorAll("#whole ." + name + "[" + attribute + "]"),
+                                  (e) => Number(e.getAttribute(attribute)))));
   const keys = TAPS;
   for (const key of keys) {
     const what = key[0] === "u" ? "data-unit" : "data-link";
@@ -172,10 +186,12 @@ DRIVER = """<script>
     tap(e.querySelector(".hit") || e.firstElementChild);
     await changed;
     shown[key] = {
-      cut: held("cut", "data-unit"), lost: held("lost", "data-unit"), cutLinks: held("cut", "data-link"), lostLinks: held("lost", "data-link"),
-      gone: held("gone", "data-link"), chosen: document.body.getAttribute("data-chosen"), said: document.getElementById("said").textContent,
+      cut: held("cut", "data-unit"), lost: held("lost", "data-unit"),
+      cutLinks: held("cut", "data-link"), lostLinks: held("lost", "data-link"), gone: held("gone", "data-link"),
+      chosen: document.body.getAttribute("data-chosen"), said: document.getElementById("said").textContent,
       rows: Array.from(document.querySelectorAll("li.chosen"), (e) => e.getAttribute("data-key")),
-      parts: Array.from(document.querySelectorAll("#whole [data-part]"), (e) => [Number(e.getAttribute("data-unit")), Number(e.getAttribute("data-part"))]),
+      parts: Array.from(document.querySelectorAll("#whole [data-part]"),
+                        (e) => [Number(e.getAttribute("data-unit")), Number(e.getAttribute("data-part"))]),
     };
   }
   const out = document.createElement("pre");
@@ -220,7 +236,8 @@ class Tapped(unittest.TestCase):
         losses = site_of(60, [(v, v + 1) for v in range(59)] + [(v, v + 2) for v in range(0, 58, 4)])
         script = """
           const sheet = document.querySelector(".sheet");
-          const high = Array.from(sheet.querySelectorAll("[data-unit] > text"), (e) => e.getBoundingClientRect().height);
+          const texts = sheet.querySelectorAll("[data-unit] > text");
+          const high = Array.from(texts, (e) => e.getBoundingClientRect().height);
           say({high: Math.min(...high), scrolls: sheet.scrollWidth > sheet.clientWidth,
                wide: document.documentElement.scrollWidth, screen: window.innerWidth});"""
         told = self.told_by(page.html_of(losses, {v: f"head {v}" for v in range(60)}), script, "--window-size=390,844")
@@ -229,16 +246,19 @@ class Tapped(unittest.TestCase):
         self.assertLessEqual(told["wide"], told["screen"])
 
     def test_by_key(self):
-        """Tab reaches one unit of the drawing, arrows go on to every unit and link, Enter shows what its loss cuts off."""
+        """Tab reaches one unit of the drawing, arrows go on to every unit and link, Enter shows what its loss cuts
+        off."""
         losses = stored("case_b")
         script = """
-          const press = (key) => document.activeElement.dispatchEvent(new KeyboardEvent("keydown", {key: key, bubbles: true}));
+          const press = (key) =>
+            document.activeElement.dispatchEvent(new KeyboardEvent("keydown", {key: key, bubbles: true}));
           const stops = Array.from(document.querySelectorAll("#whole [tabindex='0']"));
           const seen = [], shown = {};
           stops[0].focus();
           for (let k = 0; k < 8; k++) {
             const e = document.activeElement;
-            const key = e.hasAttribute("data-unit") ? "u" + e.getAttribute("data-unit") : "l" + e.getAttribute("data-link");
+            const of = e.hasAttribute("data-unit") ? "data-unit" : "data-link";
+            const key = of[5] + e.getAttribute(of);
             seen.push(key);
             const changed = new Promise((done) => window.addEventListener("hashchange", done, {once: true}));
             press("Enter");
@@ -247,7 +267,8 @@ class Tapped(unittest.TestCase):
             press("ArrowRight");
           }
           const label = document.querySelector("#whole [data-unit='2']").getAttribute("aria-label");
-          say({stops: stops.length, seen: seen, shown: shown, label: label, sheet: document.getElementById("whole").tabIndex});"""
+          const sheet = document.getElementById("whole").tabIndex;
+          say({stops: stops.length, seen: seen, shown: shown, label: label, sheet: sheet});"""
         told = self.told_by(page.html_of(losses), script)
         self.assertEqual((told["stops"], told["sheet"]), (1, 0))
         self.assertEqual(told["seen"], ["u0", "u1", "u2", "u3", "l0", "l1", "l2", "l3"])
@@ -260,7 +281,9 @@ class Tapped(unittest.TestCase):
         losses = site_of(40, [(v, v + 1) for v in range(39)])
         paper = os.path.join(self.folder, "paper.pdf")
         self.browser(page.html_of(losses, {v: f"head-{v}-end" for v in range(40)}), f"--print-to-pdf={paper}")
-        said = subprocess.run(["pdftotext", "-f", "1", "-l", "1", paper, "-"], capture_output=True, check=True).stdout.decode()
+        said = subprocess.run(
+            ["pdftotext", "-f", "1", "-l", "1", paper, "-"], capture_output=True, check=True
+        ).stdout.decode()
         self.assertEqual({int(v) for v in re.findall(r"head-(\d+)-end", said)}, set(range(40)))
 
     def test_by_address(self):
@@ -278,7 +301,11 @@ class Tapped(unittest.TestCase):
     def tapped(self, losses, keys):
         """What each tap of these shows, against the flooding."""
         dom = self.opened(page.html_of(losses).replace("</body>", DRIVER.replace("TAPS", json.dumps(keys))))
-        shown = json.loads(re.search(r'<pre id="shown">(.*?)</pre>', dom, re.S)[1].replace("&gt;", ">").replace("&lt;", "<").replace("&amp;", "&"))
+        shown = json.loads(
+            re.search(r'<pre id="shown">(.*?)</pre>', dom, re.S)[1].replace("&gt;", ">").replace("&lt;", "<").replace(
+                "&amp;", "&"
+            )
+        )
         self.assertEqual(list(shown), keys)
         links = losses.site.links
         for key, seen in shown.items():
@@ -287,21 +314,29 @@ class Tapped(unittest.TestCase):
                 parts = flooded(losses, lost_unit=k) if key[0] == "u" else flooded(losses, lost_link=k)
                 cut = {v for part in parts for v in part}
                 self.assertEqual(set(seen["cut"]), cut)
-                self.assertEqual({(v, n) for v, n in seen["parts"]}, {(v, n) for n, part in enumerate(parts, 1) for v in part})
+                self.assertEqual(
+                    {(v, n) for v, n in seen["parts"]}, {(v, n) for n, part in enumerate(parts, 1) for v in part}
+                )
                 self.assertEqual(seen["lost"], [k] if key[0] == "u" else [])
                 self.assertEqual(seen["lostLinks"], [k] if key[0] == "l" else [])
                 touched = {j for j, pair in enumerate(links) if cut & set(pair) and key != f"l{j}"}
                 self.assertEqual(set(seen["cutLinks"]), touched)
-                self.assertEqual(set(seen["gone"]), {j for j, pair in enumerate(links) if key[0] == "u" and k in pair} - touched)
+                self.assertEqual(
+                    set(seen["gone"]), {j for j, pair in enumerate(links) if key[0] == "u" and k in pair} - touched
+                )
                 self.assertEqual(seen["chosen"], key)
-                self.assertEqual(seen["rows"], [key] if parts or (key[0] == "u" and not any(k in pair for pair in links)) else [])
+                self.assertEqual(
+                    seen["rows"], [key] if parts or (key[0] == "u" and not any(k in pair for pair in links)) else []
+                )
                 self.assertEqual(bool(re.search(r"cuts off \d+ unit", seen["said"])), bool(parts), seen["said"])
                 for v in cut if len(cut) < 4 else ():
                     self.assertRegex(seen["said"], rf"\b{v}\b")
 
     def test_every_unit_and_link_of_small_sites(self):
         for losses in road(), stored("case_b"), stored("rings_at_points"):
-            self.tapped(losses, [f"u{v}" for v in range(losses.site.units)] + [f"l{j}" for j in range(len(losses.site.links))])
+            self.tapped(
+                losses, [f"u{v}" for v in range(losses.site.units)] + [f"l{j}" for j in range(len(losses.site.links))]
+            )
 
     def test_256_units_with_1024_links(self):
         pick = random.Random(5)

@@ -139,7 +139,8 @@ class BestSpare(unittest.TestCase):
 
 class Proposed(unittest.TestCase):
     def test_each_is_surveyed_as_it_is_told(self):
-        """The tables that are surveyed are the site with the spares so far; each leaves what removal says, never more."""
+        """The tables that are surveyed are the site with the spares so far; each leaves what removal says, never
+        more."""
         for seed in range(80):
             units, links = small_site(seed)
             losses = losses_of(units, links)
@@ -181,7 +182,9 @@ class Proposed(unittest.TestCase):
         self.assertFalse(found.spares)
         self.assertEqual([step.heard_by for step in found.steps], [(0, 255)])
         self.assertEqual(found.steps[0].losses.weak(), [])
-        dense = [pair for pair in itertools.combinations(range(60), 2)][: 1024 - 196] + [(v, v + 1) for v in range(59, 255)]
+        dense = [pair for pair in itertools.combinations(range(60), 2)][: 1024 - 196] + [
+            (v, v + 1) for v in range(59, 255)
+        ]
         found = proposed(losses_of(256, dense), 1, Limits(), Losses)
         self.assertEqual((len(dense), found.steps, found.remedy.losses), (1024, [], None))
 
@@ -224,7 +227,9 @@ class Near(unittest.TestCase):
 
     def test_places(self):
         """A spare stands between two units, so it joins those twice as far apart as two that hear each other."""
-        text = b"units 5\n0-1\n1-2\n2-3\n3-4\n" + b"".join(b"%d @ %d\n" % (v, 100 * v) for v in range(5)) + b"reach 150\n"
+        text = b"units 5\n0-1\n1-2\n2-3\n3-4\n" + b"".join(
+            b"%d @ %d\n" % (v, 100 * v) for v in range(5)
+        ) + b"reach 150\n"
         given = plain_text.read_all(text)
         limits = limits_of(given.site, None, given.places, given.reach)
         self.assertEqual([limits.link(0, v) for v in range(1, 5)], [True, False, False, False])
@@ -278,7 +283,9 @@ class AtTheDoor(Door):
     def test_near(self):
         said = self.spares(text_of(5, [(v, v + 1) for v in range(4)]), "2", "--near", "0-2,2-4")
         self.assertIn("spare 1, heard by units 0 and 2:", said)
-        self.assertIn("the fewest links that could cure all: 1; within the limits none does: 2 leave some: links 0-2, 2-4;", said)
+        self.assertIn(
+            "the fewest links that could cure all: 1; within the limits none does: 2 leave some: links 0-2, 2-4;", said
+        )
         self.fails(self.run_door(example("case-b.txt"), "--near", "0-1"), "--near limits what --spares proposes")
         self.fails(self.run_door(example("case-b.txt"), "--spares", "0"), "no number of spares from 1 to 256")
 

@@ -1,4 +1,5 @@
-"""The foreman's list: the weak places of a surveyed site in words and in working order, and first of all what stands apart."""
+"""The foreman's list: the weak places of a surveyed site in words and in working order, and first of all what stands
+apart."""
 import re
 import textwrap
 
@@ -6,18 +7,21 @@ from folds import Fold, Folding, most_cut
 from losses import changes, counted, listed, named, parted, summed, units_of
 
 WIDE = 110  # a line is broken past so many characters
+WORST = 40  # so many weak places and chains are told one by one
+LISTED = 12  # units that a loss cuts off are told by no more words than about this
 SETS = 8  # so many sets of links that back each other up are told one by one
 ALTERED = 12  # so many links are told one by one where they came or went, or were cured
 LOUD = "!! "
 UNPROVED = (
-    f"{LOUD}not by the proved program, which is not built here (README.md): each unit and link was taken away once instead"
+    f"{LOUD}not by the proved program, which is not built here (README.md): "
+    "each unit and link was taken away once instead"
 )
 HELD = "\u00a0"  # a space at which no line is broken
 
 
 def wrapped(line):
-    """A line broken at spaces, but not within a name or before it, nor within a range; what follows begins below the words
-    of the first."""
+    """A line broken at spaces, but not within a name or before it, nor within a range; what follows begins below the
+    words of the first."""
     loud, lead = re.match(r"(!! )?( *\d+  (?=\S)| *)", line).groups("")
     deeper = loud + " " * (len(lead) or 2)
     line = re.sub(r"(\d) \(", rf"\1{HELD}(", line)
@@ -57,7 +61,10 @@ def fold_name(fold, names):
     """units 11 to 24 in one chain: each of 14 units and 13 links is weak"""
     links = counted(len(fold.links), "link")
     if fold.hub is not None:
-        return f"{units_of(fold.units, names)}, each on one lone link to unit {named(fold.hub, names)}: each of {links} is weak"
+        return (
+            f"{units_of(fold.units, names)}, each on one lone link to unit {named(fold.hub, names)}: each of {links} "
+            "is weak"
+        )
     return f"{in_row(fold.units, names)} in one chain: each of {counted(len(fold.units), 'unit')} and {links} is weak"
 
 
@@ -77,26 +84,39 @@ def span(fold):
 
 
 def weak_list(places, names, losses, full, was=None):
-    """A line a place or a chain: how many units it cuts off, which it is, what its loss does; `was` has what places were
-    before."""
+    """A line a place or a chain: how many units it cuts off, which it is, what its loss does; `was` has what places
+    were before. All of them where that is wanted, else the worst, and how many there are more."""
     before = {id(place): f" (before: {old.cut})" for place, old in zip(places, was or ()) if old.cut != place.cut}
     told = places if full else Folding(losses, places).in_order()
     wide = max((len(str(most_cut(place))) for place in told), default=1)
-    for place in told:
+    shown = told if full or len(told) <= WORST + 1 else told[:WORST]
+    for place in shown:
         if isinstance(place, Fold):
             yield f"  {most_cut(place):>{wide}}  {fold_name(place, names)}: a loss cuts off {span(place)}"
         else:
-            more = before.get(id(place), "")
-            yield f"  {place.cut:>{wide}}  {place_name(place, names)}: its loss {parted(place.parts, names)}{more}"
+            loss = parted(place.parts, names, None if full else LISTED)
+            yield f"  {place.cut:>{wide}}  {place_name(place, names)}: its loss {loss}{before.get(id(place), '')}"
+    if len(shown) < len(told):
+        left = sum(len(place.places) if isinstance(place, Fold) else 1 for place in told[WORST:])
+        yield (
+            f"  and {left} more, each cutting off {counted(most_cut(told[WORST]), 'unit')} or fewer; --full tells them "
+            "all"
+        )
 
 
 def apart(losses, names):
     """Loud: the units that hear nobody, and the groups that no link joins."""
     alone, pieces = losses.alone(), losses.pieces()
     if alone:
-        yield f"{LOUD}{counted(len(alone), 'unit')} hear{'s' if len(alone) == 1 else ''} nobody: {listed(alone, names)}: switched on?"
+        yield (
+            f"{LOUD}{counted(len(alone), 'unit')} hear{'s' if len(alone) == 1 else ''} nobody: {listed(alone, names)}: "
+            "switched on?"
+        )
     if len(pieces) > 1:
-        yield f"{LOUD}the {'other ' if alone else ''}{sum(map(len, pieces))} units are in {len(pieces)} groups that no link joins:"
+        yield (
+            f"{LOUD}the {'other ' if alone else ''}{sum(map(len, pieces))} units are in {len(pieces)} groups that no "
+            "link joins:"
+        )
         for part in pieces:
             yield f"{LOUD}  {len(part)} units: {listed(part, names)}"
 
@@ -124,7 +144,8 @@ def altered(before, now, names):
     if now.units < before.units:
         yield f"{units_of(range(now.units, before.units))} went"
     old, new = ({frozenset(pair): f"{pair[0]}-{pair[1]}" for pair in site.links} for site in (before, now))
-    for links, told in ([new[pair] for pair in new if pair not in old], "came"), ([old[pair] for pair in old if pair not in new], "went"):
+    came, went = [new[pair] for pair in new if pair not in old], [old[pair] for pair in old if pair not in new]
+    for links, told in (came, "came"), (went, "went"):
         if links:
             more = f" and {len(links) - ALTERED} more" if len(links) > ALTERED else ""
             yield f"{links_of(links[:ALTERED])}{more} {told}"
@@ -132,7 +153,9 @@ def altered(before, now, names):
 
 def compared(losses, names, before, names_before, full):
     """The weak places beside those of an earlier table of the site."""
-    yield "since the earlier table: " + ("; ".join(altered(before.site, losses.site, names)) or "the same units and links")
+    yield "since the earlier table: " + (
+        "; ".join(altered(before.site, losses.site, names)) or "the same units and links"
+    )
     other = [v for v in names if v in names_before and names[v] != names_before[v]]
     if other:
         yield f"{LOUD}{units_of(other, names)} had another name there: units are compared by their numbers"
@@ -164,7 +187,10 @@ def backed(losses, names, full):
         yield f"the {len(links)} links among {units_of(units, names)} back each other up"
     if len(sets) > len(shown):
         most, least = len(sets[SETS][0]), len(sets[-1][0])
-        yield f"and {len(sets) - SETS} sets more do, of {most if most == least else f'{least} to {most}'} links each; --full tells them all"
+        yield (
+            f"and {len(sets) - SETS} sets more do, of {most if most == least else f'{least} to {most}'} links each; "
+            "--full tells them all"
+        )
 
 
 def held_names(names):
