@@ -176,14 +176,20 @@ class Sheet:
             placed = labels.name_place(self.room, *self.plan.places[v], said)
             if placed:
                 out[v] = written(placed, f'fill="{WEAK}" font-weight="bold"')
-        crowd = {v: len(near) for v, near in enumerate(neighbours_of(self.site))}
-        for v, name in sorted(self.names.items(), key=lambda each: (-crowd[each[0]], each[0])):
+        for v in self.in_turn():
+            name = self.names[v]
             placed = labels.name_place(self.room, *self.plan.places[v], name)
             if placed:
                 out[v] = out.get(v, "") + written(placed, f'class="name" fill="{INK}"')
             else:
                 left[v] = name
         return out, left
+
+    def in_turn(self):
+        """The units with names: weak ones choose their places first, then those with the most links."""
+        weak = self.was.unit_parts.keys() | self.losses.unit_parts.keys()
+        crowd = [len(near) for near in neighbours_of(self.site)]
+        return sorted(self.names, key=lambda v: (v not in weak, -crowd[v], v))
 
     def kind_of(self, v, deaf):
         if v in self.losses.unit_parts:

@@ -12,7 +12,7 @@ BESIDE = 10  # a number stands so far off its link
 SHARES = 0.5, 0.44, 0.56, 0.38, 0.62, 0.31, 0.69, 0.24, 0.76  # of a link, where its number may stand
 LINE = 17  # from one line of a name to the next
 CELL = 48  # of the grid that what is taken is looked up in
-COVERED = 7  # a name covers no more of links than so many points of them, 5 units apart
+COVERED = 5  # a name covers no more of links than so many points of them, 5 units apart
 PAD = 3  # around words
 CLEARLY = 7  # a name is by so much nearer to its own unit than to any other
 

@@ -54,9 +54,12 @@ def weak_rows(rows, losses, before):
 
 def spare_rows(rows, found):
     """The spares that are proposed."""
+    groups = len(found.losses.pieces()) if found else 0
     for k, step in enumerate(found.steps, 1) if found else ():
         weak = len(step.losses.weak())
         left = f"{weak} weak place{'' if weak == 1 else 's'} left" if weak else "no weak place left"
+        left = f"joins groups; {left}" if len(step.losses.pieces()) < groups else left
+        groups = len(step.losses.pieces())
         what = "spare" if found.spares else "link"
         heard = "heard by" if found.spares else "between"
         sample = spare_mark(0, 0, f"S{k}") if found.spares else spare_line(straight(-22, 0, 22, 0))
