@@ -122,7 +122,7 @@ def disc(x, y, said, kind):
             f'<circle cx="{x:.1f}" cy="{y:.1f}" r="{RADIUS}" fill="#e4e4e4" stroke="{INK}" stroke-width="3" '
             f'stroke-dasharray="{DOTS}"/>'
         )
-        look = f'fill="{INK}" font-weight="bold"'
+        look = f'fill="{INK}"' + (' font-weight="bold"' if len(str(said)) < 3 else "")
     else:
         marks = f'<circle cx="{x:.1f}" cy="{y:.1f}" r="{RADIUS}" fill="white" stroke="{INK}" stroke-width="1.5"/>'
         look = f'fill="{INK}"'

@@ -126,11 +126,13 @@ class Tree:
                 if b == came:
                     continue
                 gain = so_far if came is None else added(so_far, self.passing(v, came, b, behind))
+                if b in self.lone:
+                    (w,) = self.units[b] - {v}
+                    gain = added(gain, self.doubling(v, w, b, behind))
                 for w in self.units[b]:
                     if w != v:
-                        there = added(gain, self.doubling(v, w, b, behind)) if b in self.lone else gain
-                        ahead.append((w, b, there))
-                        yield w, there
+                        ahead.append((w, b, gain))
+                        yield w, gain
 
     def passing(self, v, one, other, behind):
         """What it does to a single point that two of its blocks become one."""

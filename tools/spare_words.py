@@ -1,7 +1,7 @@
 """Where spares go, in words: the units that must hear each, what it cures and what stays, and the fewest links for
 all."""
 from losses import changes, counted, named, units_of
-from words import held_names, in_short, links_of
+from words import LISTED, held_names, in_short, links_of
 
 PLAN = 24  # so many links of a plan are told one by one
 
@@ -63,14 +63,15 @@ class Told:
         joined = len(before.pieces()) - len(step.losses.pieces())
         does = [f"joins {joined + 1} groups"] if joined else []
         if by.cured:
-            does.append(f"cures {how_many(by)}: {in_short(by.cured, self.names)}")
+            does.append(f"cures {how_many(by)}: {in_short(by.cured, self.names, LISTED)}")
         elif not joined:
             does.append("cures no weak place alone, but lets the next one")
         heard = "heard by" if self.found.spares else "between"
         yield f"{self.thing} {k}, {heard} units {both(step.heard_by, self.names)}: {'; '.join(does)}"
         if by.remaining or by.new:
-            said = [f"what stays: {in_short([now for _, now in by.remaining], self.names)}"] if by.remaining else []
-            said += [f"new: {in_short(by.new, self.names)}"] if by.new else []
+            stays = [now for _, now in by.remaining]
+            said = [f"what stays: {in_short(stays, self.names, LISTED)}"] if stays else []
+            said += [f"new: {in_short(by.new, self.names, LISTED)}"] if by.new else []
             yield "  " + "; ".join(said)
         yield f"  {self.again}: {weak_left(step.losses)}"
         if step.too:

@@ -79,11 +79,11 @@ def one_by_one(tree, far, most, allowed, spare):
 # ---- the fewest links
 
 
-def bound_of(tree):
+def bound_of(tree, pieces=None):
     """No fewer links make the site whole and cure all: each leaf of a block tree needs one end, a piece without
     single points two; and as many links as the most pieces that the loss of one unit leaves, less one. A site of one
     block needs none."""
-    pieces = tree.pieces()
+    pieces = tree.pieces() if pieces is None else pieces
     points = set(tree.points())
     whole = sum(not points & set(part) for part in pieces)
     if len(pieces) == whole == 1:
@@ -116,9 +116,13 @@ class Plan:
         self.links = []
         if len(tree.at) - len(tree.left_out) < 3:
             return
-        while bound_of(self.tree):
+        while True:
             pieces = self.tree.pieces()
-            pair = self.across(pieces) if len(pieces) > 1 else self.within()
+            bound = bound_of(self.tree, pieces)
+            if not bound:
+                break
+            leaves = self.leaves()
+            pair = self.across(pieces, leaves) if len(pieces) > 1 else self.within(bound, leaves)
             self.links.append(pair)
             self.tree.join(*pair)
 
@@ -137,36 +141,32 @@ class Plan:
                 found[self.end(b, *at)] = b
         return found
 
-    def across(self, pieces):
+    def across(self, pieces, leaves):
         """A link between the two largest pieces, from leaf to leaf."""
-        leaves = self.leaves()
         pieces.sort(key=lambda part: (-len(part), min(part)))
         return tuple(min(leaves.keys() & set(part) or part) for part in pieces[:2])
 
-    def within(self):
+    def within(self, bound, leaves):
         """A link between two leaves that brings the bound down: the one that cures the most if it does, else the
         first."""
-        bound = bound_of(self.tree)
-        every = itertools.combinations(sorted(self.leaves()), 2)
-        for u, v in itertools.chain(self.widest(), self.balanced(bound), every):
+        every = itertools.combinations(sorted(leaves), 2)
+        for u, v in itertools.chain(self.widest(leaves), self.balanced(bound, leaves), every):
             if bound_after(self.tree, u, v) < bound:
                 return u, v
         raise AssertionError("two leaves bring the bound down")
 
-    def widest(self):
+    def widest(self, leaves):
         """The leaves with the most weak places between them."""
-        leaves = self.leaves()
         behind = self.tree.behind()
         v = min(leaves)
         for _ in range(2):
             u, v = v, max((gain, -w) for w, gain in self.tree.gains(v, behind) if w in leaves)[1] * -1
         yield min(u, v), max(u, v)
 
-    def balanced(self, bound):
+    def balanced(self, bound, leaves):
         """Pairs of leaves from different branches of the middle, the fullest branches first, and those behind
         crowded single points before the others."""
-        middle = self.middle(bound)
-        leaves = self.leaves()
+        middle = self.middle(bound, leaves)
         branches = {}
         of, crowd = {middle: None}, {middle: 0}
         for w, before, over in self.tree.walk(middle):
@@ -182,14 +182,13 @@ class Plan:
         for one, other in itertools.combinations(ordered, 2):
             yield from itertools.product(one, other)
 
-    def middle(self, bound):
+    def middle(self, bound, leaves):
         """A single point that every further link must pass, else the unit whose fullest branch has the fewest
         leaves."""
         points = self.tree.points()
         most = max(points, key=lambda v: len(self.tree.at[v]))
         if len(self.tree.at[most]) - 1 == bound:
             return most
-        leaves = self.leaves()
         steps = list(self.tree.walk(points[0]))
         below = {w: int(w in leaves) for w, _, _ in steps}
         for w, before, _ in reversed(steps[1:]):

@@ -674,8 +674,7 @@ class Kinds(unittest.TestCase):
         star = [(0, v) for v in range(1, 200)]
         for name, losses, full in [
             ("town of 120", town(120, 1), True),
-            ("town of 256", town(256, 2), True),
-            ("rings", rings_in_a_row(256), True),
+            ("rings", rings_in_a_row(240), True),
             ("links that cross", made(100, crossed), False),
             ("star", made(200, star), False),
         ]:

@@ -47,11 +47,11 @@ def links_of(links):
     return f"link{'' if len(links) == 1 else 's'} {', '.join(links)}"
 
 
-def in_short(places, names):
-    """units 2 (gate), 5; links 2-3, 5-6; many links are counted"""
+def in_short(places, names, most=None):
+    """units 2 (gate), 5; links 2-3, 5-6; many links are counted, and units past the most words where given"""
     units = [place.number for place in places if place.ends is None]
     links = [f"{a}-{b}" for a, b in sorted(place.ends for place in places if place.ends)]
-    said = [units_of(units, names)] if units else []
+    said = [units_of(units, names, most)] if units else []
     if links:
         said.append(links_of(links) if len(links) <= ALTERED else counted(len(links), "link"))
     return "; ".join(said)
