@@ -53,13 +53,17 @@ pub fn later_refusal(links: usize, outside: bool, places: usize, spaces: usize) 
     ensures { λ r. ⌜ r ≡ laterRefusal links outside places spaces ⌝ }
 {
     if table::MAX_LINKS < links {
-        return 6;
+        return table_refusals::TOO_MANY_LINKS;
     }
     if outside {
-        return 16;
+        return table_refusals::LEVEL_OUTSIDE;
     }
     if places < 2 * links {
-        return 14;
+        return table_refusals::TOO_SHORT;
     }
-    if spaces < links { 14 } else { 0 }
+    if spaces < links {
+        table_refusals::TOO_SHORT
+    } else {
+        table_refusals::DONE
+    }
 }

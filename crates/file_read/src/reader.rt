@@ -36,7 +36,7 @@ pub(crate) fn refusal(t: &[u8], file: &[u8], places: usize, spaces: usize) -> u8
     while at < file.len() {
         let kind = lines::kind(t, &file[at..]);
         if kind == 0 {
-            return 1;
+            return table_refusals::FAULTY_LINE;
         }
         last = at;
         if kind == kinds::LINK {
@@ -56,10 +56,10 @@ pub(crate) fn refusal(t: &[u8], file: &[u8], places: usize, spaces: usize) -> u8
         at += crate::judge::line_length(kind);
     }
     if order != crate::judge::ENDED {
-        return 2;
+        return table_refusals::OUT_OF_ORDER;
     }
     if marks::word_at(t, file, last + 2) as usize != links {
-        return 3;
+        return table_refusals::COUNT_DIFFERS;
     }
     crate::judge::later_refusal(links, outside, places, spaces)
 }

@@ -18,7 +18,7 @@ pub(crate) fn refusal(units: u16, words: &[u16], levels: &[i16], places: usize) 
         return refused;
     }
     if places < 18 + 15 * (words.len() / 2) {
-        return 14;
+        return table_refusals::TOO_SHORT;
     }
     0
 }

@@ -21,7 +21,7 @@ pub fn write(status: Status, out: &mut [u8]) -> u8
         (now (out .entry)) ⌝ }
 {
     if out.len() < LENGTH {
-        return 14;
+        return table_refusals::TOO_SHORT;
     }
     let body = [
         KIND,

@@ -41,13 +41,13 @@ fn given_refusal<'a>(units: u16, links: u16, ends: &'a [u16], pairs: &'a [u16], 
     ensures { λ r. ⌜ r ≡ givenRefusal units links (now (ends .entry)) (now (pairs .entry)) places ⌝ }
 {
     if !site_fits(units, links, ends) {
-        return 10;
+        return table_refusals::NOT_KEPT;
     }
     if places < units as usize {
-        return 14;
+        return table_refusals::TOO_SHORT;
     }
     if bad_pairs(units, pairs) {
-        return 19;
+        return table_refusals::BAD_PAIRS;
     }
     0
 }
@@ -67,7 +67,7 @@ pub fn write<'a>(units: u16, links: u16, ends: &'a [u16], pairs: &'a [u16], out:
     let mut order = chains::zeros();
     let left = growth::grown(units, &ends[..2 * (links as usize)], pairs, &mut order);
     if left != 0 {
-        return 20;
+        return table_refusals::NO_ORDER;
     }
     base_copies::lay_first(units, &order, out);
     0

@@ -24,11 +24,11 @@ pub fn refusal(units: u16, table: &[u16], levels: &[i16], parents: &[u16]) -> u8
         return refused;
     }
     if parents.len() != units as usize {
-        return 17;
+        return table_refusals::PLAN_LENGTH;
     }
     let links = (table.len() / 2) as u16;
     if unfit(units, links, table, parents) {
-        return 18;
+        return table_refusals::PLAN_NO_TREE;
     }
     table::refusal(true, units, table, levels)
 }

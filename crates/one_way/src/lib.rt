@@ -44,5 +44,9 @@ fn refusal(units: u16, links: &[u16], words: usize) -> u8
     if number != 0 {
         return number;
     }
-    if words < units as usize { 14 } else { 0 }
+    if words < units as usize {
+        table_refusals::TOO_SHORT
+    } else {
+        table_refusals::DONE
+    }
 }

@@ -20,13 +20,13 @@ pub fn report_refusal(well: bool, stage: u16, units: u16, links: u16, places: us
         ∷ (14, ltb places (reportLength units links)) ∷ []) ⌝ }
 {
     if !well {
-        return 10;
+        return table_refusals::NOT_KEPT;
     }
     if stage != Clock::FINISHED {
-        return 12;
+        return table_refusals::BEFORE_END;
     }
     if places < 26 + 23 * (units as usize) + 15 * (links as usize) {
-        return 14;
+        return table_refusals::TOO_SHORT;
     }
     0
 }

@@ -18,16 +18,16 @@ pub fn two_links(
     ensures { λ r. ⌜ r ≡ twoRefusal well (eqb stage 11) links first second number own ⌝ }
 {
     if !well {
-        return 10;
+        return table_refusals::NOT_KEPT;
     }
     if stage != Clock::FINISHED {
-        return 12;
+        return table_refusals::BEFORE_END;
     }
     if links <= first {
-        return 13;
+        return table_refusals::NO_SUCH_NAME;
     }
     if links <= second {
-        return 13;
+        return table_refusals::NO_SUCH_NAME;
     }
     if own { number } else { 0 }
 }

@@ -421,9 +421,13 @@ fn refusal(well: bool, stage: u16) -> u8
     ensures { λ r. ⌜ r ≡ firstOf ((10, not well) ∷ (11, eqb stage 11) ∷ []) ⌝ }
 {
     if !well {
-        return 10;
+        return table_refusals::NOT_KEPT;
     }
-    if stage == Clock::FINISHED { 11 } else { 0 }
+    if stage == Clock::FINISHED {
+        table_refusals::AT_END
+    } else {
+        table_refusals::DONE
+    }
 }
 
 // The state after a run, and the rounds made.

@@ -13,7 +13,7 @@ impl Survey {
         if !self.well_formed() {
             return Answer {
                 survey: self,
-                reply: Reply::Refused(10),
+                reply: Reply::Refused(table_refusals::NOT_KEPT),
             };
         }
         let c = self.clock;

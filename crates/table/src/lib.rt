@@ -27,9 +27,13 @@ pub fn refusal(fresh: bool, units: u16, table: &[u16], levels: &[i16]) -> u8
         return number;
     }
     if !fresh {
-        return 0;
+        return table_refusals::DONE;
     }
-    if unlinked(units, table) { 22 } else { 0 }
+    if unlinked(units, table) {
+        table_refusals::UNLINKED_UNIT
+    } else {
+        table_refusals::DONE
+    }
 }
 
 // The same of a stored table.
@@ -77,16 +81,16 @@ fn counts(units: u16, table: &[u16]) -> u8
     ensures { λ r. ⌜ r ≡ countRefusal units (now (table .entry)) ⌝ }
 {
     if units == 0 {
-        return 4;
+        return table_refusals::BAD_UNIT_COUNT;
     }
     if MAX_UNITS < units {
-        return 4;
+        return table_refusals::BAD_UNIT_COUNT;
     }
     if table.len() % 2 == 1 {
-        return 5;
+        return table_refusals::ODD_WORDS;
     }
     if MAX_LINKS < table.len() / 2 {
-        return 6;
+        return table_refusals::TOO_MANY_LINKS;
     }
     0
 }
@@ -96,7 +100,7 @@ fn levelled(table: &[u16], levels: &[i16]) -> u8
     ensures { λ r. ⌜ r ≡ levelRefusal (now (table .entry)) (now (levels .entry)) ⌝ }
 {
     if levels.len() != table.len() / 2 {
-        return 15;
+        return table_refusals::LEVELS_DIFFER;
     }
     if table_levels::all_in_range(levels) {
         0
@@ -111,13 +115,13 @@ fn ends(ordered: bool, units: u16, table: &[u16]) -> u8
     ensures { λ r. ⌜ r ≡ endRefusal units (now (table .entry)) (repeatedAs ordered (now (table .entry))) ⌝ }
 {
     if end_missing(units, table) {
-        return 7;
+        return table_refusals::END_MISSING;
     }
     if equal_ends(table) {
-        return 8;
+        return table_refusals::EQUAL_ENDS;
     }
     if repeated(ordered, table) {
-        return 9;
+        return table_refusals::REPEATED_LINK;
     }
     0
 }

@@ -48,10 +48,14 @@ fn question_refusal(s: Survey, exists: bool) -> u8
     ensures { λ r. ⌜ r ≡ questionRefusal (of s) exists ⌝ }
 {
     if !s.well_formed() {
-        return 10;
+        return table_refusals::NOT_KEPT;
     }
     if s.clock.stage != Clock::FINISHED {
-        return 12;
+        return table_refusals::BEFORE_END;
     }
-    if exists { 0 } else { 13 }
+    if exists {
+        table_refusals::DONE
+    } else {
+        table_refusals::NO_SUCH_NAME
+    }
 }

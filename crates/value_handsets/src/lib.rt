@@ -35,7 +35,7 @@ fn shown(service: bool, survey: Survey, out: &mut [u8]) -> Answer
     if !survey.well_formed() {
         return Answer {
             survey,
-            reply: Reply::Refused(10),
+            reply: Reply::Refused(table_refusals::NOT_KEPT),
         };
     }
     let refused = handset_lines::write(service, status_of(survey), out);

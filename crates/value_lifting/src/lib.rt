@@ -36,10 +36,10 @@ fn early_refusal(s: Survey) -> u8
     ensures { λ r. ⌜ r ≡ earlyRefusal (of s) ⌝ }
 {
     if !s.well_formed() {
-        return 10;
+        return table_refusals::NOT_KEPT;
     }
     if s.clock.stage != Clock::FINISHED {
-        return 12;
+        return table_refusals::BEFORE_END;
     }
     0
 }

@@ -29,13 +29,13 @@ pub(crate) fn refusal<'a>(
     }) ⌝ }
 {
     if units == 0 {
-        return 4;
+        return table_refusals::BAD_UNIT_COUNT;
     }
     if table::MAX_UNITS < units {
-        return 4;
+        return table_refusals::BAD_UNIT_COUNT;
     }
     if 1024 < links {
-        return 6;
+        return table_refusals::TOO_MANY_LINKS;
     }
     let m = links as usize;
     held_refusal(units, links, &ends[..2 * m], &levels[..m], counts)
@@ -56,7 +56,7 @@ fn held_refusal<'a>(
         return refused;
     }
     if live_table::miscounted(links, words, counts) {
-        return 10;
+        return table_refusals::NOT_KEPT;
     }
     0
 }
@@ -76,21 +76,25 @@ pub(crate) fn link_refusal(units: u16, links: u16, a: u16, b: u16, level: i16, j
         ∷ (8, eqb a b) ∷ (9, joined) ∷ []) ⌝ }
 {
     if 1024 <= links {
-        return 6;
+        return table_refusals::TOO_MANY_LINKS;
     }
     if !table_levels::in_range(level) {
-        return 16;
+        return table_refusals::LEVEL_OUTSIDE;
     }
     if units <= a {
-        return 7;
+        return table_refusals::END_MISSING;
     }
     if units <= b {
-        return 7;
+        return table_refusals::END_MISSING;
     }
     if a == b {
-        return 8;
+        return table_refusals::EQUAL_ENDS;
     }
-    if joined { 9 } else { 0 }
+    if joined {
+        table_refusals::REPEATED_LINK
+    } else {
+        table_refusals::DONE
+    }
 }
 
 // Of two units whose link is to be withdrawn, by whether they have one: 7, 8, 21.
@@ -98,13 +102,17 @@ pub(crate) fn pair_refusal(units: u16, a: u16, b: u16, joined: bool) -> u8
     ensures { λ r. ⌜ r ≡ firstOf ((7, leb units a || leb units b) ∷ (8, eqb a b) ∷ (21, not joined) ∷ []) ⌝ }
 {
     if units <= a {
-        return 7;
+        return table_refusals::END_MISSING;
     }
     if units <= b {
-        return 7;
+        return table_refusals::END_MISSING;
     }
     if a == b {
-        return 8;
+        return table_refusals::EQUAL_ENDS;
     }
-    if joined { 0 } else { 21 }
+    if joined {
+        table_refusals::DONE
+    } else {
+        table_refusals::NO_SUCH_LINK
+    }
 }

@@ -15,12 +15,16 @@ pub fn refusal(state: &[u16; STATE_WORDS], exists: bool) -> u32
     ensures { λ r. ⌜ r ≡ questionRefusal (stateOf (now (state .entry))) exists ⌝ }
 {
     if !words_layout::kept(state) {
-        return 10;
+        return table_refusals::NOT_KEPT as u32;
     }
     if words_layout::clock_at(state).stage != Clock::FINISHED {
-        return 12;
+        return table_refusals::BEFORE_END as u32;
     }
-    if exists { 0 } else { 13 }
+    if exists {
+        table_refusals::DONE as u32
+    } else {
+        table_refusals::NO_SUCH_NAME as u32
+    }
 }
 
 // Stage, countdown, all rounds, requests.

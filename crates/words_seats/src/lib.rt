@@ -44,14 +44,23 @@ pub fn serve(last: u16, seats: &mut [[u16; STATE_WORDS]; 8]) -> Served
 {
     words_known::seats(seats);
     if LAST_SEAT < last {
-        return Served { number: 10, last };
+        return Served {
+            number: table_refusals::NOT_KEPT as u32,
+            last,
+        };
     }
     let next = channel_turns::pick(last, words_seat_tests::flags(seats));
     if !words_seat_tests::others_sound(seats, next) {
-        return Served { number: 10, last };
+        return Served {
+            number: table_refusals::NOT_KEPT as u32,
+            last,
+        };
     }
     if LAST_SEAT < next {
-        return Served { number: 11, last };
+        return Served {
+            number: table_refusals::AT_END as u32,
+            last,
+        };
     }
     let number = words_run::round(&mut seats[next as usize]);
     words_known::seats(seats);
@@ -59,7 +68,7 @@ pub fn serve(last: u16, seats: &mut [[u16; STATE_WORDS]; 8]) -> Served
         return Served { number, last };
     }
     Served {
-        number: 0,
+        number: table_refusals::DONE as u32,
         last: next,
     }
 }
