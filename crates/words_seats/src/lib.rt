@@ -11,10 +11,15 @@ ghost use Rattle.words_seats.specs.SeatsLeft.{TickedWords, LoadedSeat};
 pub use channel_turns::Turn;
 pub use channel_turns::pick;
 
-// Seats are numbered from 0 on; the number of one that isn't there.
+// Seats are numbered from 0 on.
 const LAST_SEAT: u16 = 7;
 
-const NO_SUCH_SEAT: u32 = 23;
+// The refusals of these calls, as C has them.
+const NOT_KEPT: u32 = table_refusals::NOT_KEPT as u32;
+
+const AT_END: u32 = table_refusals::AT_END as u32;
+
+const NO_SUCH_SEAT: u32 = table_refusals::NO_SUCH_SEAT as u32;
 
 // What a tick replies: its number, and the seat last served after it.
 pub struct Served {
@@ -45,20 +50,20 @@ pub fn serve(last: u16, seats: &mut [[u16; STATE_WORDS]; 8]) -> Served
     words_known::seats(seats);
     if LAST_SEAT < last {
         return Served {
-            number: table_refusals::NOT_KEPT as u32,
+            number: NOT_KEPT,
             last,
         };
     }
     let next = channel_turns::pick(last, words_seat_tests::flags(seats));
     if !words_seat_tests::others_sound(seats, next) {
         return Served {
-            number: table_refusals::NOT_KEPT as u32,
+            number: NOT_KEPT,
             last,
         };
     }
     if LAST_SEAT < next {
         return Served {
-            number: table_refusals::AT_END as u32,
+            number: AT_END,
             last,
         };
     }
