@@ -137,5 +137,26 @@ class Versions(unittest.TestCase):
         self.assertTrue({str(k) for k in range(1, version + 1)} <= set(told))
 
 
+class Caller(unittest.TestCase):
+    def test_shown(self):
+        """The manual's caller is the program that the gate builds and runs."""
+        source = contents("crates/check_caller/src/main.rt")
+        shown = source[source.index("use "):]
+        self.assertIn("```\n" + shown + "```", contents("docs/MANUAL.md"))
+
+    def test_printed(self):
+        """It prints document 01's report of case B, as the program does."""
+        self.assertEqual(contents("crates/check_caller/stdout"), contents("examples/case-b.report.txt"))
+
+
+class Refusals(unittest.TestCase):
+    def test_names(self):
+        """The library and its header have the same names for the same numbers."""
+        code = re.findall(r"pub const (\w+): u8 = (\d+);", contents("crates/table_refusals/src/lib.rt"))
+        header = re.findall(r"LINK_SURVEY_(\w+) = (\d+)[, ]", contents("include/link_survey.h"))
+        header = header[:[name for name, _ in header].index("NO_SUCH_SEAT") + 1]
+        self.assertEqual(code, header)
+
+
 if __name__ == "__main__":
     unittest.main()
