@@ -57,6 +57,8 @@ class Told:
         if self.weak or len(self.found.losses.pieces()) > 1:
             limits = "within the limits " if self.found.limited else ""
             yield f"where spares go: {limits}no pair of units cures anything"
+        elif self.found.left_out and not self.found.losses.site.links:
+            yield "where spares go: no unit hears another yet: switch them on first"
         else:
             yield "no spare is needed: no weak place"
 
@@ -85,13 +87,12 @@ class Told:
         found = self.found
         if not self.weak and len(found.losses.groups) == 1:
             return
-        if found.losses.site.units == 2:
+        if found.losses.site.units == 2 or [len(part) for part in found.losses.pieces()] == [2]:
             yield "two units have but one link, which stays lone: only a spare that both hear cures it"
-            return
-        if self.weak or len(found.losses.pieces()) > 1:
+        elif self.weak or len(found.losses.pieces()) > 1:
             apart = len(found.losses.pieces()) > 1
             yield from self.remedy(found.remedy, "join the groups and cure all" if apart else "cure all")
-        if found.whole:
+        if found.whole and found.losses.site.units > 2:
             units = units_of(found.left_out, self.names)
             yield from self.remedy(found.whole, f"cure all and join {units} too")
 

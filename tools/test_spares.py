@@ -290,7 +290,11 @@ class AtTheDoor(Door):
 
     def test_nothing_to_cure(self):
         self.assertIn("no spare is needed: no weak place\n", self.spares(text_of(3, [(0, 1), (1, 2), (0, 2)])))
-        self.assertIn("only a spare that both hear cures it", self.spares(text_of(2, [(0, 1)])))
+        for units in 2, 3:
+            said = self.spares(text_of(units, [(0, 1)]))
+            self.assertIn("only a spare that both hear cures it", said)
+            self.assertNotIn("could cure all: 0", said)
+        self.assertIn("no unit hears another yet", self.spares(text_of(3, [])))
 
     @unittest.skipUnless(os.path.exists(PROGRAM), "target/bin/link_survey is not built (rt check link_survey)")
     def test_by_the_program(self):
