@@ -1,4 +1,4 @@
-//! Links the proved library's C face, for the feature `face` alone, and the crate `words_seats` for `record`.
+//! Links the proved library's C face, for the feature `face` alone.
 
 use std::path::Path;
 
@@ -10,9 +10,6 @@ fn main() {
     let folder = Path::new(env!("CARGO_MANIFEST_DIR")).join("../target/staticlib");
     println!("cargo::rustc-link-search=native={}", folder.display());
     link(&folder, "survey_c");
-    if std::env::var_os("CARGO_FEATURE_RECORD").is_some() {
-        link(&folder, "words_seats");
-    }
 }
 
 fn link(folder: &Path, name: &str) {

@@ -36,8 +36,15 @@ static const char *const refusals[] = {
     "the survey is not finished",
     "there is no such unit or link",
     "there is too little room",
-    "the levels are not as many as the links",
-    "a level is below -127 or above 0 dBm"
+    "the levels, or the marks, are not as many as the links",
+    "a level is below -127 or above 0 dBm",
+    "the parents are not as many as the units",
+    "the parents are no tree of the site",
+    "there are too many pairs, an odd number of words, or a pair names no unit",
+    "there is no lifting order",
+    "no link joins the two units",
+    "a unit has no link",
+    "there is no such seat"
 };
 
 static const char *const stages[] = {

@@ -5,12 +5,14 @@
  * single point (a unit whose loss parts the site) and every lone link (one that no ring backs up). "Document 01" is
  * the customer's paper, "document 02" the list of changes to it.
  *
- * Link with libsurvey_c.a, made by `rt staticlib survey_c` (x86-64).
+ * Link with libsurvey_c.a, made by `rt staticlib survey_c` (x86-64) or by `tools/cross TARGET` (Arm, RISC-V).
  *
  * - Re-entrance: the library has no variables of its own, so calls that share no lent memory may run at the same time.
- * - Stack: allow 80 KiB; the deepest call, link_survey_report, was measured at 62 KiB, link_survey_lifting_order at
- *   36 KiB, link_survey_run at 32 KiB, all others below 30 KiB.
+ * - Stack: allow 80 KiB; the deepest call, link_survey_report, was measured at 62 KiB on x86-64 and at 65 KiB on 64-bit
+ *   Arm, link_survey_lifting_order at 36 KiB, link_survey_run at 35 KiB, all others below 31 KiB.
  * - Freestanding use: no heap, no files, no start-up code; of the C library only memcpy and memset are needed.
+ * - Processors: a length has 64 bits on every one. Words, levels and bytes are read and written as such, so that no
+ *   call depends on the order of bytes in memory; the bytes of a stored state have the order of the processor.
  * - Storing a state: its words may be saved and brought back, but keep a checksum of your own with them, for a changed
  *   bit may leave a state that is kept, and the survey then goes on from what it finds.
  *
@@ -24,7 +26,7 @@
  *   contents and no length of a slice break a call.
  * - The number that comes back is one of enum link_survey_refusal, LINK_SURVEY_DONE (0) where the call was not refused
  *   (link_survey_report alone gives a number of bytes). A function looks for its refusals in the order in which they
- *   are listed, and gives the first that applies.
+ *   are listed, and gives the first that applies. link_survey_version gives no such number.
  * - On a refusal nothing that was lent is altered. Else only what is listed as altered is; words and bytes past what is
  *   written stay.
  */
@@ -34,6 +36,9 @@
 #include <stddef.h>
 #include <stdint.h>
 
+/* The number of elements of a slice. Where a size_t has 64 bits, as on x86-64, the calls are those of a size_t. */
+typedef uint64_t link_survey_length;
+
 /*
  * The version of these declarations: it grows with each change. 3 has link_survey_read and link_survey_write; 4 has
  * levels: link_survey_load, link_survey_read and link_survey_write take them, and a state has 1,024 words more; 5 has
@@ -41,18 +46,20 @@
  * link_survey_load_stored, and link_survey_load, link_survey_seat_load and link_survey_write refuse with 22; 8 has
  * link_survey_load_planned, and a state has 257 words more; 9 has link_survey_ring, link_survey_lifting_order,
  * link_survey_doubtful, link_survey_one_way and live tables: link_survey_live_open, link_survey_live_add and
- * link_survey_live_withdraw.
+ * link_survey_live_withdraw; 10 has link_survey_length in place of size_t, link_survey_version, struct
+ * link_survey_turn, which link_survey_tick takes, link_survey_seat_load_stored and link_survey_seat_load_planned.
  */
-#define LINK_SURVEY_VERSION 9
+#define LINK_SURVEY_VERSION 10
 
 /*
  * The words of a state, lent by the caller to every call on a state (all but link_survey_report, link_survey_read,
  * link_survey_write, link_survey_one_way and those of live tables): units, links, the ends of the links (2,048); stage,
  * rounds made in the stage, all rounds, requests; then the tables of the stages, each whole, in the order of
- * crates/words_layout/specs/Layout.antt; the levels of the links (1,024), each as its 16 bits in two's complement, 0 past the
- * links after a load; last the parents that the planner drew (256), absent without a plan, and whether a plan was given,
- * any number but 0. Any words are a state. One whose words are out of their bounds is "not kept", and refused with 10 by
- * all calls on a state but the loads. Before the first load the words may hold anything; all zeros are not kept.
+ * crates/words_layout/specs/Layout.antt; the levels of the links (1,024), each as its 16 bits in two's complement, 0
+ * past the links after a load; last the parents that the planner drew (256), absent without a plan, and whether a plan
+ * was given, any number but 0. Any words are a state. One whose words are out of their bounds is "not kept", and
+ * refused with 10 by all calls on a state but the loads. Before the first load the words may hold anything; all zeros
+ * are not kept.
  */
 #define LINK_SURVEY_STATE_WORDS 12295
 
@@ -71,9 +78,8 @@
 /* The most pairs "this before that" of a lifting order. */
 #define LINK_SURVEY_MAX_PAIRS 256
 
-/* The seats of an office, and the seat last served before any tick: the search then begins at seat 0. */
+/* The seats of an office. */
 #define LINK_SURVEY_SEATS 8
-#define LINK_SURVEY_FIRST_TURN 7
 
 /* The level of a link: its received signal in dBm, from the lowest to the highest. */
 #define LINK_SURVEY_LOWEST_LEVEL (-127)
@@ -118,7 +124,7 @@ enum link_survey_refusal {
     LINK_SURVEY_REPEATED_LINK = 9,   /* two links join the same two units, whichever way round */
     LINK_SURVEY_NOT_KEPT = 10,       /* the state is not kept; of a tick, a loaded seat or the seat last served; of a
                                         live table, a stored number of links is not the count */
-    LINK_SURVEY_AT_END = 11,         /* a round or run is wanted of a finished survey, a tick with every seat finished */
+    LINK_SURVEY_AT_END = 11,         /* a round or run is wanted of a finished survey, a tick with all seats finished */
     LINK_SURVEY_BEFORE_END = 12,     /* a question or report is wanted before the end */
     LINK_SURVEY_NO_SUCH_NAME = 13,   /* the unit or position does not exist */
     LINK_SURVEY_TOO_SHORT = 14,      /* the slice that is written to is too short */
@@ -188,9 +194,40 @@ enum link_survey_live_index {
     LINK_SURVEY_LIVE_COUNTS = 3074  /* the number of links at unit v, at v from here */
 };
 
+/* What the calls rely on, tried by the compiler. */
+#if defined(__cplusplus) || (defined(__STDC_VERSION__) && __STDC_VERSION__ >= 202311L)
+#define LINK_SURVEY_ASSERT(name, holds) static_assert(holds, #name)
+#elif defined(__STDC_VERSION__) && __STDC_VERSION__ >= 201112L
+#define LINK_SURVEY_ASSERT(name, holds) _Static_assert(holds, #name)
+#else
+#define LINK_SURVEY_ASSERT(name, holds) typedef char link_survey_assert_##name[(holds) ? 1 : -1]
+#endif
+
+struct link_survey_aligned_word {
+    uint8_t byte;
+    uint16_t word;
+};
+
+LINK_SURVEY_ASSERT(a_word_and_a_level_have_2_bytes, sizeof(uint16_t) == 2 && sizeof(int16_t) == 2);
+LINK_SURVEY_ASSERT(a_word_stands_at_an_even_place, offsetof(struct link_survey_aligned_word, word) == 2);
+LINK_SURVEY_ASSERT(a_number_has_4_bytes, sizeof(uint32_t) == 4);
+LINK_SURVEY_ASSERT(a_length_has_8_bytes, sizeof(link_survey_length) == 8);
+LINK_SURVEY_ASSERT(a_length_holds_every_size, sizeof(size_t) <= sizeof(link_survey_length));
+LINK_SURVEY_ASSERT(the_largest_report,
+                   LINK_SURVEY_REPORT_BYTES(LINK_SURVEY_MAX_UNITS, LINK_SURVEY_MAX_LINKS)
+                       == LINK_SURVEY_MAX_REPORT_BYTES);
+LINK_SURVEY_ASSERT(the_largest_file, LINK_SURVEY_FILE_BYTES(LINK_SURVEY_MAX_LINKS) == LINK_SURVEY_MAX_FILE_BYTES);
+LINK_SURVEY_ASSERT(a_live_table_ends_with_its_counts,
+                   LINK_SURVEY_LIVE_WORDS == LINK_SURVEY_LIVE_COUNTS + LINK_SURVEY_MAX_UNITS);
+
+#undef LINK_SURVEY_ASSERT
+
 #ifdef __cplusplus
 extern "C" {
 #endif
+
+/* The version that the archive was made for: LINK_SURVEY_VERSION of its header. A set compares the two at its start. */
+uint32_t link_survey_version(void);
 
 /*
  * The whole work at once: from the bytes of a survey file to what the program prints for it, the report or only the 1E
@@ -202,7 +239,7 @@ extern "C" {
  * returns  the number of bytes written; 0, with nothing written, where out is too short.
  *          LINK_SURVEY_MAX_REPORT_BYTES are always enough.
  */
-uint32_t link_survey_report(const uint8_t *in, size_t in_len, uint8_t *out, size_t out_len);
+uint32_t link_survey_report(const uint8_t *in, link_survey_length in_len, uint8_t *out, link_survey_length out_len);
 
 /*
  * Read a survey file into words and levels, for link_survey_load or link_survey_load_stored. No state is used.
@@ -215,8 +252,8 @@ uint32_t link_survey_report(const uint8_t *in, size_t in_len, uint8_t *out, size
  * links    altered: the number of links. What to load has 2 words and a level for each; units and links are two words.
  * returns  1, 2, 3, 6, 16, 14 (table or levels), or 0.
  */
-uint32_t link_survey_read(const uint8_t *in, size_t in_len, uint16_t *table, size_t table_len, int16_t *levels,
-                          size_t levels_len, uint16_t *units, uint16_t *links);
+uint32_t link_survey_read(const uint8_t *in, link_survey_length in_len, uint16_t *table, link_survey_length table_len,
+                          int16_t *levels, link_survey_length levels_len, uint16_t *units, uint16_t *links);
 
 /*
  * Write the survey file of a table and its levels, every link as kind 03, line feeds included. The table is judged as a
@@ -228,8 +265,8 @@ uint32_t link_survey_read(const uint8_t *in, size_t in_len, uint16_t *table, siz
  * out      altered: LINK_SURVEY_FILE_BYTES(m) bytes at its front, for the m links of the table.
  * returns  4, 5, 6, 15, 16, 7, 8, 9, 22, 14, or 0.
  */
-uint32_t link_survey_write(uint16_t units, const uint16_t *table, size_t table_len, const int16_t *levels,
-                           size_t levels_len, uint8_t *out, size_t out_len);
+uint32_t link_survey_write(uint16_t units, const uint16_t *table, link_survey_length table_len, const int16_t *levels,
+                           link_survey_length levels_len, uint8_t *out, link_survey_length out_len);
 
 /*
  * Load a fresh table with its levels and begin its survey: stage 1, no round made.
@@ -241,7 +278,7 @@ uint32_t link_survey_write(uint16_t units, const uint16_t *table, size_t table_l
  * returns  4, 5, 6, 15, 16, 7, 8, 9, 22, or 0.
  */
 uint32_t link_survey_load(uint16_t state[LINK_SURVEY_STATE_WORDS], uint16_t units, const uint16_t *table,
-                          size_t table_len, const int16_t *levels, size_t levels_len);
+                          link_survey_length table_len, const int16_t *levels, link_survey_length levels_len);
 
 /*
  * Load a table that was stored: as link_survey_load, but a unit without a link is no refusal. What is surveyed of a
@@ -250,7 +287,7 @@ uint32_t link_survey_load(uint16_t state[LINK_SURVEY_STATE_WORDS], uint16_t unit
  * returns  4, 5, 6, 15, 16, 7, 8, 9, or 0.
  */
 uint32_t link_survey_load_stored(uint16_t state[LINK_SURVEY_STATE_WORDS], uint16_t units, const uint16_t *table,
-                                 size_t table_len, const int16_t *levels, size_t levels_len);
+                                 link_survey_length table_len, const int16_t *levels, link_survey_length levels_len);
 
 /*
  * Load a fresh table with a tree drawn by the planner, which takes the place of the survey's own: stage 2 takes it over
@@ -261,8 +298,8 @@ uint32_t link_survey_load_stored(uint16_t state[LINK_SURVEY_STATE_WORDS], uint16
  * returns  4, 5, 6, 15, 16, 7, 8, 9, 17, 18, 22, or 0.
  */
 uint32_t link_survey_load_planned(uint16_t state[LINK_SURVEY_STATE_WORDS], uint16_t units, const uint16_t *table,
-                                  size_t table_len, const int16_t *levels, size_t levels_len, const uint16_t *parents,
-                                  size_t parents_len);
+                                  link_survey_length table_len, const int16_t *levels, link_survey_length levels_len,
+                                  const uint16_t *parents, link_survey_length parents_len);
 
 /*
  * Make one round.
@@ -299,7 +336,8 @@ uint32_t link_survey_status(const uint16_t state[LINK_SURVEY_STATE_WORDS], uint1
  * out      altered: LINK_SURVEY_FOREMAN_LINE_BYTES bytes at its front.
  * returns  10, 14, or 0.
  */
-uint32_t link_survey_foreman_line(const uint16_t state[LINK_SURVEY_STATE_WORDS], uint8_t *out, size_t out_len);
+uint32_t link_survey_foreman_line(const uint16_t state[LINK_SURVEY_STATE_WORDS], uint8_t *out,
+                                  link_survey_length out_len);
 
 /*
  * The line of the service handset: a frame of kind 21 with the stage as one byte, the countdown, all rounds and the
@@ -308,7 +346,8 @@ uint32_t link_survey_foreman_line(const uint16_t state[LINK_SURVEY_STATE_WORDS],
  * out      altered: LINK_SURVEY_SERVICE_LINE_BYTES bytes at its front.
  * returns  10, 14, or 0.
  */
-uint32_t link_survey_service_line(const uint16_t state[LINK_SURVEY_STATE_WORDS], uint8_t *out, size_t out_len);
+uint32_t link_survey_service_line(const uint16_t state[LINK_SURVEY_STATE_WORDS], uint8_t *out,
+                                  link_survey_length out_len);
 
 /*
  * What the finished survey says of a unit.
@@ -336,7 +375,8 @@ uint32_t link_survey_link(const uint16_t state[LINK_SURVEY_STATE_WORDS], uint16_
  * out      altered: LINK_SURVEY_REPORT_BYTES(n, m) bytes at its front, for the n units and m links loaded.
  * returns  10, 12, 14, or 0.
  */
-uint32_t link_survey_state_report(const uint16_t state[LINK_SURVEY_STATE_WORDS], uint8_t *out, size_t out_len);
+uint32_t link_survey_state_report(const uint16_t state[LINK_SURVEY_STATE_WORDS], uint8_t *out,
+                                  link_survey_length out_len);
 
 /*
  * A ring that holds two links of the finished survey: each unit is linked to the next and the last to the first. One
@@ -350,12 +390,12 @@ uint32_t link_survey_state_report(const uint16_t state[LINK_SURVEY_STATE_WORDS],
  * returns  10, 12, 13, 14, or 0.
  */
 uint32_t link_survey_ring(const uint16_t state[LINK_SURVEY_STATE_WORDS], uint16_t first, uint16_t second, uint16_t *out,
-                          size_t out_len, uint16_t *count);
+                          link_survey_length out_len, uint16_t *count);
 
 /*
  * The order in which the units of the finished survey can be lifted one by one: every unit still standing is linked up
- * with unit 0 through standing units, and unit 0 goes last. Read from its end it takes each time the least-numbered unit
- * that may stand next. The links are read, and no label.
+ * with unit 0 through standing units, and unit 0 goes last. Read from its end it takes each time the least-numbered
+ * unit that may stand next. The links are read, and no label.
  *
  * pairs    two words a pair, "this unit before that one"; at most LINK_SURVEY_MAX_PAIRS pairs.
  * out      altered: the units, a word each, the one to be lifted first in front. It has as many places as the site has
@@ -363,7 +403,7 @@ uint32_t link_survey_ring(const uint16_t state[LINK_SURVEY_STATE_WORDS], uint16_
  * returns  10, 12, 14, 19, 20, or 0.
  */
 uint32_t link_survey_lifting_order(const uint16_t state[LINK_SURVEY_STATE_WORDS], const uint16_t *pairs,
-                                   size_t pairs_len, uint16_t *out, size_t out_len);
+                                   link_survey_length pairs_len, uint16_t *out, link_survey_length out_len);
 
 /*
  * Whether a ring holds two links of the finished survey however many of the doubtful links are absent. One position
@@ -376,11 +416,11 @@ uint32_t link_survey_lifting_order(const uint16_t state[LINK_SURVEY_STATE_WORDS]
  * returns  10, 12, 13, 15, or 0.
  */
 uint32_t link_survey_doubtful(const uint16_t state[LINK_SURVEY_STATE_WORDS], uint16_t first, uint16_t second,
-                              const uint8_t *marks, size_t marks_len, uint16_t *verdict);
+                              const uint8_t *marks, link_survey_length marks_len, uint16_t *verdict);
 
 /*
- * One-way links: each unit gets the least number in its strongly connected group, so that two units have the same number
- * exactly when each reaches the other along the links. No state is used.
+ * One-way links: each unit gets the least number in its strongly connected group, so that two units have the same
+ * number exactly when each reaches the other along the links. No state is used.
  *
  * units    the number of units, 1 to 256.
  * table    two words a link: from, to. A link each way is no repeat; the same ordered pair twice is 9.
@@ -388,13 +428,13 @@ uint32_t link_survey_doubtful(const uint16_t state[LINK_SURVEY_STATE_WORDS], uin
  * passes   altered: the passes that were made, at most as many as there are groups (one word).
  * returns  4, 5, 6, 7, 8, 9, 14, or 0.
  */
-uint32_t link_survey_one_way(uint16_t units, const uint16_t *table, size_t table_len, uint16_t *numbers,
-                             size_t numbers_len, uint16_t *passes);
+uint32_t link_survey_one_way(uint16_t units, const uint16_t *table, link_survey_length table_len, uint16_t *numbers,
+                             link_survey_length numbers_len, uint16_t *passes);
 
 /*
- * Live tables: a table of links that changes during the week, with the number of links at each unit. To survey one, load
- * 2 * m words from LINK_SURVEY_LIVE_ENDS on and m levels from LINK_SURVEY_LIVE_LEVELS on (as int16_t) of its units, with
- * m its links. No state is used.
+ * Live tables: a table of links that changes during the week, with the number of links at each unit. To survey one,
+ * load 2 * m words from LINK_SURVEY_LIVE_ENDS on and m levels from LINK_SURVEY_LIVE_LEVELS on (as int16_t) of its
+ * units, with m its links. No state is used.
  */
 
 /*
@@ -407,7 +447,7 @@ uint32_t link_survey_one_way(uint16_t units, const uint16_t *table, size_t table
  * returns  4, 5, 6, 15, 16, 7, 8, 9, or 0.
  */
 uint32_t link_survey_live_open(uint16_t live[LINK_SURVEY_LIVE_WORDS], uint16_t units, const uint16_t *table,
-                               size_t table_len, const int16_t *levels, size_t levels_len);
+                               link_survey_length table_len, const int16_t *levels, link_survey_length levels_len);
 
 /*
  * Add a link at the end. The live table is judged first, then the link.
@@ -420,8 +460,8 @@ uint32_t link_survey_live_open(uint16_t live[LINK_SURVEY_LIVE_WORDS], uint16_t u
 uint32_t link_survey_live_add(uint16_t live[LINK_SURVEY_LIVE_WORDS], uint16_t a, uint16_t b, int16_t level);
 
 /*
- * Withdraw the link that joins two units. The live table is judged first, then the units. Every later link moves down by
- * one position, its ends in their order and its level with it.
+ * Withdraw the link that joins two units. The live table is judged first, then the units. Every later link moves down
+ * by one position, its ends in their order and its level with it.
  *
  * live     altered: the live table without this link.
  * a, b     its two ends, in either order.
@@ -430,10 +470,19 @@ uint32_t link_survey_live_add(uint16_t live[LINK_SURVEY_LIVE_WORDS], uint16_t a,
 uint32_t link_survey_live_withdraw(uint16_t live[LINK_SURVEY_LIVE_WORDS], uint16_t a, uint16_t b);
 
 /*
- * Several sites over one channel. Eight seats, each the words of a state, and the number of the seat last served, one
- * word. A seat is empty while its unit count (its first word) is 0: begin with all words of the seats 0 and the number
- * LINK_SURVEY_FIRST_TURN. Every call on a state takes a seat too: link_survey_status(seats[i], reply).
+ * Several sites over one channel. Eight seats, each the words of a state, and a record of whose turn it is: the seat
+ * last served. A seat is empty while its unit count (its first word) and its stage are 0: begin with all words of the
+ * seats 0 and a turn that no tick has moved, from which the search begins at seat 0:
+ *
+ *     struct link_survey_turn turn = LINK_SURVEY_FIRST_TURN;
+ *
+ * Every call on a state takes a seat too: link_survey_status(seats[i], reply).
  */
+struct link_survey_turn {
+    uint16_t last; /* the seat last served */
+};
+
+#define LINK_SURVEY_FIRST_TURN {7}
 
 /*
  * Load a seat with a table and its levels, as link_survey_load loads a state.
@@ -442,17 +491,37 @@ uint32_t link_survey_live_withdraw(uint16_t live[LINK_SURVEY_LIVE_WORDS], uint16
  * seat     its number, 0 to 7.
  * returns  23, 4, 5, 6, 15, 16, 7, 8, 9, 22, or 0.
  */
-uint32_t link_survey_seat_load(uint16_t seats[LINK_SURVEY_SEATS][LINK_SURVEY_STATE_WORDS], uint16_t seat, uint16_t units,
-                               const uint16_t *table, size_t table_len, const int16_t *levels, size_t levels_len);
+uint32_t link_survey_seat_load(uint16_t seats[LINK_SURVEY_SEATS][LINK_SURVEY_STATE_WORDS], uint16_t seat,
+                               uint16_t units, const uint16_t *table, link_survey_length table_len,
+                               const int16_t *levels, link_survey_length levels_len);
+
+/*
+ * The same as link_survey_load_stored loads a state.
+ *
+ * returns  23, 4, 5, 6, 15, 16, 7, 8, 9, or 0.
+ */
+uint32_t link_survey_seat_load_stored(uint16_t seats[LINK_SURVEY_SEATS][LINK_SURVEY_STATE_WORDS], uint16_t seat,
+                                      uint16_t units, const uint16_t *table, size_t table_len, const int16_t *levels,
+                                      size_t levels_len);
+
+/*
+ * The same as link_survey_load_planned loads a state.
+ *
+ * returns  23, 4, 5, 6, 15, 16, 7, 8, 9, 17, 18, 22, or 0.
+ */
+uint32_t link_survey_seat_load_planned(uint16_t seats[LINK_SURVEY_SEATS][LINK_SURVEY_STATE_WORDS], uint16_t seat,
+                                       uint16_t units, const uint16_t *table, size_t table_len, const int16_t *levels,
+                                       size_t levels_len, const uint16_t *parents, size_t parents_len);
 
 /*
  * Give one round to the next unfinished seat after the one last served, going round. An empty seat counts as finished.
  *
- * last     altered: the seat that was served (one word).
+ * turn     altered: the seat that was served.
  * seats    altered: the words of that seat, one round on. The other seven stay.
- * returns  10 (last is above 7, or a loaded seat is not kept), 11 (every seat is finished), or 0.
+ * returns  10 (turn->last is above 7, or a loaded seat is not kept), 11 (every seat is finished), or 0.
  */
-uint32_t link_survey_tick(uint16_t *last, uint16_t seats[LINK_SURVEY_SEATS][LINK_SURVEY_STATE_WORDS]);
+uint32_t link_survey_tick(struct link_survey_turn *turn,
+                          uint16_t seats[LINK_SURVEY_SEATS][LINK_SURVEY_STATE_WORDS]);
 
 #ifdef __cplusplus
 }

@@ -1,11 +1,13 @@
-"""The block tree drawn as an outline: a box for each set of links that back each other up, single points between the boxes, lone links dashed.
+"""The block tree drawn as an outline: a box for each set of links that back each other up, single points between the
+boxes, lone links dashed.
 
-What hangs on a single point stands to its right and below; the heaviest branch goes on straight down, so that a long site fills columns
-rather than leaving the page to the right.
+What hangs on a single point stands to its right and below; the heaviest branch goes on straight down, so that a long
+site fills columns rather than leaving the page to the right.
 """
 from ink import DASH, FONT, INK, PAGE, WEAK, escape, opened, path, straight, text, width_of, wrapped
 from blocks import Forest, Point
 from captions import deaf_units, footer, header, linked_groups
+from legend import Rows, name_rows, spare_rows
 from losses import counted, listed
 
 LINE = 19  # from one line of text to the next
@@ -16,6 +18,7 @@ STEP = 17  # from a single point to what hangs on it
 INDENT = 20  # from a box to the single points below it
 NARROW = 90  # no text is set narrower
 EDGE = 16
+HEADED = 160  # about as high as the lines over and under a tree
 
 
 def pill_width(v):
@@ -71,7 +74,10 @@ def along(units, marked):
             k = i
             words.append(units[i])
         i = k + 1
-    said = [(str(word) + (" -" if n < len(words) - 1 else ""), word in marked or word == "…") for n, word in enumerate(words)]
+    said = [
+        (str(word) + (" -" if n < len(words) - 1 else ""), word in marked or word == "…")
+        for n, word in enumerate(words)
+    ]
     return said
 
 
@@ -111,7 +117,9 @@ def together(words, wide):
 
 def set_in_lines(words, wide):
     """The words in lines no wider than this."""
-    words = [(part, weak) for said, weak in words for part in (said.split(" ") if width_of(said) > wide / 2 else [said])]
+    words = [
+        (part, weak) for said, weak in words for part in (said.split(" ") if width_of(said) > wide / 2 else [said])
+    ]
     lines, room = [[]], wide
     for bunch, taken in together(words, wide):
         if lines[-1] and taken > room:
@@ -120,6 +128,10 @@ def set_in_lines(words, wide):
         lines[-1] += bunch
         room -= taken
     return lines
+
+
+def spaced(numbers):
+    return " ".join(map(str, numbers))
 
 
 class Narrow(Exception):
@@ -141,7 +153,9 @@ class Outline:
         for k, part in enumerate(parts):
             alike = sizes.count(len(part))
             if len(losses.groups) > 1 and sizes.index(len(part)) == k:
-                self.heading(f"{alike} groups of {len(part)} units each" if alike > 1 else f"group of {len(part)} units")
+                self.heading(
+                    f"{alike} groups of {len(part)} units each" if alike > 1 else f"group of {len(part)} units"
+                )
             elif alike > 1 and len(part) > 2:
                 self.rule()
             root = next(root for root in forest.roots if self.holds(root, part))
@@ -190,17 +204,24 @@ class Outline:
         lines = set_in_lines(words, room)
         w = max(sum(width_of(said + " ", FONT, weak) for said, weak in line) for line in lines) + 2 * PAD
         top, high = y - PILL, 2 * PILL + LINE * (len(lines) - 1)
-        look = {"set": f'stroke="{INK}" stroke-width="2.2"', "deaf": f'stroke="{WEAK}" stroke-width="3" stroke-dasharray="2 4"'}
+        look = {
+            "set": f'stroke="{INK}" stroke-width="2.2"',
+            "deaf": f'stroke="{WEAK}" stroke-width="3" stroke-dasharray="2 4"',
+        }
         frame = look.get(kind, f'stroke="{WEAK}" stroke-width="2.2" stroke-dasharray="{DASH}"')
         said = []
         for k, line in enumerate(lines):
-            spans = " ".join(f'<tspan font-weight="bold" fill="{WEAK}">{escape(word)}</tspan>' if weak else escape(word) for word, weak in line)
+            spans = " ".join(
+                f'<tspan font-weight="bold" fill="{WEAK}">{escape(word)}</tspan>' if weak else escape(word)
+                for word, weak in line
+            )
             said.append(f'<text x="{x + PAD:.1f}" y="{y + FONT * 0.36 + LINE * k:.1f}" fill="{INK}">{spans}</text>')
         flat = [v for u in units for v in (u if isinstance(u, list) else [u])]
         self.grown(top + high)
         self.put(
-            f'<g class="box {kind}" data-units="{" ".join(map(str, sorted(set(flat))))}" data-links="{" ".join(map(str, links))}">'
-            f'<rect x="{x:.1f}" y="{top:.1f}" width="{w:.1f}" height="{high:.1f}" rx="{3 if kind == "set" else 8}" fill="white" {frame}/>'
+            f'<g class="box {kind}" data-units="{spaced(sorted(set(flat)))}" data-links="{spaced(links)}">'
+            f'<rect x="{x:.1f}" y="{top:.1f}" width="{w:.1f}" height="{high:.1f}" rx="{3 if kind == "set" else 8}" '
+            f'fill="white" {frame}/>'
             f'{"".join(said)}</g>'
         )
         return top + high
@@ -220,7 +241,8 @@ class Outline:
         self.points(node, x, x, bottom)
 
     def points(self, node, x, heavy_x, bottom):
-        """The single points of a box that ends at bottom, each with what hangs on it; the last stands at heavy_x if more follows there."""
+        """The single points of a box that ends at bottom, each with what hangs on it; the last stands at heavy_x if
+        more follows there."""
         dashed = node.kind != "set"
         for point in node.points:
             heavy = heavy_x is not None and point is node.points[-1] and any(n.points for n in point.nodes)
@@ -256,7 +278,13 @@ class Outline:
                 self.point(node.points[0], x, y2)
                 break
             at = y if k == 0 else self.opened(2 * PILL)
-            self.level(x + w if k == 0 else x + 10, right, at, node.kind != "set", node.links[0] if node.kind == "link" else None)
+            self.level(
+                x + w if k == 0 else x + 10,
+                right,
+                at,
+                node.kind != "set",
+                node.links[0] if node.kind == "link" else None,
+            )
             rows.append(at)
             if node.kind == "link":
                 self.point(node.points[0], right, at)
@@ -268,7 +296,10 @@ class Outline:
         if len(rows) > 1:
             self.trunk(x + 10, y, rows[-1], False, WEAK)
         top = next(row for row in self.rows if row[0] <= y <= row[1])
-        top[2].append(f'<g class="single unit" data-unit="{point.unit}"><title>unit {point.unit}: single point</title>{pill(x, y, point.unit)}</g>')
+        top[2].append(
+            f'<g class="single unit" data-unit="{point.unit}"><title>unit {point.unit}: single '
+            f'point</title>{pill(x, y, point.unit)}</g>'
+        )
 
 
 def cut(outline, high):
@@ -326,46 +357,62 @@ def fitted(losses, high):
     raise AssertionError("a site of 256 units fits three pages")
 
 
-def legend(losses, wide):
+def legend(losses, wide, found=None):
+    """What the marks of the tree mean, and the spares that are proposed."""
     rows = []
 
     def row(sample, said):
         rows.append((sample, 26, wrapped(said, wide - 100)))
 
+    def box(radius, color, stroke):
+        frame = f'x="-20" y="-9" width="40" height="18" rx="{radius}" fill="white"'
+        return f'<rect {frame} stroke="{color}" {stroke}/>'
+
     if losses.unit_parts:
-        row(pill(-14, 0, 0).replace(">0</text>", "></text>"), "single point: its loss parts what hangs on it from the rest; in boxes, bold")
+        sample = pill(-14, 0, 0).replace(">0</text>", "></text>")
+        row(sample, "single point: its loss parts what hangs on it from the rest; in boxes, bold")
     if losses.link_parts:
-        row(path(straight(-22, 0, 22, 0), WEAK, 3.5, "6 4"), "lone link; in a dashed box, units on one lone link each, or a chain of lone links")
+        sample = path(straight(-22, 0, 22, 0), WEAK, 3.5, "6 4")
+        row(sample, "lone link; in a dashed box, units on one lone link each, or a chain of lone links")
     if losses.backed():
-        box = f'<rect x="-20" y="-9" width="40" height="18" rx="3" fill="white" stroke="{INK}" stroke-width="2.2"/>'
-        row(box, "units whose links back each other up: any one of these links may fail")
+        sample = box(3, INK, 'stroke-width="2.2"')
+        row(sample, "units whose links back each other up: any one of these links may fail")
     if deaf_units(losses):
-        box = f'<rect x="-20" y="-9" width="40" height="18" rx="8" fill="white" stroke="{WEAK}" stroke-width="3" stroke-dasharray="2 4"/>'
-        row(box, f"hears nobody: {counted(len(deaf_units(losses)), 'unit')}")
-    return rows
+        sample = box(8, WEAK, 'stroke-width="3" stroke-dasharray="2 4"')
+        row(sample, f"hears nobody: {counted(len(deaf_units(losses)), 'unit')}")
+    proposed = Rows(wide)
+    spare_rows(proposed, found)
+    return rows + proposed.rows
 
 
-def named(losses, names, wide):
+def named(losses, names):
     """The names of the units at weak places."""
-    weak = set(losses.unit_parts) | set(deaf_units(losses)) | {v for j in losses.link_parts for v in losses.site.links[j]}
-    said = ", ".join(f"{v} = {names[v]}" for v in sorted(weak) if v in names) if names else ""
-    return [("", 20, wrapped("names: " + said, wide - 100))] if said else []
+    weak = set(losses.unit_parts) | set(deaf_units(losses)) | {
+        v for j in losses.link_parts for v in losses.site.links[j]
+    }
+    return {v: names[v] for v in sorted(weak) if v in names} if names else {}
 
 
-def svg_of(losses, names=None, bare=False):
+def largeness(losses):
+    """How many times larger than a page the block tree is."""
+    return fitted(losses, HEADED)[3]
+
+
+def svg_of(losses, names=None, bare=False, found=None, proved=True):
     """The block tree of a site; bare, without the lines over it."""
-    wide = PAGE[0]
+    names = named(losses, names)
     for large in (1, 1.5, 2.2):
-        rows = legend(losses, large * wide) + named(losses, names, large * wide)
-        head, top = header(losses, 0, 0, large * wide)
-        _, foot = footer(rows, 0, 0)
+        wide = large * PAGE[0]
+        head, top = header(losses, 0, 0, wide, proved)
+        _, foot = footer(legend(losses, wide, found), 0, 0)
+        _, foot = name_rows(names, 0, foot, wide)
         if foot - top < 0.6 * PAGE[1] * large:
             break
     outline, tops, room, large = fitted(losses, foot - top + 20)
-    wide = large * wide
+    wide = large * PAGE[0]
     drawn, high = columns(outline, tops, room)
-    rows = legend(losses, wide) + named(losses, names, wide)
-    head, top = header(losses, 0, 0, wide) if not bare else ([], 0)
-    feet, bottom = footer(rows, 0, high + 14)
+    head, top = header(losses, 0, 0, wide, proved) if not bare else ([], 0)
+    feet, bottom = footer(legend(losses, wide, found), 0, high + 14)
+    told, bottom = name_rows(names, 0, bottom, wide)
     title = f"{losses.site.units} units, {len(losses.site.links)} links: the block tree"
-    return "\n".join(opened(0, top, wide, bottom - top, title) + head + drawn + feet + ["</svg>"]) + "\n"
+    return "\n".join(opened(0, top, wide, bottom - top, title) + head + drawn + feet + told + ["</svg>"]) + "\n"

@@ -1,4 +1,5 @@
-"""The block tree of a site: its sets of links that back each other up, its lone links, and the single points between them.
+"""The block tree of a site: its sets of links that back each other up, its lone links, and the single points between
+them.
 
 Lone links that only lead on are told in one breath: units on one lone link each, and chains of lone links.
 """
@@ -9,7 +10,7 @@ Point = namedtuple("Point", "unit nodes")  # a single point and what hangs on it
 # what hangs on a single point, or the root of a group; kind is
 #   set     links that back each other up: `units` are those that they touch
 #   link    one lone link to a single point that more hangs on: `units` are its two ends
-#   chain   lone links in a row from one single point to the next, or a whole group: `units` along it, both ends included
+#   chain   lone links in a row from one single point to the next, or a whole group: `units` along it, both ends in
 #   ends    units on one lone link each: `units` are these
 #   tails   chains of lone links that lead to an end: `units` are lists along them, the single point first
 Node = namedtuple("Node", "kind units links points weight")

@@ -1,29 +1,32 @@
-"""A surveyed site drawn: every unit and link, or, above 60 units, the block tree.
+"""A surveyed site drawn: every unit and link where that is legible, else the block tree.
 
-`svg_of` gives the text of the drawing. Weak places are drawn last, so that nothing hides them, and no link passes through a unit that
-is no end of it.
+`svg_of` gives the text of the drawing. Weak places are drawn last, so that nothing hides them, and no link passes
+through a unit that is no end of it.
 """
-import math
+import functools
 
 import block_drawing
+import labels
 import layout
 import routes
 from captions import deaf_units, footer, header, linked_groups
-from ink import COLORS, FONT, HALO, INK, LINES, PAGE, PALE, RING, WEAK, Line, disc, escape, letters, lone, opened, path, straight, styled, text
-from ink import under, width_of, wrapped
-from losses import listed, neighbours_of
-from survey_text import LOWEST_LEVEL
+from ink import COLORS, FONT, HALO, INK, LINES, PAGE, PALE, WEAK, Line, cured, disc, escape, letters, lone, opened, path
+from ink import spare_line, spare_mark, styled, text, under
+from legend import legend, name_rows
+from losses import neighbours_of, parts
+from survey_text import LOWEST_LEVEL, Site
 
-FULL = 60  # up to so many units every unit and link is drawn
 NUMBERED = 60  # up to so many links, each shows its position where there is room beside it, a lone one always
-NAMED = 6  # so many sets of links stand in the legend, and more where the page has room
+SMALL = 60  # up to so many units every unit and link is legible
+LARGE = 1.36  # a drawing so many times larger than a page has digits of 1.4 mm on it, as maps have
+CROSSED = 0.7  # links that cross more often than this, each, are not
 EDGE = 10  # to the left and right of frames
-BESIDE = 10  # a number stands so far off its link
+NAMED_WIDE = 900  # a drawing with names is no narrower
 
 
 def styles_of(losses):
-    """A line for each label of more than one link. Up to three sets that meet at a unit differ in their line, and up to four in colour: each
-    set is chosen after one that it meets, so all that it must differ from meet at one unit."""
+    """A line for each label of more than one link. Up to three sets that meet at a unit differ in their line, and up
+    to four in colour: each set is chosen after one that it meets, so all that it must differ from meet at one unit."""
     sets = losses.backed()
     touched = [{v for j in links for v in losses.site.links[j]} for links in sets]
     meeting = {}
@@ -38,16 +41,18 @@ def styles_of(losses):
                 continue
             near = sorted({k for v in touched[i] for k in meeting[v]} - {i})
             taken = [chosen[k] for k in near if k in chosen]
-            wide, core = LINES[scarcest(range(len(LINES)), lambda n: LINES[n][0], [t.wide for t in taken], [t.wide for t in chosen.values()])]
-            color = COLORS[scarcest(range(len(COLORS)), lambda n: COLORS[n], [t.color for t in taken], [t.color for t in chosen.values()])]
+            used = list(chosen.values())
+            wides = [wide for wide, _ in LINES]
+            wide, core = LINES[scarcest(wides, [t.wide for t in taken], [t.wide for t in used])]
+            color = COLORS[scarcest(COLORS, [t.color for t in taken], [t.color for t in used])]
             chosen[i] = Line(color, wide, core)
             ahead += [k for k in near if k not in chosen]
     return {losses.labels[links[0]]: chosen[i] for i, links in enumerate(sets)}
 
 
-def scarcest(some, look, taken, used):
-    """Which of some has the look that is taken least, then used least."""
-    return min(some, key=lambda n: (taken.count(look(n)), used.count(look(n)), n))
+def scarcest(looks, taken, used):
+    """Which of some looks is taken least, then used least."""
+    return min(range(len(looks)), key=lambda n: (taken.count(looks[n]), used.count(looks[n]), n))
 
 
 def letters_of(losses):
@@ -56,178 +61,192 @@ def letters_of(losses):
     return {losses.labels[links[0]]: letters(i) if len(backed) > 1 else "" for i, links in enumerate(backed)}
 
 
-def plural(some):
-    return "" if len(some) == 1 else "s"
-
-
-def legend(losses, styles, tags, wide, room, grouped):
-    """Rows of a drawn sample around (0, 0), its height, and its words in lines."""
-    site = losses.site
-    rows = []
-
-    def row(sample, *tries):
-        """The first wording that takes no more than two lines."""
-        for said in tries:
-            lines = wrapped(said, wide - 90)
-            if len(lines) <= 2:
-                break
-        rows.append((f'<g transform="scale(0.65)">{sample}</g>' if "circle" in sample else sample, 30, lines))
-
-    deaf = deaf_units(losses)
-    if deaf:
-        row(disc(0, 0, "", "deaf"), f"hears nobody: {listed(deaf)}", f"hears nobody: {len(deaf)} units")
-    for tag, part in grouped:
-        sample = text(0, 5, tag, f'text-anchor="middle" font-weight="bold" fill="{WEAK}"')
-        row(sample, f"separate group: {listed(part)}", f"separate group of {len(part)} units")
-    if losses.unit_parts:
-        said = f"single point{plural(losses.unit_parts)}: {listed(losses.unit_parts)}"
-        row(disc(0, 0, "", "single"), said, f"{len(losses.unit_parts)} single points")
-    if losses.link_parts:
-        named = ", ".join(f"{j} ({site.links[j][0]}-{site.links[j][1]})" for j in sorted(losses.link_parts))
-        row(lone(straight(-22, 0, 22, 0)), f"lone link{plural(losses.link_parts)}: {named}", f"{len(losses.link_parts)} lone links")
-    backed = losses.backed()
-    most = max(NAMED, int((room - sum(30 + 20 * (len(lines) - 1) for _, _, lines in rows)) / 40))
-    shown = backed if len(backed) <= most else backed[: most - 1]
-    for links in shown:
-        label = losses.labels[links[0]]
-        tag = f"{tags[label]}: " if tags[label] else ""
-        units = listed({v for j in links for v in site.links[j]})
-        row(
-            styled(straight(-22, 0, 22, 0), styles[label]),
-            f"{tag}links {listed(links)} back each other up",
-            f"{tag}{len(links)} links back each other up, among units {units}",
-            f"{tag}{len(links)} links back each other up, the first of them link {links[0]}",
-        )
-    if len(shown) < len(backed):
-        row("", f"and {len(backed) - len(shown)} more sets of links that back each other up")
-    return rows or [("", 24, ["no links"])]
-
-
-class Tags:
-    """Places for the numbers of links that cover neither a unit nor each other."""
-
-    def __init__(self, places):
-        self.places = list(places.values())
-        self.taken = []
-
-    def free(self, x, y, w):
-        if any(abs(x - px) < RING + w / 2 and abs(y - py) < RING + 7 for px, py in self.places):
-            return False
-        return all(abs(x - px) >= (w + pw) / 2 or abs(y - py) >= 15 for px, py, pw in self.taken)
-
-    def put(self, route, said, must):
-        """A place beside a route; where there is none free, the middle if it must be, else None."""
-        points = routes.sampled(route)
-        w = width_of(said) + 2
-        first = None
-        for share in 0.5, 0.44, 0.56, 0.38, 0.62, 0.31, 0.69, 0.24, 0.76:
-            k = min(len(points) - 2, max(1, round(share * (len(points) - 1)))) if len(points) > 2 else 0
-            (ax, ay), (bx, by) = points[max(0, k - 1)], points[min(len(points) - 1, k + 1)]
-            length = math.hypot(bx - ax, by - ay) or 1
-            nx, ny = (by - ay) / length, (ax - bx) / length
-            if ny > 0 or (ny == 0 and nx > 0):
-                nx, ny = -nx, -ny
-            off = BESIDE + abs(nx) * (w / 2 - 5)
-            for side in 1, -1:
-                x, y = points[k][0] + side * off * nx, points[k][1] + side * off * ny
-                first = first or (x, y)
-                if self.free(x, y, w):
-                    self.taken.append((x, y, w))
-                    return x, y
-        if must:
-            self.taken.append((*first, w))
-        return first if must else None
-
-
 def unit_name(v, names):
     return f"unit {v} ({names[v]})" if names and v in names else f"unit {v}"
 
 
-def frames_of(plan):
-    """The frames of groups and of the units that hear nobody."""
+def frames_of(plan, units):
+    """The frames of groups, which count so many units, spares left out, and of the units that hear nobody."""
     out = []
     for x, y, w, h, part in plan.frames:
-        frame = f'x="{x:.1f}" y="{y:.1f}" width="{w:.1f}" height="{h:.1f}" rx="12"'
-        out.append(f'<g class="group"><rect {frame} fill="none" stroke="{INK}" stroke-width="2.5"/>')
-        out.append(text(x + 14, y + 24, f"group of {len(part)} units", f'font-weight="bold" fill="{INK}"') + "</g>")
+        said = f"group of {sum(v < units for v in part)} units"
+        frame = f'x="{x:.1f}" y="{y:.1f}" width="{w:.1f}" height="{h:.1f}" rx="12" fill="none"'
+        out.append(f'<g class="group"><rect {frame} stroke="{INK}" stroke-width="2.5"/>')
+        out.append(text(x + 14, y + 24, said, f'font-weight="bold" fill="{INK}"') + "</g>")
     if plan.deaf:
         x, y, w, h, part = plan.deaf
-        out.append(
-            f'<g class="deaf"><rect x="{x:.1f}" y="{y:.1f}" width="{w:.1f}" height="{h:.1f}" rx="12" fill="none" stroke="{WEAK}" '
-            'stroke-width="4" stroke-dasharray="14 7"/>'
-        )
+        frame = f'x="{x:.1f}" y="{y:.1f}" width="{w:.1f}" height="{h:.1f}" rx="12" fill="none"'
+        out.append(f'<g class="deaf"><rect {frame} stroke="{WEAK}" stroke-width="4" stroke-dasharray="14 7"/>')
         said = "hears nobody" if len(part) == 1 else "hear nobody"
         out.append(text(x + 14, y + 25, said, f'font-size="{FONT + 1}" font-weight="bold" fill="{WEAK}"') + "</g>")
     return out
 
 
-def links_of(losses, ways, places, styles, tags):
-    """The links with their numbers, those that are lone last, whose numbers come apart."""
-    site = losses.site
-    thin = 0.5 if len(site.links) > 300 else 1
-    free = Tags(places)
-    drawn = {True: [], False: []}
-    numbers = {True: [], False: []}
-    beneath = []
-    for j in sorted(range(len(site.links)), key=lambda j: (j not in losses.link_parts, j)):
-        a, b = site.links[j]
-        weak = j in losses.link_parts
-        label = losses.labels[j]
-        d = routes.drawn(ways[j])
-        level = f", {site.levels[j]} dBm" if site.levels[j] > LOWEST_LEVEL else ""
-        if weak:
-            beneath.append(under(d))
-            said, ink, tag, look = "lone", lone(d), f"{j}", f'font-weight="bold" fill="{WEAK}"'
+def tag_of(losses, j, tags):
+    """What stands beside a link: its number, and the letter of its set."""
+    if j in losses.link_parts:
+        return f"{j}"
+    return f"{j} {tags[losses.labels[j]]}".strip()
+
+
+class Sheet:
+    """A drawing of every unit and link: of a site as it is, or with the spares that are proposed for it."""
+
+    def __init__(self, losses, names, before, found):
+        self.was = losses
+        self.losses = losses
+        if found and found.steps:
+            self.losses, before = found.steps[-1].losses, before or losses
+        self.site, self.names, self.found = self.losses.site, names or {}, found
+        self.fresh_links = len(losses.site.links)
+        self.plan = plan_of(self.losses, before, bool(names))
+        self.styles, self.tags = styles_of(self.losses), letters_of(self.losses)
+        self.grouped = grouped_by_tag(self.losses, self.plan)
+        self.measure()
+        self.ways = routes.routed(self.plan.places, self.site.links, self.plan.rims)
+        frames = [frame[:4] for frame in (*self.plan.frames, *([self.plan.deaf] if self.plan.deaf else []))]
+        edges = self.left + 3, self.above + 3, self.left + self.wide - 3, self.under - 2
+        self.room = labels.Room(self.plan.places, self.ways, edges, frames)
+        for x, y, *_ in frames:
+            self.room.take((x + 10, y + 6, x + 180, y + 30))
+
+    def measure(self):
+        """The edges of the part that units, links and words beside them stand in."""
+        xs, ys = ([p[i] for p in self.plan.places.values()] for i in (0, 1))
+        more = layout.NAMES if self.names else 0
+        self.left, self.above = min(-EDGE, min(xs) - layout.MARGIN - more), min(0, min(ys) - layout.MARGIN - more)
+        right = max(self.plan.wide + EDGE, max(xs) + layout.MARGIN + more)
+        if self.names and right - self.left < NAMED_WIDE:
+            beside = (NAMED_WIDE - right + self.left) / 2
+            self.left, right = self.left - beside, right + beside
+        self.wide = right - self.left
+        self.under = max(self.plan.high, max(ys) + layout.MARGIN) + more
+
+    def is_lone(self, j):
+        return j in self.losses.link_parts
+
+    def link(self, j):
+        """A link: lone, cured, backed up, or of a spare."""
+        a, b = self.site.links[j]
+        d = routes.drawn(self.ways[j])
+        if j >= self.fresh_links:
+            told = "link that is proposed" if not self.found.spares else "link of a spare"
+            return f'<g class="spare line"><title>{told}</title>{spare_line(d)}</g>'
+        level = f", {self.site.levels[j]} dBm" if self.site.levels[j] > LOWEST_LEVEL else ""
+        kind, label = "link", self.losses.labels[j]
+        if self.is_lone(j):
+            kind, said, ink = "lone link", "lone", lone(d)
+        elif j in self.was.link_parts:
+            kind, said, ink = "cured link", "lone no more, with the spares", cured(d)
         else:
-            style = styles[label]
-            said = f"backed up, set {tags[label]}" if tags[label] else "backed up"
+            thin = 0.5 if len(self.site.links) > 300 else 1
+            style = self.styles[label]
+            said = f"backed up, set {self.tags[label]}" if self.tags[label] else "backed up"
             ink = styled(d, style._replace(wide=max(0.8, style.wide * thin), core=style.core * thin))
-            tag, look = f"{j} {tags[label]}".strip(), f'fill="{PALE}"'
         hit = path(d, "transparent", 18, None, ' class="hit"')
-        kind = "lone link" if weak else "link"
-        drawn[weak].append(f'<g class="{kind}" data-link="{j}"><title>link {j} ({a}-{b}){level}: {said}</title>{hit}{ink}</g>')
-        if weak or len(site.links) <= NUMBERED:
-            at = free.put(ways[j], tag, weak)
+        return f'<g class="{kind}" data-link="{j}"><title>link {j} ({a}-{b}){level}: {said}</title>{hit}{ink}</g>'
+
+    def links(self):
+        """The links, those that are lone last and on white."""
+        weak = [j for j in range(len(self.site.links)) if self.is_lone(j)]
+        beneath = [under(routes.drawn(self.ways[j])) for j in weak]
+        others = [self.link(j) for j in range(len(self.site.links)) if not self.is_lone(j)]
+        return others, beneath + [self.link(j) for j in weak]
+
+    def numbers(self, weak):
+        """The numbers beside links: of those that are lone, always; of others, where there is room and they are few."""
+        out = []
+        for j in range(self.fresh_links):
+            if self.is_lone(j) != weak or not (weak or len(self.site.links) <= NUMBERED):
+                continue
+            said = tag_of(self.losses, j, self.tags)
+            at = labels.number_place(self.room, self.ways[j], said, weak, weak)
             if at:
-                numbers[weak].append(text(at[0], at[1] + FONT * 0.36, tag, f'text-anchor="middle" {look} {HALO} data-of="{j}"'))
-    return drawn[False] + numbers[False] + beneath + drawn[True], numbers[True]
+                look = f'font-weight="bold" fill="{WEAK}"' if weak else f'fill="{PALE}"'
+                out.append(text(at[0], at[1] + FONT * 0.36, said, f'text-anchor="middle" {look} {HALO} data-of="{j}"'))
+        return out
+
+    def words_beside(self):
+        """What stands beside units, by unit: tags of groups and names; and the names that find no room."""
+        deaf = set(deaf_units(self.losses))
+        loud = {v: tag for tag, part in self.grouped for v in part}
+        loud.update({v: "hears nobody" for v in deaf if not self.plan.deaf})
+        out, left = {}, {}
+        for v, said in sorted(loud.items()):
+            placed = labels.name_place(self.room, *self.plan.places[v], said)
+            if placed:
+                out[v] = written(placed, f'fill="{WEAK}" font-weight="bold"')
+        for v in self.in_turn():
+            name = self.names[v]
+            placed = labels.name_place(self.room, *self.plan.places[v], name)
+            if placed:
+                out[v] = out.get(v, "") + written(placed, f'class="name" fill="{INK}"')
+            else:
+                left[v] = name
+        return out, left
+
+    def in_turn(self):
+        """The units with names: weak ones choose their places first, then those with the most links."""
+        weak = self.was.unit_parts.keys() | self.losses.unit_parts.keys()
+        crowd = [len(near) for near in neighbours_of(self.site)]
+        return sorted(self.names, key=lambda v: (v not in weak, -crowd[v], v))
+
+    def kind_of(self, v, deaf):
+        if v in self.losses.unit_parts:
+            return "single"
+        if v in self.was.unit_parts:
+            return "cured"
+        return "deaf" if v in deaf else "plain"
+
+    def units(self, beside):
+        """The units, and the single points among them apart."""
+        deaf = set(deaf_units(self.losses))
+        told = {"single": "single point", "deaf": "hears nobody", "plain": "no single point"}
+        told["cured"] = "no single point any more, with the spares"
+        out = {"plain": [], "deaf": [], "cured": [], "single": []}
+        for v in range(self.was.site.units):
+            kind = self.kind_of(v, deaf)
+            cls = "unit" if kind == "plain" else f"{kind} unit"
+            title = f"{escape(unit_name(v, self.names))}: {told[kind]}"
+            mark = disc(*self.plan.places[v], v, kind) + beside.get(v, "")
+            out[kind].append(f'<g class="{cls}" data-unit="{v}"><title>{title}</title>{mark}</g>')
+        return out["plain"] + out["cured"] + out["deaf"], out["single"] + self.spares()
+
+    def spares(self):
+        """The spares that are proposed."""
+        out = []
+        for k, v in enumerate(range(self.was.site.units, self.site.units), 1):
+            heard = self.found.steps[k - 1].heard_by
+            title = f"spare {k}, heard by units {heard[0]} and {heard[1]}"
+            out.append(f'<g class="spare"><title>{title}</title>{spare_mark(*self.plan.places[v], f"S{k}")}</g>')
+        return out
+
+    def svg(self, bare, proved):
+        """The drawing; bare, without the lines over it."""
+        others, weak = self.links()
+        weak_numbers = self.numbers(True)
+        beside, left_over = self.words_beside()
+        units, singles = self.units(beside)
+        numbers = self.numbers(False)
+        head, top = header(self.was, self.left, self.above, self.wide, proved) if not bare else ([], self.above - 8)
+        room = PAGE[1] - self.under + top - 30
+        rows = legend(self.losses, self.was, self.styles, self.tags, self.wide, room, self.grouped, self.found)
+        foot, bottom = footer(rows, self.left, self.under + 8)
+        listed_names, bottom = name_rows(left_over, self.left, bottom, self.wide)
+        title = f"{self.was.site.units} units, {len(self.was.site.links)} links"
+        out = opened(self.left, top, self.wide, bottom - top + 6, title)
+        out += head + frames_of(self.plan, self.was.site.units) + others + numbers + weak + units + weak_numbers
+        out += singles + foot + listed_names
+        return "\n".join(out + ["</svg>"]) + "\n"
 
 
-def beside_unit(places, ways, v, said):
-    """Where the lines of a unit's name stand: below, above, right or left, where they cover the fewest links and no unit."""
-    x, y = places[v]
-    w, h = max(width_of(line) for line in said), 16 * len(said)
-    best = None
-    for cx, cy in (x, y + RING + 2 + h / 2), (x, y - RING - 2 - h / 2), (x + RING + 4 + w / 2, y), (x - RING - 4 - w / 2, y):
-        hits = sum(abs(px - cx) < w / 2 and abs(py - cy) < h / 2 for px, py in ways)
-        hits += 50 * sum(u != v and abs(px - cx) < w / 2 + RING and abs(py - cy) < h / 2 + RING for u, (px, py) in places.items())
-        if best is None or hits < best[0]:
-            best = hits, cx, cy - h / 2 + 13
-    return best[1:]
-
-
-def units_of(losses, plan, ways, names, grouped):
-    """The units, and the single points among them apart."""
-    deaf = set(deaf_units(losses))
-    tag_of = {v: tag for tag, part in grouped for v in part}
-    points = [p for way in ways for p in routes.sampled(way)] if names or grouped else []
-    out = {"plain": [], "deaf": [], "single": []}
-    for v in range(losses.site.units):
-        x, y = plan.places[v]
-        kind = "single" if v in losses.unit_parts else "deaf" if v in deaf else "plain"
-        told = {"single": "single point", "deaf": "hears nobody", "plain": "no single point"}[kind]
-        lines = [(tag_of[v], WEAK)] if v in tag_of else [("hears nobody", WEAK)] if v in deaf and not plan.deaf else []
-        if names and v in names:
-            lines.append((names[v] if len(names[v]) <= 14 else names[v][:13] + "…", INK))
-        written = ""
-        if lines:
-            cx, cy = beside_unit(plan.places, points, v, [said for said, _ in lines])
-            for k, (said, color) in enumerate(lines):
-                weight = ' font-weight="bold"' if color == WEAK else ""
-                written += text(cx, cy + 16 * k, said, f'text-anchor="middle" fill="{color}"{weight} {HALO}')
-        cls = {"single": "single unit", "deaf": "deaf unit", "plain": "unit"}[kind]
-        out[kind].append(f'<g class="{cls}" data-unit="{v}"><title>{escape(unit_name(v, names))}: {told}</title>{disc(x, y, v, kind)}{written}</g>')
-    return out["plain"] + out["deaf"], out["single"]
+def written(placed, look):
+    """The lines of words beside a unit."""
+    lines, (x, y), anchor = placed
+    anchored = f'text-anchor="{anchor}"' if anchor != "start" else ""
+    return "".join(
+        text(x, y + labels.LINE * k, said, f"{anchored} {look} {HALO}".strip()) for k, said in enumerate(lines)
+    )
 
 
 def grouped_by_tag(losses, plan):
@@ -238,34 +257,38 @@ def grouped_by_tag(losses, plan):
     return [(f"G{k}", part) for k, part in enumerate(groups[1:], 2)]
 
 
+@functools.lru_cache(maxsize=8)
+def laid_out(units, links, named):
+    """The layout of a site, kept for the kinds of drawing that ask for it."""
+    site = Site(units, links, ())
+    near = neighbours_of(site)
+    return layout.laid_out(near, parts(near), named)
+
+
 def plan_of(losses, before, named=False):
-    near = neighbours_of(losses.site)
-    if before is None:
-        return layout.laid_out(near, losses.groups, named)
-    return layout.kept(layout.laid_out(neighbours_of(before.site), before.groups, named), near, losses.groups, named)
+    old = (before or losses).site
+    plan = laid_out(old.units, tuple(old.links), named)
+    return plan if before is None else layout.kept(plan, neighbours_of(losses.site), losses.groups, named)
 
 
-def full_svg(losses, names=None, before=None, bare=False):
+def full_svg(losses, names=None, before=None, bare=False, found=None, proved=True):
     """Every unit and link; bare, without the lines over them."""
-    plan = plan_of(losses, before, bool(names))
-    styles, tags = styles_of(losses), letters_of(losses)
-    grouped = grouped_by_tag(losses, plan)
-    xs, ys = [x for x, _ in plan.places.values()], [y for _, y in plan.places.values()]
-    left, above = min(-EDGE, min(xs) - layout.MARGIN), min(0, min(ys) - layout.MARGIN)
-    wide = max(plan.wide + EDGE, max(xs) + layout.MARGIN) - left
-    under = max(plan.high, max(ys) + layout.MARGIN) + (18 if names else 0)
-    head, top = header(losses, left, above, wide) if not bare else ([], above)
-    foot, bottom = footer(legend(losses, styles, tags, wide, PAGE[1] - under + top - 30, grouped), left, under + 8)
-    ways = routes.routed(plan.places, losses.site.links, plan.rims)
-    links, numbers = links_of(losses, ways, plan.places, styles, tags)
-    units, singles = units_of(losses, plan, ways, names, grouped)
-    out = opened(left, top, wide, bottom - top, f"{losses.site.units} units, {len(losses.site.links)} links")
-    out += head + frames_of(plan) + links + units + numbers + singles + foot
-    return "\n".join(out + ["</svg>"]) + "\n"
+    return Sheet(losses, names, before, found).svg(bare, proved)
 
 
-def svg_of(losses, names=None, before=None, full=False):
+def is_full(losses, named=False):
+    """Whether every unit and link is drawn, and not the block tree: where that is legible on a page, or no less so
+    than the tree is."""
+    if losses.site.units <= SMALL:
+        return True
+    large = layout.largeness(neighbours_of(losses.site), losses.groups)
+    if large > LARGE and large > block_drawing.largeness(losses):
+        return False
+    return layout.crossings(plan_of(losses, None, named).places, losses.site.links) <= CROSSED * len(losses.site.links)
+
+
+def svg_of(losses, names=None, before=None, full=False, found=None, proved=True):
     """The drawing of a site. With the site before, units that were there keep their places."""
-    if losses.site.units > FULL and not full:
-        return block_drawing.svg_of(losses, names)
-    return full_svg(losses, names, before)
+    if full or is_full(losses, bool(names)):
+        return full_svg(losses, names, before, False, found, proved)
+    return block_drawing.svg_of(losses, names, False, found, proved)

@@ -1,8 +1,9 @@
 """Where the units of a site stand on the page. The same site always gives the same page.
 
-A group is laid out by springs, or, where its links are too many for that, on a rim across which they bend. Groups stand in frames of
-their own, and so do, together, the units that hear nobody.
+A group is laid out by springs, or, where its links are too many for that, on a rim across which they bend. Groups
+stand in frames of their own, and so do, together, the units that hear nobody.
 """
+import itertools
 import math
 from collections import namedtuple
 
@@ -19,8 +20,8 @@ NAMES = 22  # and more at the sides and below, where units have names
 HEADED = 12 * FONT  # a frame is no narrower
 LEAST = 560  # a page is no narrower
 GAP = 18  # between frames
-ROOM = PAGE[0] - 2 * GAP, 1190  # what the units of a site of up to 60 may fill
-ROOMY = 60  # up to so many units
+ROOM = PAGE[0] - 2 * GAP, 1190  # what the units of a site may fill on one page
+ROOMY = 140  # up to so many units
 
 # frames are (x, y, wide, high, units), rims (x, y, radius, angle from unit to unit) by unit
 Layout = namedtuple("Layout", "places wide high frames deaf rims")
@@ -50,7 +51,8 @@ def shuffled(items, seed):
 
 
 def springs(near, part):
-    """Each pair of units is a spring as long as the way between them; pair by pair is moved to its length, by ever less."""
+    """Each pair of units is a spring as long as the way between them; pair by pair is moved to its length, by ever
+    less."""
     at = {v: [math.cos(2.4 * i) * (i + 1) ** 0.5, math.sin(2.4 * i) * (i + 1) ** 0.5] for i, v in enumerate(part)}
     if len(part) == 1:
         return at
@@ -143,7 +145,9 @@ def shoved(at, links, room):
             left, right = (p[0], q[0]) if p[0] < q[0] else (q[0], p[0])
             top, bottom = (p[1], q[1]) if p[1] < q[1] else (q[1], p[1])
             for v, r in at.items():
-                if r[0] < left - wanted or r[0] > right + wanted or r[1] < top - wanted or r[1] > bottom + wanted or v == a or v == b:
+                if v == a or v == b or not (left - wanted <= r[0] <= right + wanted):
+                    continue
+                if not top - wanted <= r[1] <= bottom + wanted:
                     continue
                 t = ((r[0] - p[0]) * x + (r[1] - p[1]) * y) / length
                 if not 0 < t < 1:
@@ -190,11 +194,14 @@ def sprung(at, scale, room, links):
 def across(near, order):
     """How far the links lead around a rim in all."""
     place = {v: i for i, v in enumerate(order)}
-    return sum(min((place[v] - place[w]) % len(order), (place[w] - place[v]) % len(order)) for v in order for w, _ in near[v])
+    return sum(
+        min((place[v] - place[w]) % len(order), (place[w] - place[v]) % len(order)) for v in order for w, _ in near[v]
+    )
 
 
 def walked(near, part):
-    """The units in the order of a walk that goes on to a neighbour while there is a new one, those with few links first."""
+    """The units in the order of a walk that goes on to a neighbour while there is a new one, those with few links
+    first."""
     order, seen = [], set()
     for start in sorted(part, key=lambda v: (len(near[v]), v)):
         ahead = [start]
@@ -259,8 +266,8 @@ class Group:
         self.links = sorted({(min(v, w), max(v, w)) for v in part for w, _ in near[v]})
         self.radius = 0
         self.centre = 0.0, 0.0
-        hub = hub_of(near, part)
-        if hub is not None or (len(part) > 4 and len(self.links) > DENSE * len(part)):
+        on_a_rim, hub = rimmed(near, part)
+        if on_a_rim:
             self.at, self.radius = on_rim(near, part, hub)
             self.turn = 2 * math.pi / (len(part) - (hub is not None))
             self.rim = [v for v in part if v != hub]
@@ -325,6 +332,40 @@ def margin(groups, named):
     return MARGIN + (NAMES if named and len(groups) > 1 else 0)
 
 
+def crossings(places, links):
+    """How many pairs of links cross, were they all straight."""
+    lines = []
+    for a, b in links:
+        (ax, ay), (bx, by) = places[a], places[b]
+        lines.append((min(ax, bx), max(ax, bx), ax, ay, bx, by, a, b))
+    lines.sort()
+    found = 0
+    for i, (_, right, ax, ay, bx, by, a, b) in enumerate(lines):
+        for left, _, cx, cy, dx, dy, c, d in itertools.islice(lines, i + 1, None):
+            if left > right:
+                break
+            if a in (c, d) or b in (c, d):
+                continue
+            of_c, of_d = ((bx - ax) * (y - ay) - (by - ay) * (x - ax) for x, y in ((cx, cy), (dx, dy)))
+            of_a, of_b = ((dx - cx) * (y - cy) - (dy - cy) * (x - cx) for x, y in ((ax, ay), (bx, by)))
+            found += of_c * of_d < 0 and of_a * of_b < 0
+    return found
+
+
+def rimmed(near, part):
+    """Whether a group stands on a rim, and its hub if it has one."""
+    hub = hub_of(near, part)
+    links = sum(len(near[v]) for v in part) / 2
+    return hub is not None or (len(part) > 4 and links > DENSE * len(part)), hub
+
+
+def largeness(near, groups):
+    """How many times larger than a page a layout must be for its digits."""
+    units = sum(len(part) for part in groups)
+    widest = max(len(part) * ON_RIM[0] / math.pi if rimmed(near, part)[0] else 0 for part in groups)
+    return max(1.0, (units / ROOMY) ** 0.5, widest / ROOM[0])
+
+
 def laid_out(near, groups, named=False):
     """The layout of a site from its first corner on."""
     units = sum(len(part) for part in groups)
@@ -343,7 +384,9 @@ def laid_out(near, groups, named=False):
     for share in 1, 0.9, 0.8, 0.7, 0.6, 0.5, 0.4, 0.3:
         for group in found:
             group.sized(share, most)
-        corners, sizes, wide, high = packed([group.size for group in found] + [size_of(grid)] * bool(alone), above, around, framed, room)
+        corners, sizes, wide, high = packed(
+            [group.size for group in found] + [size_of(grid)] * bool(alone), above, around, framed, room
+        )
         if high <= room[1]:
             break
     boxes = [group.settled() for group in found] + [grid] * bool(alone)
@@ -364,7 +407,8 @@ def laid_out(near, groups, named=False):
 
 
 def kept(old, near, groups, named=False):
-    """The layout of a site where each unit of an old layout stands as before; new units stand near those that they hear."""
+    """The layout of a site where each unit of an old layout stands as before; new units stand near those that they
+    hear."""
     places = {v: p for v, p in old.places.items() if v < len(near)}
     rims = {v: rim for v, rim in old.rims.items() if v < len(near)}
     fresh = [v for v in range(len(near)) if v not in places]

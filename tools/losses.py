@@ -3,12 +3,14 @@ from collections import namedtuple
 
 from survey_text import ABSENT
 
-# a single point (its unit as number, no ends) or a lone link (its position and ends), the parts that its loss leaves of its group, the
-# smallest first, and how many units it cuts off: all but those of the largest part
+ROW = 5  # numbers in a row are told by no more words than this
+
+# a single point (its unit as number, no ends) or a lone link (its position and ends), the parts that its loss leaves of
+# its group, the smallest first, and how many units it cuts off: all but those of the largest part
 Weak = namedtuple("Weak", "number ends parts cut")
 
-# the weak places of an earlier table that are none now: cured, or lost where those that hung together by it are apart now; then the
-# new ones, and the remaining ones, each beside what it was
+# the weak places of an earlier table that are none now: cured, or lost where those that hung together by it are apart
+# now; then the new ones, and the remaining ones, each beside what it was
 Changes = namedtuple("Changes", "cured lost new remaining")
 
 
@@ -95,7 +97,8 @@ class Losses:
         return sorted((part for part in self.groups if len(part) > 1), key=lambda part: (-len(part), part))
 
     def weak(self):
-        """The weak places in working order: by the number of units cut off, the most first; then single points before lone links."""
+        """The weak places in working order: by the number of units cut off, the most first; then single points
+        before lone links."""
         found = [weak_place(v, None, left) for v, left in self.unit_parts.items()]
         found += [weak_place(j, self.site.links[j], left) for j, left in self.link_parts.items()]
         return sorted(found, key=lambda place: (-place.cut, place.ends is not None, place.number))
@@ -114,7 +117,8 @@ def weak_place(number, ends, left):
 
 
 def key_of(place):
-    """The same weak place in two tables: a unit by its number, a link by its two units, for its position may have moved."""
+    """The same weak place in two tables: a unit by its number, a link by its two units, for its position may have
+    moved."""
     return place.number if place.ends is None else frozenset(place.ends)
 
 
@@ -145,7 +149,10 @@ def contradictions(losses, report):
         if line.color != least:
             yield f"the report gives unit {v} the colour {line.color}, but the least unit linked up with it is {least}"
         if (line.parent == ABSENT) != (v == least):
-            yield f"the report says that unit {v} has {'no' if line.parent == ABSENT else 'a'} parent, but the least unit of its group is {least}"
+            yield (
+                f"the report says that unit {v} has {'no' if line.parent == ABSENT else 'a'} parent, but the least "
+                f"unit of its group is {least}"
+            )
         elif line.parent != ABSENT and frozenset((v, line.parent)) not in linked:
             yield f"the report gives unit {v} the parent {line.parent}, but no link joins the two"
     if sorted(line.place for line in report.units) != list(range(site.units)):
@@ -156,7 +163,10 @@ def contradictions(losses, report):
             told, found = ("is", "parts nothing") if line.lone else ("is not", "parts its group")
             yield f"the report says that {name} {told} lone, but its loss {found}"
         if line.label != losses.labels[j]:
-            yield f"the report gives {name} the label {line.label}, but the first link that backs it up, or itself, is {losses.labels[j]}"
+            yield (
+                f"the report gives {name} the label {line.label}, but the first link that backs it up, or itself, is "
+                f"{losses.labels[j]}"
+            )
 
 
 # ---- in words
@@ -167,23 +177,39 @@ def named(v, names=None):
     return f"{v} ({names[v]})" if names and v in names else str(v)
 
 
-def listed(numbers, names=None):
-    """3, 5 to 9, 12: four or more in a row are shortened, but those with a name stand alone: 3, 5 (gate), 6 to 9"""
+def listed(numbers, names=None, most=None):
+    """3, 5 to 9, 12: four or more in a row are shortened, but those with a name stand alone, 3, 5 (gate), 6 to 9,
+    unless that takes many words: then 0 (gate) to 12 (relay). Past the most words, where given, the rest is counted."""
     runs = []
     for k in sorted(numbers):
-        if runs and k == runs[-1][1] + 1 and not (names and (k in names or k - 1 in names)):
+        if runs and k == runs[-1][1] + 1:
             runs[-1][1] = k
         else:
             runs.append([k, k])
-    words = []
+    words, left = [], len(numbers)
     for a, b in runs:
-        words += [f"{a} to {b}"] if b > a + 2 else [named(k, names) for k in range(a, b + 1)]
+        if most and len(words) >= most:
+            return ", ".join(words) + f" and {left} more"
+        told = told_apart(a, b, names or {})
+        words += told if len(told) <= ROW else [f"{named(a, names)} to {named(b, names)}"]
+        left -= b - a + 1
     return ", ".join(words)
 
 
-def units_of(numbers, names=None):
+def told_apart(a, b, names):
+    """The words for the numbers from a to b, where each that has a name stands alone."""
+    words, start = [], a
+    for k in range(a, b + 2):
+        if k > b or k in names:
+            words += [f"{start} to {k - 1}"] if k - start > 3 else [str(v) for v in range(start, k)]
+            words += [named(k, names)] if k <= b else []
+            start = k + 1
+    return words
+
+
+def units_of(numbers, names=None, most=None):
     """unit 3, or units 3, 5 to 9"""
-    return f"unit{'' if len(numbers) == 1 else 's'} {listed(numbers, names)}"
+    return f"unit{'' if len(numbers) == 1 else 's'} {listed(numbers, names, most)}"
 
 
 def counted(k, thing):
@@ -198,15 +224,15 @@ def summed(numbers):
     return f"{' + '.join(terms)} = {sum(numbers)}" if len(numbers) > 1 else str(sum(numbers))
 
 
-def parted(left, names=None):
+def parted(left, names=None, most=None):
     """What a loss does: the smaller parts are named, the largest is counted."""
     left = sorted(left, key=lambda part: (len(part), part))
     others = counted(len(left[-1]), "other")
     if len(left) == 2:
-        return f"cuts off {units_of(left[0], names)} from {others}"
+        return f"cuts off {units_of(left[0], names, most)} from {others}"
     single = [part[0] for part in left if len(part) == 1]
     if len(single) == len(left):
-        return f"leaves {len(left)} parts: {units_of(single, names)}, each alone"
-    said = [f"{units_of(single, names)}, each alone"] if len(single) > 1 else [units_of(part, names) for part in left if len(part) == 1]
-    said += [units_of(part, names) for part in left[:-1] if len(part) > 1]
+        return f"leaves {len(left)} parts: {units_of(single, names, most)}, each alone"
+    said = [units_of(single, names, most) + (", each alone" if len(single) > 1 else "")] if single else []
+    said += [units_of(part, names, most) for part in left[:-1] if len(part) > 1]
     return f"leaves {len(left)} parts: " + "; ".join(said + [others])

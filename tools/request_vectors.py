@@ -1,9 +1,11 @@
-"""The vectors of document 02's requests through the calls from C, for tools/test_examples.py: from the numbers of a stream to the lines that the check
-programs of T-04, T-07, T-08, T-09 and T-11 print for it (crates/check_*/stdout, from an independent model). Whatever a call must leave is judged here.
+"""The vectors of document 02's requests through the calls from C, for tools/test_examples.py: from the numbers of a
+stream to the lines that the check programs of T-04, T-07, T-08, T-09, T-11 and T-12 print for it (crates/check_*/stdout,
+from an independent model). Whatever a call must leave is judged here.
 """
-from ctypes import byref, c_int16, c_size_t, c_uint16, c_uint8
+from ctypes import Structure, byref, c_int16, c_uint16, c_uint64, c_uint8
 
-STATE_WORDS, LIVE_WORDS = 12295, 3330
+STATE_WORDS, LIVE_WORDS, SEATS = 12295, 3330, 8
+STAGE = 2050  # where a state has it
 LIVE_ENDS, LIVE_LEVELS, LIVE_COUNTS = 2, 2050, 3074
 OTHER = 7777  # what stands in lent words before a call
 
@@ -36,6 +38,11 @@ def must(holds, what):
         raise AssertionError(what)
 
 
+class Turn(Structure):
+    """struct link_survey_turn."""
+    _fields_ = [("last", c_uint16)]
+
+
 class Player:
     def __init__(self, library):
         self.library = library
@@ -46,7 +53,7 @@ class Player:
         return getattr(self.library, "link_survey_" + name)(*arguments)
 
     def tables(self, units, ends, heard):
-        return c_uint16(units), words(ends), c_size_t(len(ends)), levels(heard), c_size_t(len(heard))
+        return c_uint16(units), words(ends), c_uint64(len(ends)), levels(heard), c_uint64(len(heard))
 
     def surveyed(self, stream):
         """Loads a table and makes the rounds of its budget."""
@@ -63,7 +70,7 @@ class Player:
 
     def ring(self, ends, first, second, places):
         out, count = lent(places), c_uint16(OTHER)
-        number = self.call("ring", self.state, c_uint16(first), c_uint16(second), out, c_size_t(places), byref(count))
+        number = self.call("ring", self.state, c_uint16(first), c_uint16(second), out, c_uint64(places), byref(count))
         written = 0 if number else count.value
         must(not number or count.value == OTHER, "the count on a refusal")
         must(set(out[written:]) <= {OTHER}, "places past the ring")
@@ -80,7 +87,7 @@ class Player:
         units, _ = self.surveyed(stream)
         places = next(stream)
         pairs, out = listed(stream), lent(places)
-        number = self.call("lifting_order", self.state, words(pairs), c_size_t(len(pairs)), out, c_size_t(places))
+        number = self.call("lifting_order", self.state, words(pairs), c_uint64(len(pairs)), out, c_uint64(places))
         must(set(out[0 if number else units:]) <= {OTHER}, "places past the order")
         return [" ".join(map(str, [number] if number else [0, *out[:units]]))]
 
@@ -91,17 +98,50 @@ class Player:
 
     def doubt(self, marks, first, second):
         verdict, given = c_uint16(OTHER), (c_uint8 * max(1, len(marks)))(*marks)
-        number = self.call("doubtful", self.state, c_uint16(first), c_uint16(second), given, c_size_t(len(marks)), byref(verdict))
+        links = c_uint16(first), c_uint16(second)
+        number = self.call("doubtful", self.state, *links, given, c_uint64(len(marks)), byref(verdict))
         must(not number or verdict.value == OTHER, "the verdict on a refusal")
         return number or verdict.value
 
     def one_way(self, stream):
         units, ends, places = next(stream), listed(stream), next(stream)
         numbers, passes = lent(places), c_uint16(OTHER)
-        number = self.call("one_way", c_uint16(units), words(ends), c_size_t(len(ends)), numbers, c_size_t(places), byref(passes))
+        given = c_uint16(units), words(ends), c_uint64(len(ends))
+        number = self.call("one_way", *given, numbers, c_uint64(places), byref(passes))
         must(not number or passes.value == OTHER, "the passes on a refusal")
         must(set(numbers[0 if number else units:]) <= {OTHER}, "places past the numbers")
         return [" ".join(map(str, [number] if number else [0, passes.value, *numbers[:units]]))]
+
+    def seats(self, stream):
+        """Steps 1 to 4 from eight empty seats and a turn that no tick has moved, then how each seat stands."""
+        lines, seats, turn = [], (c_uint16 * STATE_WORDS * SEATS)(), Turn(7)
+        for _ in range(next(stream)):
+            step = next(stream)
+            if step == 3:
+                turn.last = next(stream)
+            elif step == 4:
+                seat = next(stream)
+                seats[seat][STAGE] = next(stream)
+            else:
+                lines.append(self.seat_load(stream, seats) if step == 1 else self.tick(turn, seats))
+        return lines + [f"1{self.status(seat)}" if seat[0] or seat[STAGE] else "0" for seat in seats]
+
+    def seat_load(self, stream, seats):
+        seat, before = next(stream), list(map(bytes, seats))
+        number = self.call("seat_load", seats, c_uint16(seat), *self.tables(*table(stream)))
+        must(all(bytes(seats[k]) == before[k] for k in range(SEATS) if number or k != seat), "the other seats")
+        return str(number)
+
+    def tick(self, turn, seats):
+        last, before = turn.last, list(map(bytes, seats))
+        number = self.call("tick", byref(turn), seats)
+        must(all(bytes(seats[k]) == before[k] for k in range(SEATS) if number or k != turn.last), "the other seats")
+        must(not number or turn.last == last, "the turn on a refusal")
+        return str(number) if number else f"0 {turn.last}{self.status(seats[turn.last])}"
+
+    def status(self, state):
+        reply = words([OTHER] * 4)
+        return "" if self.call("status", state, reply) else "".join(f" {word}" for word in reply)
 
     def changes(self, stream, given):
         """A live table: steps 1 to 4. With `given` each step tells its number alone, else what is in hand too."""
@@ -115,7 +155,8 @@ class Player:
             if step == 1:
                 number = self.call("live_open", self.live, *self.tables(*table(stream)))
             elif step == 2:
-                number = self.call("live_add", self.live, c_uint16(next(stream)), c_uint16(next(stream)), c_int16(next(stream)))
+                link = c_uint16(next(stream)), c_uint16(next(stream)), c_int16(next(stream))
+                number = self.call("live_add", self.live, *link)
             else:
                 number = self.call("live_withdraw", self.live, c_uint16(next(stream)), c_uint16(next(stream)))
             must(not number or bytes(self.live) == before, "a live table on a refusal")

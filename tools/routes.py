@@ -1,7 +1,8 @@
-"""How the links run from unit to unit: straight, or bent where a unit that is no end of theirs would stand in the way.
+"""How the links run from unit to unit: straight, or bent where a unit that is no end of theirs would stand in the
+way.
 
-A route is a list of points: two for a straight line, three for a bow (two ends and, in the middle, what the line is drawn towards), more
-for a line with corners.
+A route is a list of points: two for a straight line, three for a bow (two ends and, in the middle, what the line is
+drawn towards), more for a line with corners.
 """
 import heapq
 import math
@@ -67,11 +68,13 @@ def rim_bow(p, q, rim):
 
 
 def cornered(p, q, strangers, step, spare):
-    """The shortest way on a grid of a step that keeps clear of all strangers and a little more, without its needless corners; None where
-    there is none."""
+    """The shortest way on a grid of a step that keeps clear of all strangers and a little more, without its needless
+    corners; None where there is none."""
     everyone = strangers + [p, q]
     left, top = (min(s[i] for s in everyone) - 3 * CLEAR for i in (0, 1))
-    columns, rows = (int((max(s[i] for s in everyone) + 3 * CLEAR - edge) / step) + 1 for i, edge in enumerate((left, top)))
+    columns, rows = (
+        int((max(s[i] for s in everyone) + 3 * CLEAR - edge) / step) + 1 for i, edge in enumerate((left, top))
+    )
     shut = set()
     width = CLEAR + spare
     for x, y in strangers:

@@ -1,185 +1,100 @@
 #!/usr/bin/env python3
-"""Surveys a site of portable signals and says what is weak there: the front door to the program target/bin/link_survey."""
+"""Surveys a site of portable signals, says what is weak there and where spares go: the front door to the program
+target/bin/link_survey."""
 import argparse
 import os
-import subprocess
 import sys
-from collections import namedtuple
 
-from losses import Losses, contradictions, units_of
-from plain_text import MAX_BYTES, is_text, read_text, write_text
-from survey_text import REFUSALS, Fault, read_report, read_site, write_site
+from files import read, read_given, write
+from judge import PROGRAM_VARIABLE, judged, program_at, site_of, surveyed, surveyed_again
+from limits import limits_of
+from losses import Losses, units_of
+from plain_text import same_names, write_text
+from proposals import proposed
+from spare_words import spare_words
+from survey_text import Fault
 from words import LOUD, words, wrapped
 
-ROOT = os.path.dirname(os.path.dirname(os.path.abspath(__file__)))
-PROGRAM = os.path.join(ROOT, "target", "bin", "link_survey")
-PROGRAM_VARIABLE = "LINK_SURVEY_PROGRAM"
-SECONDS = 60  # the largest site takes a fraction of one
-TOLD = 20  # so many contradictions are told one by one
-
-Given = namedtuple("Given", "path data names")  # where a table came from, its survey file, and the names of units
+SPARES = 3  # so many spares are proposed where no number is given
 
 ABOUT = """\
 Surveys a site and prints what is weak there: first, loud, the units that hear nobody
 and the groups that no link joins; then the weak places, the worst first; then what
-backs each other up."""
+backs each other up. With --spares it says where spare repeaters go."""
 
 MORE = """\
 SITE is a survey file or plain text, told apart by what stands in it; - is standard
-input. In plain text a level (in dBm), a name and what stands behind # may be left out:
+input. In plain text a level (in dBm), a name, a place (metres along the road and
+across), the reach and what stands behind # may be left out:
 
     # the bridge, night shift
     units 5
     0-1
     1-2 -63
     3 = head N3
+    3 @ 120 4
+    reach 250
 
 Where a drawing or a page goes to standard output (-), the words go to standard error.
-Faults always go there.
+Faults and warnings always go there.
 
 Exit status: 0 where the site has no weak place and is in one piece; 1 where it has
 weak places or is in pieces; 2 where the table was refused, something failed, or the
-report contradicts the links (each unit and each link is taken away once to see)."""
+report contradicts the links (each unit and each link is taken away once to see); 3
+where the proved program is not built: what is told is by taking away alone."""
 
 
 def command_line():
     parser = argparse.ArgumentParser(
-        prog="survey.py", description=ABOUT, epilog=MORE, formatter_class=argparse.RawDescriptionHelpFormatter, allow_abbrev=False
+        prog="survey.py",
+        description=ABOUT,
+        epilog=MORE,
+        formatter_class=argparse.RawDescriptionHelpFormatter,
+        allow_abbrev=False,
     )
-    parser.add_argument("site", metavar="SITE", help="the table of links: a survey file or plain text")
-    parser.add_argument("--svg", metavar="OUT", help="write a drawing of the site")
-    parser.add_argument("--html", metavar="OUT", help="write a page on which a tap shows what a loss parts")
-    parser.add_argument("--before", metavar="SITE", help="an earlier table of the site: say what is cured, new and remaining")
-    parser.add_argument("--full", action="store_true", help="draw every link above 60 units too; tell every set of links that back each other up")
-    parser.add_argument("--report", metavar="FILE", help="a report made elsewhere, from C, say; the program is not run, not on --before either")
-    parser.add_argument("--program", metavar="PATH", help=f"the program (else what {PROGRAM_VARIABLE} says, else target/bin/link_survey)")
-    parser.add_argument("--to-file", metavar="OUT", help="no survey: write SITE as a survey file (names of units are lost)")
-    parser.add_argument("--to-text", metavar="OUT", help="no survey: write SITE as plain text")
+    add = parser.add_argument
+    add("site", metavar="SITE", help="the table of links: a survey file or plain text")
+    add("--spares", metavar="K", nargs="?", type=number, const=SPARES,
+        help=f"say where up to K spare repeaters go ({SPARES} without a number), each surveyed before it is told")
+    add(
+        "--near",
+        metavar="PAIRS",
+        help="pairs of units that can be joined, like 0-7,3-9, or a file of them: no others are proposed",
+    )
+    add("--svg", metavar="OUT", help="write a drawing of the site")
+    add("--html", metavar="OUT", help="write a page on which a tap shows what a loss parts")
+    add("--before", metavar="SITE", help="an earlier table of the site: say what is cured, new and remaining")
+    add("--full", action="store_true", help="tell each weak place and set of links alone, and draw every unit and link")
+    add(
+        "--report",
+        metavar="FILE",
+        help="a report made elsewhere, from C, say; the program is not run, not on --before either",
+    )
+    add(
+        "--program",
+        metavar="PATH",
+        help=f"the program (else what {PROGRAM_VARIABLE} says, else target/bin/link_survey)",
+    )
+    add("--to-file", metavar="OUT", help="no survey: write SITE as a survey file (names and places are lost)")
+    add("--to-text", metavar="OUT", help="no survey: write SITE as plain text")
     return parser
 
 
-def read(path):
-    """The bytes of a file, or of standard input; no table has as many as are read at most."""
-    try:
-        if path != "-":
-            with open(path, "rb") as file:
-                data = file.read(MAX_BYTES + 1)
-        elif sys.stdin is None:
-            raise Fault("standard input is closed")
-        else:
-            data = sys.stdin.buffer.read(MAX_BYTES + 1)
-    except OSError as error:
-        raise Fault(f"{path}: cannot be read: {error.strerror}") from None
-    if len(data) > MAX_BYTES:
-        raise Fault(f"{path}: this is no table of a site: it has more than {MAX_BYTES:,} bytes")
-    return data
-
-
-def within(path, reader, data):
-    """What the reader makes of the bytes; its faults name the path."""
-    try:
-        return reader(data)
-    except Fault as fault:
-        raise Fault(f"{path}: {fault}", fault.number) from None
-
-
-def read_given(path):
-    data = read(path)
-    if not is_text(data):
-        return Given(path, data, {})
-    site, names = within(path, read_text, data)
-    return Given(path, write_site(site), names)
-
-
-def write(path, data):
-    if path == "-":
-        if sys.stdout is None:
-            raise Fault("standard output is closed")
-        sys.stdout.buffer.write(data)
-        sys.stdout.flush()
-        return
-    try:
-        with open(path, "wb") as file:
-            file.write(data)
-    except OSError as error:
-        raise Fault(f"{path}: cannot be written: {error.strerror}") from None
-
-
-def program_at(given):
-    path = given or os.environ.get(PROGRAM_VARIABLE) or PROGRAM
-    if not os.path.exists(path):
-        raise Fault(f"the program {path} is not there: `rt check link_survey` in {ROOT} builds it (README.md)")
-    return os.path.abspath(path)
-
-
-def run_program(path, data):
-    """What the program prints for a survey file."""
-    try:
-        done = subprocess.run([path], input=data, capture_output=True, timeout=SECONDS, check=False)
-    except OSError as error:
-        raise Fault(f"{path}: cannot be run: {error.strerror}") from None
-    except subprocess.TimeoutExpired:
-        raise Fault(f"{path}: it was stopped after {SECONDS} seconds") from None
-    if done.returncode:
-        raise Fault(f"{path}: it failed with {done.returncode}: {done.stderr.decode(errors='replace').strip()}")
-    return done.stdout
-
-
-def site_of(given):
-    """The site of a survey file; where it is none, with a word on what may have been meant."""
-    try:
-        return read_site(given.data)
-    except Fault as fault:
-        more = ""
-        if fault.number == 1 and given.data[:2] in (b"11", b"1E"):
-            more = "\n(this looks like a report: give the table it was made from, and the report by --report)"
-        elif fault.number == 1:
-            more = "\n(plain text is read too: its first line is like: units 5)"
-        raise Fault(f"{given.path}: {fault}{more}", fault.number) from None
-
-
-def refusal(number, given):
-    """What a refusal in the place of a report means, and whether it is the right one."""
-    told = f"the survey refused the table with number {number}: {REFUSALS[number]}"
-    try:
-        site = site_of(given)
-    except Fault as fault:
-        if fault.number != number:
-            return Fault(f"{told}\n{LOUD}but that is not what is wrong with it: {fault}")
-        return Fault(f"{told}\n{fault}")
-    # 22 is none of the program, which opens stored tables: load and writing give it
-    alone = Losses(site).alone()
-    if number == 22 and alone:
-        return Fault(f"{told}\n{given.path}: no link ends at {units_of(alone, given.names)}")
-    return Fault(f"{told}\n{LOUD}but nothing is wrong with {given.path}")
-
-
-def judged(given, source, data):
-    """What the losses of a table do and its report, which the links of the table must bear out."""
-    report = within(source, read_report, data)
-    if isinstance(report, int):
-        raise refusal(report, given)
-    site = site_of(given)
-    for what, of_report, of_site in ("units", report.units, site.units), ("links", report.links, len(site.links)):
-        if len(of_report) != of_site:
-            raise Fault(f"{source} does not belong to {given.path}: it has {len(of_report)} {what}, the table {of_site}")
-    losses = Losses(site)
-    wrong = list(contradictions(losses, report))
-    if wrong:
-        more = [f"and {len(wrong) - TOLD} more"] if len(wrong) > TOLD else []
-        raise Fault("\n".join([f"{LOUD}{source} contradicts {given.path}: do not rely on it", *wrong[:TOLD], *more]))
-    return losses, report
+def number(said):
+    if not said.isascii() or not said.isdigit() or not 1 <= int(said) <= 256:
+        raise argparse.ArgumentTypeError(f"{said!r} is no number of spares from 1 to 256 (SITE stands before --spares)")
+    return int(said)
 
 
 def convert(options):
     given = read_given(options.site)
     site = site_of(given)
     if options.to_text:
-        write(options.to_text, write_text(site, given.names))
+        write(options.to_text, write_text(site, given.names, given.places, given.reach))
         return 0
     alone = Losses(site).alone()
     if alone:
-        print(f"no link ends at {units_of(alone)}: a handset refuses such a table with 22", file=sys.stderr)
+        complain(f"no link ends at {units_of(alone)}: a handset refuses such a table with 22")
     write(options.to_file, given.data)
     return 0
 
@@ -187,20 +102,27 @@ def convert(options):
 def survey(options):
     given = read_given(options.site)
     earlier = options.before and read_given(options.before)
+    program = None if options.report else program_at(options.program)
     if options.report:
         losses, report = judged(given, options.report, read(options.report))
         before = earlier and Losses(site_of(earlier))
     else:
-        program = program_at(options.program)
-        losses, report = judged(given, "the report", run_program(program, given.data))
-        before = earlier and judged(earlier, "the report", run_program(program, earlier.data))[0]
-    lines = words(losses, report, given.names, options.full, before, earlier and earlier.names)
+        losses, report = surveyed(program, given)
+        before = earlier and surveyed(program, earlier)[0]
+    for units in same_names(given.names):
+        complain(f"{LOUD}{units_of(units)} have the same name, {given.names[units[0]]}: give each its own")
+    lines = list(words(losses, report, given.names, options.full, before, earlier and earlier.names))
+    found = None
+    if options.spares:
+        limits = limits_of(losses.site, options.near, given.places, given.reach)
+        found = proposed(losses, options.spares, limits, lambda site: surveyed_again(program, site))
+        lines += spare_words(found, given.names, proved=program is not None)
     said = "".join(wrapped(line) + "\n" for line in lines)
-    code = 1 if losses.unit_parts or losses.link_parts or len(losses.groups) > 1 else 0
+    code = 3 if report is None else 1 if losses.unit_parts or losses.link_parts or len(losses.groups) > 1 else 0
     for out, made in (options.svg, drawing_of), (options.html, page_of):
         if out:
             try:
-                write(out, made(losses, given.names, before, options.full).encode("utf-8"))
+                write(out, made(losses, given.names, before, options.full, found, report is not None).encode("utf-8"))
             except Fault as fault:
                 complain(fault)
                 code = 2
@@ -211,16 +133,16 @@ def survey(options):
     return code
 
 
-def drawing_of(losses, names, before, full):
+def drawing_of(losses, names, before, full, found, proved):
     from drawing import svg_of
 
-    return svg_of(losses, names, before, full)
+    return svg_of(losses, names, before, full, found, proved)
 
 
-def page_of(losses, names, before, _):
+def page_of(losses, names, before, _, found, proved):
     from page import html_of
 
-    return html_of(losses, names, before)
+    return html_of(losses, names, before, found, proved)
 
 
 def complain(fault):
@@ -231,14 +153,20 @@ def check_options(parser, options):
     outputs = [path for path in (options.svg, options.html, options.to_file, options.to_text) if path]
     inputs = [path for path in (options.site, options.before, options.report) if path]
     if options.to_file or options.to_text:
-        if len(outputs) > 1 or len(inputs) > 1:
+        if len(outputs) > 1 or len(inputs) > 1 or options.spares:
             parser.error("--to-file and --to-text stand alone: nothing is surveyed")
+    if options.near is not None and not options.spares:
+        parser.error("--near limits what --spares proposes: give both")
     for paths, stream in (inputs, "standard input"), (outputs, "standard output"):
         if paths.count("-") > 1:
             parser.error(f"only one - can be {stream}")
     for path in outputs:
-        if path != "-" and any(os.path.exists(path) and os.path.exists(other) and os.path.samefile(path, other) for other in inputs):
+        if path != "-" and any(same_file(path, other) for other in inputs):
             parser.error(f"{path} is read: it would be overwritten")
+
+
+def same_file(path, other):
+    return os.path.exists(path) and os.path.exists(other) and os.path.samefile(path, other)
 
 
 def main(arguments=None):

@@ -1,12 +1,13 @@
 """Survey files and reports as text: one frame a line, checked before anything is believed.
 
-A line is upper-case hexadecimal digits, two a byte, then a line feed. The first byte is the kind, the last makes the sum of all bytes
-wrap to 0 in eight bits. A number has two bytes, high byte first; a flag has one; a level has one, in two's complement.
+A line has two upper-case hexadecimal digits for each byte and ends with a line feed. It begins with its kind and ends
+with a check byte, which brings the sum of all bytes to 0 in eight bits. A number has two bytes, high byte first; a flag
+has one; a level has one, in two's complement.
 """
 from collections import namedtuple
 
-# a count, a list of pairs of units, the level of each link in dBm, and the kind of each link's line; without kinds, a link of the
-# lowest level counts as one of kind 02
+# a count, a list of pairs of units, the level of each link in dBm, and the kind of each link's line; without kinds, a
+# link of the lowest level counts as one of kind 02
 Site = namedtuple("Site", "units links levels kinds", defaults=(None,))
 Report = namedtuple("Report", "rounds requests units links")
 UnitLine = namedtuple("UnitLine", "color parent place single")
@@ -24,15 +25,16 @@ PLAIN_LINK, LINK_WITH_LEVEL = LINK_KINDS = 0x02, 0x03
 REPORT_KINDS = {0x11: 6, 0x12: 11, 0x13: 7, 0x1E: 3, 0x1F: 6}
 
 REFUSALS = {
-    1: "a line is faulty (empty, no line feed, a wrong character, kind, length or sum), or the input is longer than 65,535 bytes",
+    1: "a line is faulty (empty, no line feed, a wrong character, kind, length or sum), or the input is longer than "
+    "65,535 bytes",
     2: "the lines are not one 01 line, then 02 and 03 lines, then one 0F line",
     3: "the number of links in the 0F line is not the number of 02 and 03 lines",
-    4: "the unit count is 0 or above 256",
+    4: "the unit count is not 1 to 256",
     5: "the table of links has an odd number of words",
-    6: "there are more than 1,024 links",
+    6: "the table has more than 1,024 links",
     7: "a link has an end that is no unit of the site",
     8: "a link has the same unit at both ends",
-    9: "two links join the same two units",
+    9: "two units are linked twice",
     10: "the state is not one that the survey made",
     11: "a round was wanted of a finished survey",
     12: "an answer was wanted before the survey was finished",
@@ -40,12 +42,19 @@ REFUSALS = {
     14: "the output has too little room",
     15: "the levels are not as many as the links",
     16: "a link has a level below -127 or above 0",
+    17: "the parents of a drawn tree are not as many as the units",
+    18: "a drawn tree leaves the links, runs in a circle, or does not lead to the lowest unit of its group",
+    19: "there are more than 256 pairs or an odd number of words, or a pair names a unit that does not exist",
+    20: "no lifting order exists: a pair cuts a standing unit off, or no order can keep them all",
+    21: "no link joins the two units whose link was to be withdrawn",
     22: "a unit has no link; perhaps it was not switched on",
+    23: "the seat is none of 0 to 7",
 }
 
 
 class Fault(Exception):
-    """What is wrong with a text, in plain words; `number` is the refusal that the survey gives for it, if it has one."""
+    """What is wrong with a text, in plain words; `number` is the refusal that the survey gives for it, if it has
+    one."""
 
     def __init__(self, words, number=None):
         super().__init__(words)
@@ -70,7 +79,10 @@ def frame_of(line, kinds):
         raise Fault(f"a line of kind {frame[0]:02X} has {2 * kinds[frame[0]]} digits, this one has {len(line)}")
     if sum(frame) % 256:
         right = -sum(frame[:-1]) % 256
-        raise Fault(f"the check byte is {frame[-1]:02X}, but the other bytes ask for {right:02X}: something in the line was changed")
+        raise Fault(
+            f"the check byte is {frame[-1]:02X}, but the other bytes ask for {right:02X}: something in the line was "
+            "changed"
+        )
     return frame
 
 
@@ -106,7 +118,8 @@ def flag(frame, at, line):
 
 
 def read_site(data):
-    """The units, links and levels of a survey file. Faults come in the order in which the survey program looks for them."""
+    """The units, links and levels of a survey file. Faults come in the order in which the survey program looks for
+    them."""
     if len(data) > MAX_INPUT:
         raise Fault(f"the file has {len(data)} bytes, more than 65,535", 1)
     frames = frames_of(data, FILE_KINDS)
@@ -162,7 +175,9 @@ def write_site(site):
     """The survey file of a site: kind 03 for the links that have a level, kind 02 for those that have none."""
     lines = [line_of(0x01, *divmod(site.units, 256))]
     for kind, (a, b), level in zip(kinds_of(site), site.links, site.levels):
-        lines.append(line_of(kind, *divmod(a, 256), *divmod(b, 256), *([level % 256] if kind == LINK_WITH_LEVEL else [])))
+        lines.append(
+            line_of(kind, *divmod(a, 256), *divmod(b, 256), *([level % 256] if kind == LINK_WITH_LEVEL else []))
+        )
     return b"".join(lines) + line_of(0x0F, *divmod(len(site.links), 256))
 
 
@@ -195,5 +210,7 @@ def read_report(data):
         raise Fault("the last line, of kind 1F, is missing")
     for at, what, found in (1, "single points", [u.single for u in units]), (3, "lone links", [k.lone for k in links]):
         if word(frames[-1], at) != sum(found):
-            raise Fault(f"line {len(frames)}: it counts {word(frames[-1], at)} {what}, but the lines before mark {sum(found)}")
+            raise Fault(
+                f"line {len(frames)}: it counts {word(frames[-1], at)} {what}, but the lines before mark {sum(found)}"
+            )
     return Report(word(frames[0], 1), word(frames[0], 3), units, links)

@@ -98,8 +98,10 @@ class PublicFunctions(unittest.TestCase):
     def test_contracts(self):
         found = 0
         for path in glob.glob(os.path.join(ROOT, "crates", "*", "src", "**", "*.rt"), recursive=True):
-            # the words of a function up to the brace that stands alone before its body
-            for name, head in re.findall(r"(?ms)^\s*pub (?:extern \"C\" )?fn (\w+)(.*?)^\s*\{$", contents(path)):
+            # the words of a function up to the brace before its body: alone on its line, or after the signature
+            for name, head in re.findall(
+                r"(?ms)^\s*pub (?:extern \"C\" )?fn (\w+)(.*?)(?:^\s*\{|\)(?: -> [^\n]*)? \{)$", contents(path)
+            ):
                 found += 1
                 with self.subTest(f"{os.path.relpath(path, ROOT)}: {name}"):
                     self.assertNotIn("requires", head)

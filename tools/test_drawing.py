@@ -1,7 +1,7 @@
 """Tests of the drawings, on all survey files of the repository and on made road sites: python3 tools/test_drawing.py
 
-What a drawing shows is read back from its text and measured here anew. With LINK_SURVEY_ALL set, every large site is drawn in full,
-else one of each kind of the repository.
+What a drawing shows is read back from its text and measured here anew. With LINK_SURVEY_ALL set, every large site is
+drawn in full, else one of each kind of the repository.
 """
 import functools
 import glob
@@ -12,11 +12,15 @@ import re
 import unittest
 import xml.etree.ElementTree as ElementTree
 
+import block_drawing
 import blocks
 import drawing
 import ink
 import routes
+from limits import Limits
 from losses import Losses
+from plain_text import read_text
+from proposals import proposed
 from survey_text import Fault, Site, read_site
 
 ROOT = os.path.dirname(os.path.dirname(os.path.abspath(__file__)))
@@ -46,7 +50,9 @@ def made(units, links):
 def repository_sites():
     """Every survey file of the repository that is accepted, each site once: name, units, links."""
     found = {}
-    for path in sorted(glob.glob(os.path.join(ROOT, "crates", "*", "data", "*")) + glob.glob(os.path.join(ROOT, "examples", "*.txt"))):
+    for path in sorted(
+        glob.glob(os.path.join(ROOT, "crates", "*", "data", "*")) + glob.glob(os.path.join(ROOT, "examples", "*.txt"))
+    ):
         try:
             site = read_site(contents(path))
         except Fault:
@@ -166,10 +172,15 @@ def view(root):
 
 
 def digit_heights(root):
-    """The heights in mm of all digits of a drawing that is printed as large as a sheet of A4 allows, upright or across."""
+    """The heights in mm of all digits of a drawing that is printed as large as a sheet of A4 allows, upright or
+    across."""
     _, _, wide, high = view(root)
     mm = max(min(SHEET[0] / wide, SHEET[1] / high), min(SHEET[1] / wide, SHEET[0] / high))
-    sizes = {float(text.get("font-size") or root.get("font-size")) for text in root.iter(SVG + "text") if re.search(r"\d", "".join(text.itertext()))}
+    sizes = {
+        float(text.get("font-size") or root.get("font-size"))
+        for text in root.iter(SVG + "text")
+        if re.search(r"\d", "".join(text.itertext()))
+    }
     return [size * 0.72 * mm for size in sizes]
 
 
@@ -224,7 +235,10 @@ class Small(unittest.TestCase):
         self.assertEqual(kinds.count("single unit"), len(losses.unit_parts))
         self.assertEqual(kinds.count("lone link"), len(losses.link_parts))
         self.assertEqual(kinds.count("link"), len(losses.site.links) - len(losses.link_parts))
-        self.assertEqual({int(g.get("data-unit")) for g in classed(root, "unit") if "single" in g.get("class")}, set(losses.unit_parts))
+        self.assertEqual(
+            {int(g.get("data-unit")) for g in classed(root, "unit") if "single" in g.get("class")},
+            set(losses.unit_parts),
+        )
         order = {"link": 0, "lone link": 1, "unit": 2, "deaf unit": 2, "single unit": 3}
         self.assertEqual([order[k] for k in kinds], sorted(order[k] for k in kinds))
         for g in classed(root, "link"):
@@ -238,13 +252,17 @@ class Small(unittest.TestCase):
         said = " ".join("".join(g.itertext()) for g in classed(root, "pieces"))
         self.assertEqual("NOBODY" in said, bool(deaf))
         self.assertEqual(f"{len(groups)} SEPARATE GROUPS" in said, len(groups) > 1)
-        self.assertEqual({int(g.get("data-unit")) for g in classed(root, "unit") if "deaf" in g.get("class")}, set(deaf))
+        self.assertEqual(
+            {int(g.get("data-unit")) for g in classed(root, "unit") if "deaf" in g.get("class")}, set(deaf)
+        )
         units = circles(root)
         frames = []
         for g in classed(root, "group") + classed(root, "deaf"):
             box = g.find(SVG + "rect")
             x, y, w, h = (float(box.get(k)) for k in ("x", "y", "width", "height"))
-            frames.append(sorted(v for v, (ux, uy, r) in units.items() if x + r < ux < x + w - r and y + r < uy < y + h - r))
+            frames.append(
+                sorted(v for v, (ux, uy, r) in units.items() if x + r < ux < x + w - r and y + r < uy < y + h - r)
+            )
         wanted = groups + [sorted(deaf)] * bool(deaf) if len(losses.groups) > 1 else []
         self.assertEqual(sorted(frames), sorted(wanted))
 
@@ -256,7 +274,9 @@ class Small(unittest.TestCase):
             for g in classed(root, "link"):
                 j = int(g.get("data-link"))
                 if j not in losses.link_parts:
-                    looks[losses.labels[j]] = tuple(p.get("stroke-width") for p in g.findall(SVG + "path") if not p.get("class"))
+                    looks[losses.labels[j]] = tuple(
+                        p.get("stroke-width") for p in g.findall(SVG + "path") if not p.get("class")
+                    )
                     for v in losses.site.links[j]:
                         touching.setdefault(v, set()).add(losses.labels[j])
             for labels in touching.values():
@@ -272,7 +292,11 @@ class Small(unittest.TestCase):
         self.assertTrue(set(losses.link_parts) <= set(written))
         for j, text in written.items():
             self.assertEqual(text.text.split()[0], str(j))
-        places = [(float(t.get("x")), float(t.get("y")), len(t.text)) for j, t in written.items() if j not in losses.link_parts]
+        places = [
+            (float(t.get("x")), float(t.get("y")), len(t.text))
+            for j, t in written.items()
+            if j not in losses.link_parts
+        ]
         for i, (x, y, n) in enumerate(places):
             for px, py, pn in places[:i]:
                 self.assertTrue(abs(x - px) > 3.5 * (n + pn) or abs(y - py) > 11)
@@ -298,14 +322,18 @@ class Reports(unittest.TestCase):
                 singles = {int(line[2:6], 16) for line in report if line.startswith(b"12") and line[18:20] == b"01"}
                 lones = {int(line[2:6], 16) for line in report if line.startswith(b"13") and line[10:12] == b"01"}
                 root = ElementTree.fromstring(drawing.svg_of(losses_of(site.units, tuple(site.links))))
-                self.assertEqual({int(g.get("data-unit")) for g in classed(root, "unit") if "single" in g.get("class")}, singles)
-                self.assertEqual({int(g.get("data-link")) for g in classed(root, "link") if "lone" in g.get("class")}, lones)
+                self.assertEqual(
+                    {int(g.get("data-unit")) for g in classed(root, "unit") if "single" in g.get("class")}, singles
+                )
+                self.assertEqual(
+                    {int(g.get("data-link")) for g in classed(root, "link") if "lone" in g.get("class")}, lones
+                )
 
     def test_levels_and_names(self):
         losses = Losses(Site(4, [(0, 1), (1, 2), (0, 2), (2, 3)], [-61, -127, 0, -127]))
         svg = drawing.svg_of(losses, {3: "head <N3>"})
-        for title in "link 0 (0-1), -61 dBm: backed up", "link 1 (1-2): backed up", "link 2 (0-2), 0 dBm: backed up", "link 3 (2-3): lone":
-            self.assertIn(f"<title>{title}</title>", svg)
+        for title in "0 (0-1), -61 dBm: backed up", "1 (1-2): backed up", "2 (0-2), 0 dBm: backed up", "3 (2-3): lone":
+            self.assertIn(f"<title>link {title}</title>", svg)
         self.assertIn("<title>unit 3 (head &lt;N3&gt;): no single point</title>", svg)
         self.assertIn("head <N3>", "".join(ElementTree.fromstring(svg).itertext()))
 
@@ -314,6 +342,10 @@ class Reports(unittest.TestCase):
             losses = Losses(read_site(contents(os.path.join(ROOT, "examples", case + ".txt"))))
             kept = contents(os.path.join(ROOT, "docs", "img", case + ".svg")).decode()
             self.assertEqual(drawing.svg_of(losses), kept)
+        site, names = read_text(contents(os.path.join(ROOT, "examples", "road.txt")))
+        losses = Losses(site)
+        kept = contents(os.path.join(ROOT, "docs", "img", "road-spare.svg")).decode()
+        self.assertEqual(drawing.svg_of(losses, names, found=proposed(losses, 1, Limits(), Losses)), kept)
 
 
 # ---- colours
@@ -405,7 +437,10 @@ class Before(unittest.TestCase):
         for seed in range(40):
             old, new = self.changed(seed)
             with self.subTest(seed):
-                first, second = (ElementTree.fromstring(svg) for svg in (drawing.svg_of(old), drawing.svg_of(new, before=old, full=True)))
+                first, second = (
+                    ElementTree.fromstring(svg)
+                    for svg in (drawing.svg_of(old), drawing.svg_of(new, before=old, full=True))
+                )
                 places, kept = circles(first), circles(second)
                 self.assertEqual({v: p[:2] for v, p in places.items()}, {v: kept[v][:2] for v in places})
                 self.assertEqual(list(lies(new, second)), [])
@@ -415,15 +450,20 @@ class Before(unittest.TestCase):
                     self.assertTrue(left + r < x < left + wide - r and top + r < y < top + high - r)
 
     def test_spares_beside_a_rim(self):
-        """Dense sites and stars, whose units stand in a circle, with a spare outside that hears units all around, the hub too."""
+        """Dense sites and stars, whose units stand in a circle, with a spare outside that hears units all around,
+        the hub too."""
         pick = random.Random(2)
         for units in 12, 30, 59:
             dense = [(a, b) for a in range(units) for b in range(a) if pick.random() < 6 / units + 0.2]
-            for links in dense, [(0, v) for v in range(1, units)], [(0, v) for v in range(1, units)] + [(v, v + 1) for v in range(1, units - 1)]:
+            for links in dense, [(0, v) for v in range(1, units)], [(0, v) for v in range(1, units)] + [
+                (v, v + 1) for v in range(1, units - 1)
+            ]:
                 old = made(units, links)
                 new = made(units + 1, links + [(units, v) for v in (0, 1, units // 4, units // 2, units - 2)])
                 with self.subTest((units, len(links))):
-                    first, second = (ElementTree.fromstring(svg) for svg in (drawing.svg_of(old), drawing.svg_of(new, before=old)))
+                    first, second = (
+                        ElementTree.fromstring(svg) for svg in (drawing.svg_of(old), drawing.svg_of(new, before=old))
+                    )
                     places, kept = circles(first), circles(second)
                     self.assertEqual({v: p[:2] for v, p in places.items()}, {v: kept[v][:2] for v in places})
                     self.assertEqual(list(lies(new, second)), [])
@@ -443,7 +483,9 @@ class Before(unittest.TestCase):
 def special_sites():
     """Sites of many weak places."""
     pick = random.Random(8)
-    yield "triangles in a row", made(255, [e for i in range(0, 254, 2) for e in ((i, i + 1), (i + 1, i + 2), (i, i + 2))])
+    yield "triangles in a row", made(
+        255, [e for i in range(0, 254, 2) for e in ((i, i + 1), (i + 1, i + 2), (i, i + 2))]
+    )
     yield "triangles at a point", made(255, [e for i in range(1, 255, 2) for e in ((0, i), (i, i + 1), (0, i + 1))])
     yield "star", made(256, [(0, i) for i in range(1, 256)])
     yield "path", made(256, [(i, i + 1) for i in range(255)])
@@ -453,8 +495,14 @@ def special_sites():
     yield "unlinked", made(256, [])
     yield "pairs", made(256, [(i, i + 1) for i in range(0, 256, 2)])
     yield "grown at random", made(256, [(i, pick.randrange(i)) for i in range(1, 256)])
-    yield "a long road", made(256, [(i, pick.randrange(max(0, i - 6), i)) for i in range(1, 250)] + [(pick.randrange(i), i) for i in range(5, 200, 9)])
-    roads = [(i, i + 1) for i in range(100)] + [(i, i + 2) for i in range(20, 60)] + [(200 + i, 201 + i) for i in range(20)]
+    yield "a long road", made(
+        256,
+        [(i, pick.randrange(max(0, i - 6), i)) for i in range(1, 250)]
+        + [(pick.randrange(i), i) for i in range(5, 200, 9)],
+    )
+    roads = [(i, i + 1) for i in range(100)] + [(i, i + 2) for i in range(20, 60)] + [
+        (200 + i, 201 + i) for i in range(20)
+    ]
     yield "pieces", made(230, roads + [(pick.randrange(100), 100 + i) for i in range(60)])
 
 
@@ -462,7 +510,7 @@ def special_sites():
 def large_drawings():
     sites = [(name, losses_of(units, links)) for name, units, links in repository_sites() if units > 60]
     sites += special_sites()
-    return [(name, losses, ElementTree.fromstring(drawing.svg_of(losses))) for name, losses in sites]
+    return [(name, losses, ElementTree.fromstring(block_drawing.svg_of(losses))) for name, losses in sites]
 
 
 def numbers_in(said):
@@ -540,7 +588,12 @@ class Blocks(unittest.TestCase):
 
     @on_each(large_drawings)
     def test_nobody_is_left_out(self, losses, root):
-        shown = {v for g in root.iter(SVG + "g") if (g.get("class") or "").startswith("box") for v in map(int, g.get("data-units").split())}
+        shown = {
+            v
+            for g in root.iter(SVG + "g")
+            if (g.get("class") or "").startswith("box")
+            for v in map(int, g.get("data-units").split())
+        }
         shown |= {int(g.get("data-unit")) for g in classed(root, "unit")}
         self.assertEqual(shown, set(range(losses.site.units)))
         deaf = [part[0] for part in losses.groups if len(part) == 1]
@@ -567,7 +620,9 @@ class Blocks(unittest.TestCase):
                 if (g.get("class") or "").startswith("box") or g.get("data-unit"):
                     rects.append(tuple(float(g.find(SVG + "rect").get(k)) for k in ("x", "y", "width", "height")))
             for x, y, w, h in rects:
-                self.assertTrue(left <= x + x0 and x + w + x0 <= left + wide and top <= y + y0 and y + h + y0 <= top + high)
+                self.assertTrue(
+                    left <= x + x0 and x + w + x0 <= left + wide and top <= y + y0 and y + h + y0 <= top + high
+                )
             rects.sort(key=lambda r: r[1])
             for i, (x, y, w, h) in enumerate(rects):
                 for px, py, pw, ph in rects[i + 1 :]:
@@ -578,7 +633,9 @@ class Blocks(unittest.TestCase):
                 n = [float(k) for k in re.findall(r"-?[\d.]+", path.get("d"))]
                 for ax, ay, bx, by in zip(n[::2], n[1::2], n[2::2], n[3::2]):
                     for x, y, w, h in rects:
-                        through = min(ax, bx) < x + w - 3 and max(ax, bx) > x + 3 and min(ay, by) < y + h - 3 and max(ay, by) > y + 3
+                        through = min(ax, bx) < x + w - 3 and max(ax, bx) > x + 3 and min(ay, by) < y + h - 3 and max(
+                            ay, by
+                        ) > y + 3
                         inside = x - 1 <= min(ax, bx) and max(ax, bx) <= x + w + 1
                         # a line may begin or end under a single point, which covers its end
                         ends = any(x <= ex <= x + w and y <= ey <= y + h for ex, ey in ((ax, ay), (bx, by)))
@@ -590,9 +647,47 @@ class Blocks(unittest.TestCase):
         self.assertEqual("NOBODY" in said, any(len(part) == 1 for part in losses.groups))
         self.assertEqual("SEPARATE GROUPS" in said, sum(len(part) > 1 for part in losses.groups) > 1)
 
-    def test_names_of_weak_places(self):
-        losses = made(70, [(i, i + 1) for i in range(69)])
-        self.assertIn("5 = head N5, 69 = end", "".join(ElementTree.fromstring(drawing.svg_of(losses, {5: "head N5", 69: "end"})).itertext()))
+
+def town(units, seed):
+    """Streets between crossings that stand in rows, some of them missing."""
+    pick = random.Random(seed)
+    rows = [(v, v + 1) for v in range(units - 1) if v % 16 < 15 and pick.random() < 0.75]
+    return made(units, rows + [(v, v + 16) for v in range(units - 16) if pick.random() < 0.75])
+
+
+def rings_in_a_row(units):
+    """Rings of six units, each joined to the next by a lone link: as a block tree, a staircase."""
+    links = []
+    for start in range(0, units - 5, 6):
+        links += [(start + k, start + (k + 1) % 6) for k in range(6)] + [(start + 3, start + 6)] * (
+            start + 6 < units - 5
+        )
+    return made(units - units % 6, links)
+
+
+class Kinds(unittest.TestCase):
+    """Every unit and link is drawn where that is legible, else the block tree."""
+
+    def test_what_is_legible(self):
+        pick = random.Random(4)
+        crossed = [pick.sample(range(100), 2) for _ in range(230)]
+        star = [(0, v) for v in range(1, 200)]
+        for name, losses, full in [
+            ("town of 120", town(120, 1), True),
+            ("rings", rings_in_a_row(240), True),
+            ("links that cross", made(100, crossed), False),
+            ("star", made(200, star), False),
+        ]:
+            with self.subTest(name):
+                root = ElementTree.fromstring(drawing.svg_of(losses))
+                heights = digit_heights(root)
+                if full:
+                    self.assertEqual(len(circles(root)), losses.site.units)
+                    self.assertEqual(list(lies(losses, root)), [])
+                else:
+                    kinds = {g.get("class") for g in root.iter(SVG + "g")}
+                    self.assertTrue(kinds & {"box set", "box ends"})
+                self.assertGreaterEqual(min(heights), 1.8 if not full or losses.site.units <= 140 else 1.3)
 
 
 class Large(unittest.TestCase):

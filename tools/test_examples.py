@@ -1,7 +1,8 @@
 """The examples in C against the proved library: python3 tools/test_examples.py
 
-Builds the archive by `rt staticlib survey_c` where it is missing or older than the crates, then the examples. What cannot be run for want of `rt` or
-of a compiler is skipped, and said so.
+Builds the archive by `rt staticlib survey_c` where it is missing or older than the crates, then the examples. What
+cannot be run for want of `rt` or of a compiler is skipped, and said so. tools/test_cross.py does this for other
+processors.
 """
 import ctypes
 import glob
@@ -16,13 +17,14 @@ import request_vectors
 
 ROOT = os.path.dirname(os.path.dirname(os.path.abspath(__file__)))
 EXAMPLES = os.path.join(ROOT, "examples")
+INCLUDE = os.path.join(ROOT, "include")
 VECTORS = os.path.join(ROOT, "crates", "check_vectors", "data")
 LEVELS = os.path.join(ROOT, "evidence", "tests", "levels", "program")
 ARCHIVE = os.path.join(ROOT, "target", "staticlib", "libsurvey_c.a")
 WARNINGS = ["-Wall", "-Wextra", "-Wpedantic", "-Werror"]
 
-# document 01's case B: the rounds of stages 1 to 10 are 3, 4, 2, 4, 2, 4, 3, 1, 2, 2, of ceilings 4, 5, 2, 4, 2, 4, 3, 1, 3, 2; the foreman's lines
-# are those of an independent model
+# document 01's case B: the rounds of stages 1 to 10 are 3, 4, 2, 4, 2, 4, 3, 1, 2, 2, of ceilings 4, 5, 2, 4, 2, 4, 3,
+# 1, 3, 2; the foreman's lines are those of an independent model
 CASE_B = """\
 4 units, 4 links
 round   0  countdown  30  colour              2001001EC1
@@ -40,8 +42,9 @@ unit 2 is a single point: without it, others lose each other
 link 3, between units 2 and 3, at -127 dBm, is lone: no ring backs it up
 """
 
-# document 01's case E, two rings that meet in unit 2. By hand from document 02: a lorry in 0-2 opens the ring 0-1-2 and no other; a lifting order is read
-# from its end, 0 and then the least unit that may stand next; 3 is reached from 0, 1, 2 and reaches none; without 0-2 and with 1-3, 0 hangs on 1 alone
+# document 01's case E, two rings that meet in unit 2. By hand from document 02: a lorry in 0-2 opens the ring 0-1-2 and
+# no other; a lifting order is read from its end, 0 and then the least unit that may stand next; 3 is reached from 0, 1
+# and 2 and reaches none; without 0-2 and with 1-3, 0 hangs on 1 alone
 REQUESTS = """\
 ring of links 0 and 1: 0 1 2
 ring of links 0 and 4: none
@@ -95,6 +98,32 @@ def archive():
     os.utime(ARCHIVE)
 
 
+def build(compiler, program, sources, more=()):
+    command = [compiler, "-std=c99", *WARNINGS, *more, "-I" + INCLUDE, *map(example, sources), ARCHIVE, "-o", program]
+    built = subprocess.run(command, capture_output=True, text=True, check=False)
+    if built.returncode != 0:
+        raise AssertionError(f"{' '.join(sources)}:\n{built.stderr}")
+
+
+def vectors():
+    """The files of the program's vectors, those with levels too."""
+    found, levels = (sorted(glob.glob(os.path.join(folder, "*.in"))) for folder in (VECTORS, LEVELS))
+    if not found or not levels:
+        raise AssertionError("there are no vectors")
+    return found + levels
+
+
+def play_requests(test, library):
+    """The vectors of the requests through a library's calls, against what an independent model says."""
+    for family in "rings", "lifting", "doubtful", "one_way", "live", "seats":
+        crate = os.path.join(ROOT, "crates", "check_" + family)
+        lines = []
+        for name in re.findall(r"\S+\.in\b", contents(os.path.join(crate, "args"))):
+            lines += request_vectors.played(library, family, name, contents(os.path.join(crate, "data", name)))
+        with test.subTest(family):
+            test.assertEqual(lines, contents(os.path.join(crate, "stdout")).splitlines())
+
+
 class Programs(unittest.TestCase):
     @classmethod
     def setUpClass(cls):
@@ -105,11 +134,11 @@ class Programs(unittest.TestCase):
         folder = tempfile.TemporaryDirectory()
         cls.addClassCleanup(folder.cleanup)
         cls.folder = folder.name
-        for name in "case_b", "handset", "office", "requests":
-            command = [found[0], "-std=c99", *WARNINGS, "-I" + os.path.join(ROOT, "include"), example(name + ".c"), ARCHIVE]
-            built = subprocess.run(command + ["-o", os.path.join(cls.folder, name)], capture_output=True, text=True, check=False)
-            if built.returncode != 0:
-                raise AssertionError(f"{name}.c:\n{built.stderr}")
+        for name in "case_b", "handset", "office", "requests", "acceptance", "reports":
+            build(found[0], os.path.join(cls.folder, name), [name + ".c"])
+        build(found[0], os.path.join(cls.folder, "self_test"), ["self_test_main.c", "self_test.c"])
+        one = ["-DLINK_SURVEY_SELF_TEST_ONE_SEAT"]
+        build(found[0], os.path.join(cls.folder, "one_seat"), ["self_test_main.c", "self_test.c"], one)
 
     def made(self, name, *arguments, given=b""):
         """The exit status of a program, and what it wrote to its output and to its error output."""
@@ -137,7 +166,7 @@ class Programs(unittest.TestCase):
             self.assertEqual(self.made("handset", given=file.read()), (0, printed, ""))
 
     def test_levels(self):
-        """Case B with levels, its third link without one: the report is the same, and a lone link is shown with its level."""
+        """Case B with levels, its third link without one: the same report; a lone link is shown with its level."""
         given = b"010004FB\n0300000001C339\n0300010002BA40\n0200000002FC\n0300020003AD4B\n0F0004ED\n"
         printed = CASE_B.replace("-127 dBm", "-83 dBm") + contents(example("case-b.report.txt"))
         self.assertEqual(self.made("handset", given=given), (0, printed, ""))
@@ -158,7 +187,7 @@ class Programs(unittest.TestCase):
         self.assertIn("round   0  countdown  16  colour              20010010CF\n", printed)
 
     def test_every_round(self):
-        """-v shows each round once; the countdown falls to 0; where a stage begins the line is the one shown without -v."""
+        """-v shows each round once; the countdown falls to 0; where a stage begins the line is that without -v."""
         status, printed, _ = self.made("handset", "-v", example("case-b.txt"))
         self.assertEqual(status, 0)
         shown = re.findall(r"(?m)^round +(\d+)  countdown +(\d+)  ", printed)
@@ -174,9 +203,7 @@ class Programs(unittest.TestCase):
 
     def test_vectors(self):
         """The report of each file, or the number of its refusal with words."""
-        found, levels = (sorted(glob.glob(os.path.join(folder, "*.in"))) for folder in (VECTORS, LEVELS))
-        self.assertTrue(found and levels)
-        for path in found + levels:
+        for path in vectors():
             with self.subTest(os.path.basename(path)):
                 expected = contents(path[:-3] + ".out")
                 status, printed, told = self.made("handset", path)
@@ -186,6 +213,22 @@ class Programs(unittest.TestCase):
                 else:
                     self.assertEqual((status, told), (0, ""))
                     self.assertTrue(printed.endswith("\n" + expected))
+
+    def test_reports(self):
+        status, printed, told = self.made("reports", *vectors())
+        self.assertEqual((status, told), (0, ""))
+        self.assertEqual(printed, "".join(contents(path[:-3] + ".out") for path in vectors()))
+        self.assertEqual(self.made("reports", os.path.join(self.folder, "missing"))[0], 2)
+
+    def test_acceptance(self):
+        """T-13's lines are those that a removal of one unit after another gave."""
+        lines = contents(os.path.join(ROOT, "crates", "small_sites", "stdout"))
+        self.assertEqual(len(lines.splitlines()), 1099)
+        self.assertEqual(self.made("acceptance"), (0, lines, ""))
+
+    def test_self_test(self):
+        self.assertEqual(self.made("self_test"), (0, "passed\n", ""))
+        self.assertEqual(self.made("one_seat"), (0, "passed\n", ""))
 
     def test_too_long(self):
         status, printed, told = self.made("handset", given=b"0200000001FD\n" * 5042)
@@ -216,13 +259,7 @@ class Calls(unittest.TestCase):
         cls.library = ctypes.CDLL(path)
 
     def test_vectors(self):
-        for family in "rings", "lifting", "doubtful", "one_way", "live":
-            crate = os.path.join(ROOT, "crates", "check_" + family)
-            lines = []
-            for name in re.findall(r"\S+\.in\b", contents(os.path.join(crate, "args"))):
-                lines += request_vectors.played(self.library, family, name, contents(os.path.join(crate, "data", name)))
-            with self.subTest(family):
-                self.assertEqual(lines, contents(os.path.join(crate, "stdout")).splitlines())
+        play_requests(self, self.library)
 
 
 class Texts(unittest.TestCase):
@@ -231,7 +268,36 @@ class Texts(unittest.TestCase):
         self.assertEqual(listings, [contents(example("case_b.c"))])
 
     def test_warnings_in_c(self):
-        self.compiled(compilers("gcc", "clang"), ["c99", "c11", "c17"], glob.glob(example("*.c")))
+        """All but the start without an operating system, which is for one processor: tools/test_cross.py builds it."""
+        sources = sorted(set(glob.glob(example("*.c"))) - {example("bare_metal_start.c")})
+        self.compiled(compilers("gcc", "clang"), ["c99", "c11", "c17", "c2x"], sources)
+
+    def test_every_refusal_is_told(self):
+        """handset.c has as many texts as the header has numbers."""
+        header = contents(os.path.join(INCLUDE, "link_survey.h"))
+        refusals = re.search(r"(?s)enum link_survey_refusal {.*?};", header)[0]
+        numbers = re.findall(r"(?m)^    LINK_SURVEY_\w+ = (\d+)", refusals)
+        told = re.search(r"(?s)refusals\[\] = {(.*?)};", contents(example("handset.c")))[1]
+        self.assertEqual(list(map(int, numbers)), list(range(24)))
+        self.assertEqual(len(re.findall(r'(?m)^    "[^"]+"', told)), len(numbers))
+
+    def test_wrong_widths(self):
+        """A compiler for which one of the header's assertions does not hold refuses it, and says which."""
+        found = compilers("gcc", "clang")
+        if not found:
+            self.skipTest("there is no C compiler")
+        for wide, other, said in [
+            ("uint64_t", "uint32_t", "a_length_has_8_bytes"),
+            ("uint32_t", "uint64_t", "a_number_has_4_bytes"),
+            ("uint16_t", "uint32_t", "a_word_and_a_level_have_2_bytes"),
+        ]:
+            source = f'#include <stddef.h>\n#include <stdint.h>\n#define {wide} {other}\n#include "link_survey.h"\n'
+            for standard in "c99", "c11":
+                with self.subTest(f"{standard}: {wide}"):
+                    command = [found[0], "-std=" + standard, "-I" + INCLUDE, "-fsyntax-only", "-x", "c", "-"]
+                    done = subprocess.run(command, input=source, capture_output=True, text=True, check=False)
+                    self.assertNotEqual(done.returncode, 0)
+                    self.assertIn(said, done.stderr)
 
     def test_warnings_in_cpp(self):
         with tempfile.TemporaryDirectory() as folder:
@@ -240,14 +306,15 @@ class Texts(unittest.TestCase):
                 file.write('#include "link_survey.h"\nunsigned file_bytes() { return LINK_SURVEY_FILE_BYTES(4u); }\n')
                 file.write("unsigned report_bytes() { return LINK_SURVEY_REPORT_BYTES(4u, 4u); }\n")
                 file.write("int lowest_level() { return LINK_SURVEY_LOWEST_LEVEL; }\n")
-            self.compiled(compilers("g++", "clang++"), ["c++11", "c++14", "c++17", "c++20"], [source], "-Wold-style-cast")
+            standards = ["c++11", "c++14", "c++17", "c++20", "c++2b"]
+            self.compiled(compilers("g++", "clang++"), standards, [source], "-Wold-style-cast")
 
     def compiled(self, found, standards, sources, *more):
         if not found:
             self.skipTest("there is no compiler for this language")
         for compiler in found:
             for standard in standards:
-                command = [compiler, "-std=" + standard, *WARNINGS, *more, "-I" + os.path.join(ROOT, "include"), "-fsyntax-only"]
+                command = [compiler, "-std=" + standard, *WARNINGS, *more, "-I" + INCLUDE, "-fsyntax-only"]
                 with self.subTest(f"{compiler} {standard}"):
                     done = subprocess.run(command + sources, capture_output=True, text=True, check=False)
                     self.assertEqual((done.returncode, done.stderr), (0, ""))

@@ -1,7 +1,8 @@
 """Tests of the front door, its words and the plain text: python3 tools/test_survey.py
 
-The vectors stand in crates/check_vectors/data, or where LINK_SURVEY_VECTORS says: NAME.in is a survey file, NAME.out what the survey prints.
-What the program is made to run on is skipped, and said so, where target/bin/link_survey is not built; most tests lend it a report instead.
+The vectors stand in crates/check_vectors/data, or where LINK_SURVEY_VECTORS says: NAME.in is a survey file, NAME.out
+what the survey prints. What the program is made to run on is skipped, and said so, where target/bin/link_survey is
+not built; most tests lend it a report instead.
 """
 import contextlib
 import glob
@@ -19,8 +20,10 @@ import unittest
 import xml.etree.ElementTree as ElementTree
 from unittest import mock
 
+import judge
 import plain_text
 import survey
+from folds import Fold, Folding, most_cut
 from losses import Losses, changes
 from survey_text import Fault, Site, level_of, read_site, write_site
 
@@ -52,7 +55,9 @@ def example(name):
 
 def valid():
     """The survey files of the vectors that are not refused, each with its report."""
-    found = [(path, contents(path + ".in"), contents(path + ".out")) for path in vectors("*", VECTORS) + vectors("*", LEVELS)]
+    found = [
+        (path, contents(path + ".in"), contents(path + ".out")) for path in vectors("*", VECTORS) + vectors("*", LEVELS)
+    ]
     return [(os.path.basename(path), file, report) for path, file, report in found if not report.startswith(b"1E")]
 
 
@@ -67,7 +72,9 @@ def file_of(units, links):
 
 
 def text_of(units, links, names=()):
-    return "".join([f"units {units}\n", *(f"{a}-{b}\n" for a, b in links), *(f"{v} = {name}\n" for v, name in names)]).encode()
+    return "".join(
+        [f"units {units}\n", *(f"{a}-{b}\n" for a, b in links), *(f"{v} = {name}\n" for v, name in names)]
+    ).encode()
 
 
 def changed(report, line, at, byte):
@@ -121,7 +128,9 @@ class Door(unittest.TestCase):
     def run_door(self, *arguments, given=b""):
         """The exit status, and what stands on standard output and on standard error."""
         streams = [io.TextIOWrapper(io.BytesIO(data), encoding="utf-8", newline="\n") for data in (given, b"", b"")]
-        with mock.patch("sys.stdin", streams[0]), contextlib.redirect_stdout(streams[1]), contextlib.redirect_stderr(streams[2]):
+        with mock.patch("sys.stdin", streams[0]), contextlib.redirect_stdout(streams[1]), contextlib.redirect_stderr(
+            streams[2]
+        ):
             try:
                 code = survey.main(list(arguments))
             except SystemExit as left:
@@ -136,8 +145,10 @@ class Door(unittest.TestCase):
 
     def said_of(self, units, links, names=(), *arguments):
         """The exit status and the words of a table, whose report is not looked at."""
-        with mock.patch.object(survey, "contradictions", lambda losses, report: []):
-            rows = [line(0x12, 0, v, 0, 0, 0, 0, 0, 0, 0) for v in range(units)] + [line(0x13, *divmod(j, 256), 0, 0, 0) for j in range(len(links))]
+        with mock.patch.object(judge, "contradictions", lambda losses, report: []):
+            rows = [line(0x12, 0, v, 0, 0, 0, 0, 0, 0, 0) for v in range(units)] + [
+                line(0x13, *divmod(j, 256), 0, 0, 0) for j in range(len(links))
+            ]
             report = line(0x11, 0, 1, 0, 0) + b"".join(rows) + line(0x1F, 0, 0, 0, 0)
             code, said, told = self.reported(text_of(units, links, names), report, *arguments)
         self.assertEqual(told, "")
@@ -214,7 +225,9 @@ class Words(Door):
                 self.assertEqual(len(cut), len(single) + len(lone))
                 labels = [text[6:10] for text in links]
                 backed = sorted((labels.count(k) for k in set(labels) if labels.count(k) > 1), reverse=True)
-                self.assertEqual([int(k) for k in re.findall(r"(?m)^the (\d+) links among .+ back each other up$", said)], backed)
+                self.assertEqual(
+                    [int(k) for k in re.findall(r"(?m)^the (\d+) links among .+ back each other up$", said)], backed
+                )
                 # T-14: the last line's sum is the units less the groups, which the report tells by colours
                 last = said.splitlines()[-1]
                 self.assertTrue(last.startswith("by parts, for the planner: "), last)
@@ -230,7 +243,13 @@ class Words(Door):
             links = pick.sample(pairs, min(len(pairs), pick.randint(0, units + 3)))
             expected = weak_by_removal(units, links)
             found = Losses(Site(units, links, [-127] * len(links))).weak()
-            self.assertEqual({frozenset(place.ends) if place.ends else place.number: set(map(frozenset, place.parts)) for place in found}, expected)
+            self.assertEqual(
+                {
+                    frozenset(place.ends) if place.ends else place.number: set(map(frozenset, place.parts))
+                    for place in found
+                },
+                expected,
+            )
             self.assertEqual(len(found), len(expected))
             for place in found:
                 sizes = sorted(map(len, place.parts))
@@ -247,7 +266,9 @@ class Words(Door):
         self.assertEqual(code, 1)
         self.assertEqual(said[0], "!! 3 units hear nobody: 8, 33, 38: switched on?")
         self.assertEqual(said[1], "40 units, 37 links: no single points, no lone links")
-        self.assertEqual(said[2], "no weak place: any one unit or link may fail, and all others of its group still reach each other")
+        self.assertEqual(
+            said[2], "no weak place: any one unit or link may fail, and all others of its group still reach each other"
+        )
 
     def test_groups_come_first(self):
         code, said = self.said_of(9, [(0, 1), (1, 2), (2, 0), (4, 5), (5, 6), (6, 7), (7, 4)], [(5, "gate")])
@@ -271,12 +292,14 @@ class Words(Door):
 
     def test_nothing_weak(self):
         code, said = self.said_of(3, [(0, 1), (1, 2), (2, 0)])
-        self.assertEqual((code, said[1]), (0, "no weak place: any one unit or link may fail, and all others still reach each other"))
+        self.assertEqual(
+            (code, said[1]), (0, "no weak place: any one unit or link may fail, and all others still reach each other")
+        )
 
     def test_the_smaller_sides_are_named(self):
         chain = [(v, v + 1) for v in range(9)]
         self.assertEqual(
-            self.said_of(10, chain)[1][2:5],
+            self.said_of(10, chain, (), "--full")[1][2:5],
             [
                 "  5  link 4 (4-5) is lone: its loss cuts off units 0 to 4 from 5 others",
                 "  4  unit 4 is a single point: its loss cuts off units 0 to 3 from 5 others",
@@ -284,12 +307,96 @@ class Words(Door):
             ],
         )
         star = [(0, v) for v in range(1, 6)]
-        self.assertEqual(self.said_of(6, star)[1][2], "  4  unit 0 is a single point: its loss leaves 5 parts: units 1 to 5, each alone")
+        self.assertEqual(
+            self.said_of(6, star)[1][2],
+            "  4  unit 0 is a single point: its loss leaves 5 parts: units 1 to 5, each alone",
+        )
         tails = star + [(1, 2), (5, 6), (6, 7), (7, 5)]
         self.assertEqual(
             self.said_of(8, tails)[1][2],
             "  4  unit 0 is a single point: its loss leaves 4 parts: units 3, 4, each alone; units 1, 2; 3 others",
         )
+
+    def test_chains_are_folded(self):
+        """Two rings with a chain between them, and a chain with two ends; with --full each place alone."""
+        rings = [(0, 1), (1, 2), (0, 2), (16, 17), (17, 18), (16, 18)]
+        links = rings + [(v, v + 1) for v in range(2, 16)]
+        told = "  9  units 2 to 16 in one chain: each of 15 units and 14 links is weak: a loss cuts off 2 to 9 units"
+        self.assertEqual(self.said_of(19, links)[1][2:4], [told, "the 3 links among units 0, 1, 2 back each other up"])
+        self.assertEqual(len(self.said_of(19, links, (), "--full")[1]), 2 + 15 + 14 + 2 + 2)
+        chain = [(v, v + 1) for v in range(9)]
+        told = "  5  units 1 to 8 in one chain: each of 8 units and 9 links is weak: a loss cuts off 1 to 5 units"
+        self.assertEqual(self.said_of(10, chain)[1][2], told)
+        names = [(v, f"N{v}") for v in range(10)]
+        self.assertIn("units 1 (N1) to 8 (N8) in one chain", self.said_of(10, chain, names)[1][2])
+
+    def test_chains_that_do_not_count_up(self):
+        row = [4, 9, 0, 7, 2, 5, 1, 8, 3, 6]
+        said = self.said_of(10, list(zip(row, row[1:])))[1][2:4]
+        told = (
+            "  5  the units from 9 over 0 to 3 in one chain: each of 8 units and 9 links is weak: a loss cuts off 1 to "
+            "5"
+        )
+        self.assertEqual(said, [told, "     units"])
+        said = self.said_of(4, [(2, 0), (0, 3), (3, 1)])[1][2]
+        self.assertEqual(
+            said, "  2  units 3, 0 in one chain: each of 2 units and 3 links is weak: a loss cuts off 1 to 2 units"
+        )
+
+    def test_ends_are_folded(self):
+        told = "  1  units 1 to 5, each on one lone link to unit 0: each of 5 links is weak: a loss cuts off 1 unit"
+        self.assertIn(told, self.said_of(6, [(0, v) for v in range(1, 6)])[1])
+
+    def test_the_worst_are_told(self):
+        """A comb of 60 teeth: 40 lines, the rest counted; with --full all."""
+        links = [(v, v + 1) for v in range(59)] + [(v, 60 + v) for v in range(60)]
+        said = self.said_of(120, links)[1]
+        places = 60 + len(links)
+        self.assertEqual(
+            said[42], f"  and {places - 40} more, each cutting off 40 units or fewer; --full tells them all"
+        )
+        self.assertEqual(sum(" is " in text for text in self.said_of(120, links, (), "--full")[1]), places)
+
+    def test_long_lists_are_counted(self):
+        """Every other unit behind one link: a dozen are told, the rest counted."""
+        odd = list(range(1, 80, 2))
+        links = [(a, b) for a in odd for b in odd if a < b <= a + 4]
+        links += [(a, b) for a in range(0, 80, 2) for b in range(0, 80, 2) if a < b <= a + 4] + [(0, 1)]
+        said = " ".join(" ".join(self.said_of(80, links)[1]).split())
+        self.assertIn("cuts off units 0, 2, 4, 6, 8, 10, 12, 14, 16, 18, 20, 22 and 28 more from 40 others", said)
+        self.assertNotIn("more from", " ".join(self.said_of(80, links, (), "--full")[1]))
+
+    def test_every_weak_place_is_in_one_line(self):
+        """Folded or not, each weak place is told once, the worst first: against removal."""
+        folded = 0
+        for seed in range(150):
+            pick = random.Random(seed)
+            units = pick.randint(2, 16)
+            pairs = [(v, v + 1) for v in range(units - 1)] if seed % 2 else list(
+                itertools.combinations(range(units), 2)
+            )
+            links = pick.sample(pairs, min(len(pairs), pick.randint(units // 2, units + 1)))
+            links += [(0, v) for v in range(2, units) if pick.random() < 0.2 and (0, v) not in links]
+            losses = Losses(Site(units, links, [-127] * len(links)))
+            told = Folding(losses, losses.weak()).in_order()
+            cuts = [most_cut(each) for each in told]
+            self.assertEqual(cuts, sorted(cuts, reverse=True))
+            keys = []
+            for each in told:
+                places = each.places if isinstance(each, Fold) else [each]
+                folded += isinstance(each, Fold)
+                keys += [frozenset(place.ends) if place.ends else place.number for place in places]
+            self.assertEqual(len(keys), len(set(keys)))
+            self.assertEqual(set(keys), set(weak_by_removal(units, links)))
+        self.assertGreater(folded, 30)
+
+    def test_no_line_is_broken_inside_a_range(self):
+        """Sites with many ranges: whatever the width, `to` stands with both its numbers."""
+        for seed in range(40):
+            pick = random.Random(seed)
+            links = [(v, v + 1) for v in range(199) if pick.random() < 0.9]
+            said = "\n".join(self.said_of(200, links)[1])
+            self.assertNotRegex(said, r"\d *\n[ !]*to \d|\bto *\n[ !]*\d")
 
     def test_names(self):
         names = [(0, "head N1"), (2, "gate"), (3, "relay")]
@@ -309,10 +416,15 @@ class Words(Door):
         self.assertLessEqual(max(map(len, said)), 110)
         broken = "\n".join(said)
         for v, name in names:
-            self.assertEqual(len(re.findall(rf"\b{v} \({name}\)", broken)), len(re.findall(rf"\b{v}\s+\(head\s+number\s+{v}\)", broken)))
+            self.assertEqual(
+                len(re.findall(rf"\b{v} \({name}\)", broken)),
+                len(re.findall(rf"\b{v}\s+\(head\s+number\s+{v}\)", broken)),
+            )
 
     def test_many_sets_in_short(self):
-        links = [(3 * k + a, 3 * k + b) for k in range(12) for a, b in ((0, 1), (1, 2), (0, 2))] + [(3 * k, 3 * k + 3) for k in range(11)]
+        links = [(3 * k + a, 3 * k + b) for k in range(12) for a, b in ((0, 1), (1, 2), (0, 2))] + [
+            (3 * k, 3 * k + 3) for k in range(11)
+        ]
         for arguments, shown in ((), 8), (("--full",), 12):
             said = self.said_of(36, links, (), *arguments)[1]
             self.assertEqual(sum(text.endswith("back each other up") for text in said), shown)
@@ -327,7 +439,9 @@ class Before(Door):
 
     def told(self, now, before):
         """The exit status and the words of one table compared with another, each a count, links, and names if any."""
-        return self.said_of(*(now if len(now) == 3 else (*now, ())), "--before", self.at("before.txt", text_of(*before)))
+        return self.said_of(
+            *(now if len(now) == 3 else (*now, ())), "--before", self.at("before.txt", text_of(*before))
+        )
 
     def test_a_spare_that_cures(self):
         """Document FOREMAN: in the first site a spare that hears 1 and 3 cures the single point and the lone link."""
@@ -376,16 +490,26 @@ class Before(Door):
         """The lone link stands at another position and the other way round: it remains."""
         code, said = self.told((4, [(3, 2), (0, 1), (1, 2), (0, 2)]), (4, self.CASE_B))
         self.assertEqual(code, 1)
-        self.assertEqual(said[1:3], ["since the earlier table: the same units and links", "weak places: 0 cured, 0 new, 2 remaining"])
+        self.assertEqual(
+            said[1:3],
+            ["since the earlier table: the same units and links", "weak places: 0 cured, 0 new, 2 remaining"],
+        )
         self.assertIn("  1  link 0 (3-2) is lone: its loss cuts off unit 3 from 3 others", said)
 
     def test_new(self):
         code, said = self.told((5, self.CASE_B + [(3, 4)]), (4, self.CASE_B))
         self.assertEqual(code, 1)
         self.assertEqual(said[2], "weak places: 0 cured, 2 new, 2 remaining")
-        new, remaining = (next(i for i, text in enumerate(said) if text.startswith(word)) for word in ("new,", "remaining,"))
-        self.assertEqual([text.split(" is ")[0] for text in said[new + 1 : remaining]], ["  1  unit 3", "  1  link 4 (3-4)"])
-        self.assertEqual([text.split(" is ")[0] for text in said[remaining + 1 : remaining + 3]], ["  2  unit 2", "  2  link 3 (2-3)"])
+        new, remaining = (
+            next(i for i, text in enumerate(said) if text.startswith(word)) for word in ("new,", "remaining,")
+        )
+        self.assertEqual(
+            [text.split(" is ")[0] for text in said[new + 1 : remaining]], ["  1  unit 3", "  1  link 4 (3-4)"]
+        )
+        self.assertEqual(
+            [text.split(" is ")[0] for text in said[remaining + 1 : remaining + 3]],
+            ["  2  unit 2", "  2  link 3 (2-3)"],
+        )
 
     def test_a_unit_that_went(self):
         _, said = self.told((3, self.CASE_B[:3]), (4, self.CASE_B))
@@ -397,7 +521,8 @@ class Before(Door):
         self.assertIn("!! unit 1 (C) had another name there: units are compared by their numbers", said)
 
     def test_every_weak_place_is_told_once(self):
-        """Against removal: which are weak before and now, and whether those at both ends of a former one still reach each other."""
+        """Against removal: which are weak before and now, and whether those at both ends of a former one still reach
+        each other."""
         seen = set()
         for seed in range(150):
             pick = random.Random(seed)
@@ -405,7 +530,11 @@ class Before(Door):
             pairs = list(itertools.combinations(range(units), 2))
             links = pick.sample(pairs, min(len(pairs), units))
             later = [link for link in links if pick.random() < 0.8 and max(link) < units + more]
-            later += [link for link in itertools.combinations(range(units + more), 2) if link not in later and pick.random() < 0.1]
+            later += [
+                link
+                for link in itertools.combinations(range(units + more), 2)
+                if link not in later and pick.random() < 0.1
+            ]
             was, now = weak_by_removal(units, links), weak_by_removal(units + more, later)
             found = changes(self.losses(units, links), self.losses(units + more, later))
             keys = [[frozenset(place.ends) if place.ends else place.number for place in places] for places in found[:3]]
@@ -417,11 +546,16 @@ class Before(Door):
             groups = components(units + more, later)
             for kind, one_group in (0, True), (1, False):
                 for key in keys[kind]:
-                    held = key if isinstance(key, frozenset) else {v for link in links if key in link for v in link} - {key}
+                    held = key if isinstance(key, frozenset) else {v for link in links if key in link for v in link} - {
+                        key
+                    }
                     held = {v for v in held if v < units + more}
                     self.assertEqual(any(held <= group for group in groups) or not held, one_group)
             for was_place, place in found.remaining:
-                self.assertEqual(was_place.cut, sum(sorted(map(len, was[frozenset(place.ends) if place.ends else place.number]))[:-1]))
+                self.assertEqual(
+                    was_place.cut,
+                    sum(sorted(map(len, was[frozenset(place.ends) if place.ends else place.number]))[:-1]),
+                )
             seen.update(kind for kind in range(4) if keys[kind])
         self.assertEqual(seen, {0, 1, 2, 3})
 
@@ -431,7 +565,10 @@ class Before(Door):
             (self.at("a.txt", b"units 2\n0-2\n"), "a.txt: line 2: there is no unit 2"),
             (self.at("b.txt", b"010000FF\n0F0000F1\n"), "b.txt: line 1: the unit count is 0"),
         ]:
-            self.fails(self.run_door(example("case-b.txt"), "--report", example("case-b.report.txt"), "--before", before), words)
+            self.fails(
+                self.run_door(example("case-b.txt"), "--report", example("case-b.report.txt"), "--before", before),
+                words,
+            )
 
 
 class PlainText(Door):
@@ -469,11 +606,15 @@ class PlainText(Door):
     def test_the_lowest_level_and_none(self):
         """A link of kind 03 at -127 dBm and one of kind 02 mean the same and stay apart, both ways."""
         text = b"units 3\n0-1\n1-2 -127\n0-2 0\n"
-        file = line(1, 0, 3) + line(2, 0, 0, 0, 1) + line(3, 0, 1, 0, 2, 0x81) + line(3, 0, 0, 0, 2, 0) + line(0x0F, 0, 3)
+        file = line(1, 0, 3) + line(2, 0, 0, 0, 1) + line(3, 0, 1, 0, 2, 0x81) + line(3, 0, 0, 0, 2, 0) + line(
+            0x0F, 0, 3
+        )
         site = plain_text.read_text(text)[0]
         self.assertEqual((site.levels, write_site(site)), ([-127, -127, 0], file))
         self.assertEqual((read_site(file), plain_text.write_text(read_site(file))), (site, text))
-        self.assertEqual(write_site(Site(3, site.links, site.levels)), file.replace(line(3, 0, 1, 0, 2, 0x81), line(2, 0, 1, 0, 2)))
+        self.assertEqual(
+            write_site(Site(3, site.links, site.levels)), file.replace(line(3, 0, 1, 0, 2, 0x81), line(2, 0, 1, 0, 2))
+        )
 
     def test_what_may_be_written(self):
         written = (
@@ -501,9 +642,13 @@ class PlainText(Door):
             ("units 5\n" + "1" * 5000 + "-0\n", "line 2: there is no unit 111111111"),
             ("units 5\n2-2\n", "line 2: the link joins unit 2 to itself"),
             ("units 5\n0-1\n1-2\n1-0 -50\n", "line 4: units 1 and 0 have a link already, in line 2"),
-            ("units 5\n0 - 1\n", "line 2: '0 - 1': a link is written without spaces"),
-            ("units 5\n0 1\n", "line 2: '0 1' is not understood: a line is a link like 0-1"),
-            ("units 5\n0-1-2\n", "line 2: '0-1-2': a link is written without spaces, like 0-1"),
+            ("units 5\n0 1\n", "line 2: '0 1' is not understood: a link is written with a dash, like 0-1"),
+            (
+                "units 5\n0-1-2\n",
+                "line 2: '0-1-2': a link has two units, like 0-1, and its level stands behind a space",
+            ),
+            ("units 5\n0 - 1 - 2 - 3\n", "line 2: '0 - 1 - 2 - 3': a link has two units"),
+            ("units 5\ngate\n", "line 2: 'gate' is not understood: a line is a link like 0-1"),
             ("units 5\n0-1 63\n", "line 2: '63' is no level: it is -127 to 0 dBm"),
             ("units 5\n0-1 -128\n", "line 2: '-128' is no level: it is -127 to 0 dBm"),
             ("units 5\n0-1 -6.5\n", "line 2: '-6.5' is no level: it is a number of dBm, -127 to 0"),
@@ -542,8 +687,12 @@ class PlainText(Door):
         code, said, told = self.run_door("-", "--to-file", "-", given=named)
         self.assertEqual((code, said.encode()), (0, file_of(4, [(0, 1)])))
         self.assertEqual(told, "no link ends at units 2, 3: a handset refuses such a table with 22\n")
-        self.fails(self.run_door("-", "--to-text", "-", given=file[:-1]), "-: line 6: the line lacks its line feed")
-        self.fails(self.run_door("-", "--to-file", "-", given=b"units 2\n0-0\n"), "-: line 2: the link joins unit 0 to itself")
+        self.fails(
+            self.run_door("-", "--to-text", "-", given=file[:-1]), "-: its last line lacks the line feed: press Enter"
+        )
+        self.fails(
+            self.run_door("-", "--to-file", "-", given=b"units 2\n0-0\n"), "-: line 2: the link joins unit 0 to itself"
+        )
 
 
 class Refusals(Door):
@@ -565,10 +714,18 @@ class Refusals(Door):
         self.fails(self.reported(contents(example("case-b.txt")), b"1E07DB\n"), "!! but nothing is wrong with ")
 
     def test_a_refusal_for_another_reason(self):
-        self.fails(self.reported(b"010000FF\n0F0000F1\n", b"1E07DB\n"), "!! but that is not what is wrong with it: ", "line 1: the unit count is 0")
+        self.fails(
+            self.reported(b"010000FF\n0F0000F1\n", b"1E07DB\n"),
+            "!! but that is not what is wrong with it: ",
+            "line 1: the unit count is 0",
+        )
 
     def test_plain_text_is_offered(self):
-        self.fails(self.reported(b"hello\n", b"1E01E1\n"), "line 1: the character 'h'", "plain text is read too: its first line is like: units 5")
+        self.fails(
+            self.reported(b"hello\n", b"1E01E1\n"),
+            "line 1: the character 'h'",
+            "plain text is read too: its first line is like: units 5",
+        )
 
     def test_a_report_for_a_table(self):
         for report in contents(example("case-b.report.txt")), b"1E07DB\n":
@@ -577,7 +734,9 @@ class Refusals(Door):
     def test_units_without_a_link(self):
         refusal = line(0x1E, 22)
         for units, links, words in (2, [], "units 0, 1"), (3, [(0, 2)], "unit 1"), (6, [(1, 0)], "units 2 to 5"):
-            self.fails(self.reported(file_of(units, links), refusal), "a unit has no link", f"no link ends at {words}\n")
+            self.fails(
+                self.reported(file_of(units, links), refusal), "a unit has no link", f"no link ends at {words}\n"
+            )
         for sound in file_of(1, []), file_of(2, [(1, 0)]):
             self.fails(self.reported(sound, refusal), "!! but nothing is wrong with ")
 
@@ -597,7 +756,10 @@ class Levels(Door):
     def test_both_kinds(self):
         file = self.site((3, 0, 0, 0, 1, 0xC3), (2, 0, 1, 0, 2), (3, 0, 0, 0, 2, 0x00), (3, 0, 2, 0, 3, 0x81))
         site = read_site(file)
-        self.assertEqual((site.links, site.levels, site.kinds), ([(0, 1), (1, 2), (0, 2), (2, 3)], [-61, -127, 0, -127], [3, 2, 3, 3]))
+        self.assertEqual(
+            (site.links, site.levels, site.kinds),
+            ([(0, 1), (1, 2), (0, 2), (2, 3)], [-61, -127, 0, -127], [3, 2, 3, 3]),
+        )
         report = contents(example("case-b.report.txt"))
         self.assertEqual(self.reported(file, report), self.reported(contents(example("case-b.txt")), report))
 
@@ -617,7 +779,9 @@ class Levels(Door):
         self.refused(self.site(bad, (3, 0, 0, 0, 1)), 1, "line 3: a line of kind 03 has 14 digits, this one has 12")
         self.refused(self.site(bad, (2, 0, 0, 0, 1, 0)), 1, "line 3: a line of kind 02 has 12 digits, this one has 14")
         self.refused(self.site(bad, (1, 0, 4)), 2, "line 3: a line of kind 02 or 03 should stand here, not 01")
-        self.refused(self.site(bad).replace(b"0F0001F0", b"0F0002EF"), 3, "line 3: it counts 2 links, but the file has 1")
+        self.refused(
+            self.site(bad).replace(b"0F0001F0", b"0F0002EF"), 3, "line 3: it counts 2 links, but the file has 1"
+        )
         self.refused(self.site(*[bad] * 1025), 6, "the file has 1025 links")
         self.refused(self.site(bad).replace(b"010004FB", b"010000FF"), 16, "line 2: link 0 has the level 1")
         self.refused(self.site(link, (3, 0, 9, 0, 9, 0x80)), 16, "line 3: link 1 has the level -128")
@@ -656,7 +820,9 @@ class Contradictions(CaseE):
     def test_a_lone_link_hidden(self):
         self.site = contents(example("case-b.txt"))
         report = contents(example("case-b.report.txt"))
-        self.contradicted(changed(changed(report, 8, 5, 0), 9, 4, 0), "link 3 (2-3) is not lone, but its loss parts its group")
+        self.contradicted(
+            changed(changed(report, 8, 5, 0), 9, 4, 0), "link 3 (2-3) is not lone, but its loss parts its group"
+        )
 
     def test_one_label_for_all(self):
         report = self.report
@@ -674,7 +840,8 @@ class Contradictions(CaseE):
         self.contradicted(changed(self.report, 5, 8, 3), "the places in the report")
 
     def test_many(self):
-        """A chain of 256 units with a report that knows no weak place: 254 single points, 255 lone links, 254 labels and 254 parents are wrong."""
+        """A chain of 256 units with a report that knows no weak place: 254 single points, 255 lone links, 254 labels
+        and 254 parents are wrong."""
         self.site = file_of(256, [(v, v + 1) for v in range(255)])
         rows = [line(0x12, 0, v, 0, 0, *((255, 255) if v == 0 else (0, 0)), 0, v, 0) for v in range(256)]
         rows += [line(0x13, 0, j, 0, 0, 0) for j in range(255)]
@@ -710,7 +877,9 @@ class FaultyReports(CaseE):
 
     def test_unit_line_after_a_link_line(self):
         lines = self.lines()
-        self.refused(b"".join(lines[:5] + [lines[6], lines[5]] + lines[7:]), "line 7: a line of kind 12 should not stand here")
+        self.refused(
+            b"".join(lines[:5] + [lines[6], lines[5]] + lines[7:]), "line 7: a line of kind 12 should not stand here"
+        )
 
     def test_link_line_missing(self):
         lines = self.lines()
@@ -758,11 +927,20 @@ class Programs(Door):
 
     def test_contradiction(self):
         path = self.printing(changed(changed(self.report, 8, 5, 0), 9, 4, 0))
-        self.fails(self.run_door(example("case-b.txt"), "--program", path), "!! the report contradicts", "link 3 (2-3) is not lone")
-        self.fails(self.run_door(example("case-b.txt"), "--program", self.printing(b"1E09D9\n")), "!! but nothing is wrong with ")
+        self.fails(
+            self.run_door(example("case-b.txt"), "--program", path),
+            "!! the report contradicts",
+            "link 3 (2-3) is not lone",
+        )
+        self.fails(
+            self.run_door(example("case-b.txt"), "--program", self.printing(b"1E09D9\n")),
+            "!! but nothing is wrong with ",
+        )
 
     def test_contradiction_of_the_earlier_table(self):
-        path = self.program(f"read x; if [ $x = 010004FB ]; then cat '{example('case-b.report.txt')}'; else echo 1E09D9; fi")
+        path = self.program(
+            f"read x; if [ $x = 010004FB ]; then cat '{example('case-b.report.txt')}'; else echo 1E09D9; fi"
+        )
         self.assertEqual(self.run_door(example("case-b.txt"), "--program", path)[0], 1)
         done = self.run_door(example("case-b.txt"), "--program", path, "--before", example("case-e.txt"))
         self.fails(done, "!! but nothing is wrong with ", "case-e.txt")
@@ -780,9 +958,14 @@ class Programs(Door):
         ]:
             self.fails(self.run_door(example("case-b.txt"), "--program", path), words)
         self.fails(self.run_door(example("case-b.txt"), "--program", self.program("exit 0")), "the report is empty")
-        self.fails(self.run_door(example("case-b.txt"), "--program", self.program("echo hello")), "line 1: the character 'h'")
-        with mock.patch.object(survey, "SECONDS", 0.2):
-            self.fails(self.run_door(example("case-b.txt"), "--program", self.program("exec sleep 20")), "it was stopped after 0.2 seconds")
+        self.fails(
+            self.run_door(example("case-b.txt"), "--program", self.program("echo hello")), "line 1: the character 'h'"
+        )
+        with mock.patch.object(judge, "SECONDS", 0.2):
+            self.fails(
+                self.run_door(example("case-b.txt"), "--program", self.program("exec sleep 20")),
+                "it was stopped after 0.2 seconds",
+            )
 
     def test_the_program_on_every_vector(self):
         if not os.path.exists(PROGRAM):
@@ -790,9 +973,12 @@ class Programs(Door):
         for path in vectors("*", VECTORS) + vectors("*", LEVELS):
             with self.subTest(os.path.basename(path)):
                 file = contents(path + ".in")
-                self.assertEqual(survey.run_program(PROGRAM, file), contents(path + ".out"))
+                self.assertEqual(judge.run_program(PROGRAM, file), contents(path + ".out"))
                 if len(file) < 500:
-                    self.assertEqual(self.run_door(path + ".in", "--program", PROGRAM), self.run_door(path + ".in", "--report", path + ".out"))
+                    self.assertEqual(
+                        self.run_door(path + ".in", "--program", PROGRAM),
+                        self.run_door(path + ".in", "--report", path + ".out"),
+                    )
 
 
 class Outputs(Door):
@@ -825,9 +1011,9 @@ class Outputs(Door):
         report = "--report", example("case-b.report.txt")
         self.run_door(named, *report, "--svg", "-", "--full", "--before", example("case-e.txt"))
         self.run_door(named, *report, "--html", self.at("x"))
-        (losses, names, before, full), page = self.made
-        self.assertEqual((losses.site.units, names, before.site.units, full), (4, {3: "relay"}, 5, True))
-        self.assertEqual((page[0].site.units, *page[1:]), (4, {3: "relay"}, None))
+        (losses, names, before, *drawn), page = self.made
+        self.assertEqual((losses.site.units, names, before.site.units, *drawn), (4, {3: "relay"}, 5, True, None, True))
+        self.assertEqual((page[0].site.units, *page[1:]), (4, {3: "relay"}, None, None, True))
 
     def test_unwritable(self):
         """The words are there all the same."""
@@ -851,17 +1037,23 @@ class Outputs(Door):
     def test_no_input_is_overwritten(self):
         site = self.at("site.txt", text_of(2, [(0, 1)], [(0, "gate")]))
         for option in "--to-file", "--to-text", "--svg":
-            self.fails(self.run_door(site, option, os.path.join(self.folder, ".", "site.txt")), "it would be overwritten")
+            self.fails(
+                self.run_door(site, option, os.path.join(self.folder, ".", "site.txt")), "it would be overwritten"
+            )
         self.assertEqual(contents(site), text_of(2, [(0, 1)], [(0, "gate")]))
 
     def test_help(self):
         code, said, told = self.run_door("--help")
         self.assertEqual((code, told), (0, ""))
-        for option in "--svg", "--html", "--before", "--full", "--report", "--program", "--to-file", "--to-text", "units 5", "Exit status":
-            self.assertIn(option, said)
+        for option in "svg", "html", "before", "full", "report", "program", "to-file", "to-text":
+            self.assertIn(f"--{option} ", said)
+        for words in "units 5", "Exit status":
+            self.assertIn(words, said)
 
 
-@unittest.skipUnless(importlib.util.find_spec("drawing") and importlib.util.find_spec("page"), "drawing.py and page.py are not here")
+@unittest.skipUnless(
+    importlib.util.find_spec("drawing") and importlib.util.find_spec("page"), "drawing.py and page.py are not here"
+)
 class Together(Door):
     """The front door with the modules that draw, on a site with names, an earlier table and a spare."""
 
@@ -904,21 +1096,26 @@ class Foreman(Door):
             ((example("case-e.txt"),), "5 units, 6 links"),
         ]:
             self.assertEqual(self.run_door(*arguments, "--program", PROGRAM), (1, self.shown(beginning), ""))
+        code, said, told = self.run_door(example("road.txt"), "--spares", "1", "--program", PROGRAM)
+        self.assertEqual((code, told), (1, ""))
+        self.assertTrue(said.endswith(self.shown("where spares go")), said)
 
     def test_commands(self):
         """Each command of the page is understood, and its inputs are there."""
         found = re.findall(r"(?m)^    python3 tools/survey.py (.+)$", self.page)
-        self.assertEqual(len(found), 4)
+        self.assertEqual(len(found), 6)
         for command in found:
             options = survey.command_line().parse_args(command.split())
             for path in options.site, options.before, options.report:
                 self.assertTrue(path is None or os.path.exists(os.path.join(ROOT, path)), path)
 
     def test_countdown(self):
-        """Document 01: each stage's ceiling for four units, and the rounds that case B takes, 27 in all, of a countdown of 30."""
+        """Document 01: each stage's ceiling for four units, and the rounds that case B takes, 27 in all, of a
+        countdown of 30."""
         ceilings, rounds = [4, 5, 2, 4, 2, 4, 3, 1, 3, 2], [3, 4, 2, 4, 2, 4, 3, 1, 2, 2]
         self.assertEqual((sum(ceilings), sum(rounds)), (30, 27))
-        names = "colour, tree, tour, first ranking, marks, second ranking, least and greatest, joins, classes, labels, finished".split(", ")
+        names = "colour, tree, tour, first ranking, marks, second ranking, least and greatest, joins, classes, labels"
+        names = names.split(", ") + ["finished"]
         rows = re.findall(r"(?m)^\| (\d+) \| ([a-z ]+) \| .*\| ([\d ]+) \|$", self.page)
         expected = [[sum(ceilings[i:]) - k for k in range(rounds[i])] for i in range(10)] + [[0]]
         shown = [(int(stage), name, list(map(int, countdowns.split()))) for stage, name, countdowns in rows]
@@ -951,7 +1148,9 @@ class AsAProgram(Door):
     """What only a process of its own shows."""
 
     def door(self, *arguments, **how):
-        return subprocess.run([sys.executable, DOOR, *arguments], capture_output="stdout" not in how, timeout=60, check=False, **how)
+        return subprocess.run(
+            [sys.executable, DOOR, *arguments], capture_output="stdout" not in how, timeout=60, check=False, **how
+        )
 
     def case(self, *arguments):
         return example("case-b.txt"), "--report", example("case-b.report.txt"), *arguments
@@ -960,7 +1159,10 @@ class AsAProgram(Door):
         done = self.door(*self.case())
         self.assertEqual((done.returncode, done.stderr), (1, b""))
         self.assertIn(b"unit 2 is a single point", done.stdout)
-        self.assertEqual(self.door("-", "--report", example("case-b.report.txt"), input=contents(example("case-b.txt"))).stdout, done.stdout)
+        self.assertEqual(
+            self.door("-", "--report", example("case-b.report.txt"), input=contents(example("case-b.txt"))).stdout,
+            done.stdout,
+        )
         ring = vectors("*_v_ring", DATA)[0]
         self.assertEqual(self.door(ring + ".in", "--report", ring + ".out").returncode, 0)
         refused = vectors("*_r7_end_is_n", DATA)[0]

@@ -2,7 +2,7 @@
 
 use crate::FINISHED;
 
-/// The least k with 2 to the power k at least x.
+/// "The least k with 2 to the power k at least x."
 pub fn lg(x: u16) -> u16 {
     match x {
         0 | 1 => 0,
@@ -24,7 +24,7 @@ pub fn ceiling(n: u16, stage: u16) -> u16 {
     }
 }
 
-/// The current stage's ceiling less its rounds made, plus the later ceilings.
+/// What is left of this stage's ceiling, and the ceilings of the later stages.
 pub fn countdown(n: u16, stage: u16, made: u16) -> u16 {
     (stage..FINISHED).map(|later| ceiling(n, later)).sum::<u16>().saturating_sub(made)
 }

@@ -5,6 +5,12 @@ use crate::LiveWords;
 use crate::seats::{SeatCalls, Seats};
 use crate::words::{Calls, LinkReply, State, StatusReply, UnitReply};
 
+/// Whose turn it is, as the header has it.
+#[repr(C)]
+struct Turn {
+    last: u16,
+}
+
 unsafe extern "C" {
     fn link_survey_report(input: *const u8, input_len: usize, out: *mut u8, out_len: usize) -> u32;
     fn link_survey_read(
@@ -110,7 +116,27 @@ unsafe extern "C" {
         levels: *const i16,
         levels_len: usize,
     ) -> u32;
-    fn link_survey_tick(last: *mut u16, seats: *mut Seats) -> u32;
+    fn link_survey_seat_load_stored(
+        seats: *mut Seats,
+        seat: u16,
+        units: u16,
+        table: *const u16,
+        table_len: usize,
+        levels: *const i16,
+        levels_len: usize,
+    ) -> u32;
+    fn link_survey_seat_load_planned(
+        seats: *mut Seats,
+        seat: u16,
+        units: u16,
+        table: *const u16,
+        table_len: usize,
+        levels: *const i16,
+        levels_len: usize,
+        parents: *const u16,
+        parents_len: usize,
+    ) -> u32;
+    fn link_survey_tick(turn: *mut Turn, seats: *mut Seats) -> u32;
 }
 
 // Each call is lent whole arrays, and whole slices with their true lengths, and keeps none of them.
@@ -215,11 +241,26 @@ fn seat_load(seats: &mut Seats, seat: u16, units: u16, table: &[u16], levels: &[
     unsafe { link_survey_seat_load(seats, seat, units, table.as_ptr(), table.len(), levels.as_ptr(), levels.len()) }
 }
 
-fn tick(last: &mut u16, seats: &mut Seats) -> u32 {
-    unsafe { link_survey_tick(last, seats) }
+fn seat_load_stored(seats: &mut Seats, seat: u16, units: u16, table: &[u16], levels: &[i16]) -> u32 {
+    unsafe {
+        link_survey_seat_load_stored(seats, seat, units, table.as_ptr(), table.len(), levels.as_ptr(), levels.len())
+    }
 }
 
-pub const PROVED_SEATS: SeatCalls = SeatCalls { load: seat_load, tick };
+fn seat_load_planned(seats: &mut Seats, seat: u16, units: u16, table: &[u16], levels: &[i16], parents: &[u16]) -> u32 {
+    let (words, len) = (table.as_ptr(), table.len());
+    let (heights, links) = (levels.as_ptr(), levels.len());
+    unsafe {
+        link_survey_seat_load_planned(seats, seat, units, words, len, heights, links, parents.as_ptr(), parents.len())
+    }
+}
+
+fn tick(last: &mut u16, seats: &mut Seats) -> u32 {
+    unsafe { link_survey_tick(std::ptr::from_mut(last).cast(), seats) }
+}
+
+pub const PROVED_SEATS: SeatCalls =
+    SeatCalls { load: seat_load, load_stored: seat_load_stored, load_planned: seat_load_planned, tick };
 
 pub const PROVED: Calls = Calls {
     report,
@@ -245,31 +286,3 @@ pub const PROVED: Calls = Calls {
     live_withdraw,
     seats: PROVED_SEATS,
 };
-
-/// The tick that takes the turn as a record, of the archive of the crate `words_seats`.
-#[cfg(feature = "record")]
-pub mod record {
-    use super::{SeatCalls, Seats, seat_load};
-
-    #[repr(C)]
-    struct Turn {
-        last: u16,
-    }
-
-    mod archive {
-        use super::{Seats, Turn};
-
-        unsafe extern "C" {
-            pub fn tick(turn: *mut Turn, seats: *mut Seats) -> u32;
-        }
-    }
-
-    fn tick(last: &mut u16, seats: &mut Seats) -> u32 {
-        let mut turn = Turn { last: *last };
-        let number = unsafe { archive::tick(&mut turn, seats) };
-        *last = turn.last;
-        number
-    }
-
-    pub const BY_RECORD: SeatCalls = SeatCalls { load: seat_load, tick };
-}

@@ -1,5 +1,5 @@
-//! One frame a line: upper-case hexadecimal digits, two a byte, then a line feed. The last byte makes the sum wrap to
-//! 0.
+//! A frame is a line with two upper-case hexadecimal digits for each byte, ended by a line feed. Its check byte brings
+//! the sum to 0.
 
 /// The two digits of each byte.
 const HEX: [[u8; 2]; 256] = {

@@ -483,7 +483,7 @@ const SEAT: [Fault; 7] = [
     ("a finished seat is not judged", |calls| {
         calls.seats.tick = |last, seats| {
             let mut judged = *seats;
-            judged.iter_mut().filter(|seat| seat[2050] == 11).for_each(|seat| seat[0] = 0);
+            judged.iter_mut().filter(|seat| seat[2050] == 11).for_each(|seat| (seat[0], seat[2050]) = (0, 0));
             let mut turn = *last;
             match tick(&mut turn, &mut judged) {
                 0 => {
@@ -648,6 +648,182 @@ const PLANS: [Fault; 3] = [
     }),
 ];
 
+/// The report of a table that a file holds, were it loaded as a fresh one.
+fn fresh_report(input: &[u8], out: &mut [u8]) -> u32 {
+    let (mut table, mut levels, mut units, mut links) = (vec![0; 2048], vec![0; 1024], 0, 0);
+    let read = words::read(input, &mut table, &mut levels, &mut units, &mut links);
+    let ends = &table[..2 * usize::from(links)];
+    if read == 0
+        && matches!(check_fresh(units, ends, &levels[..links.into()]), Err(refusal) if refusal.number() == 22)
+        && out.len() >= 7
+    {
+        out[..7].copy_from_slice(b"1E16CC\n");
+        return 7;
+    }
+    words::report(input, out)
+}
+
+/// What stands after so many bytes is touched.
+fn touch(out: &mut [u8], written: usize) {
+    if let Some(byte) = out.get_mut(written) {
+        *byte = byte.wrapping_add(1);
+    }
+}
+
+/// The characters of a state's report.
+fn report_length(state: &State) -> usize {
+    26 + 23 * usize::from(state[0]) + 15 * usize::from(state[1])
+}
+
+const FILES: [Fault; 6] = [
+    ("the printer takes a file as a fresh table", |calls| calls.report = fresh_report),
+    ("a byte past what is printed", |calls| {
+        calls.report = |input, out| {
+            let count = words::report(input, out);
+            touch(out, count as usize);
+            count
+        }
+    }),
+    ("the last character is not counted", |calls| {
+        calls.report = |input, out| words::report(input, out).saturating_sub(1)
+    }),
+    ("links are written with kind 02", |calls| {
+        calls.write = |units, table, levels, out| {
+            let number = words::write(units, table, levels, out);
+            if number == 0 && !table.is_empty() {
+                out[10] = b'2';
+            }
+            number
+        }
+    }),
+    ("a byte past the written file", |calls| {
+        calls.write = |units, table, levels, out| {
+            let number = words::write(units, table, levels, out);
+            if number == 0 {
+                touch(out, 18 + 15 * (table.len() / 2));
+            }
+            number
+        }
+    }),
+    ("14 before 22 in writing", |calls| {
+        calls.write = |units, table, levels, out| match words::write(units, table, levels, out) {
+            22 if out.len() < 18 + 15 * (table.len() / 2) => 14,
+            number => number,
+        }
+    }),
+];
+
+const ROUNDS: [Fault; 7] = [
+    ("a stored table is loaded as a fresh one", |calls| calls.load_stored = words::load),
+    ("a stored table's levels are taken for 0", |calls| {
+        calls.load_stored = |state, units, table, levels| {
+            let number = words::load_stored(state, units, table, levels);
+            if number == 0 {
+                state[STATE_LEVELS..][..levels.len()].fill(0);
+            }
+            number
+        }
+    }),
+    ("a round hands the state back unmoved", |calls| calls.round = |state| words::round(&mut state.clone())),
+    ("all work in the first round", |calls| {
+        calls.round = |state| match words::round(&mut state.clone()) {
+            0 => words::run(state, u16::MAX, &mut 0),
+            number => number,
+        }
+    }),
+    ("a run makes a round too few", |calls| {
+        calls.run = |state, budget, made| match words::run(&mut state.clone(), 0, &mut 0) {
+            0 => words::run(state, budget.saturating_sub(1), made),
+            number => number,
+        }
+    }),
+    ("the budget is told as the rounds made", |calls| {
+        calls.run = |state, budget, made| {
+            let number = words::run(state, budget, made);
+            if number == 0 {
+                *made = budget;
+            }
+            number
+        }
+    }),
+    ("a run of no round is not judged", |calls| {
+        calls.run = |state, budget, made| match words::run(&mut state.clone(), budget, &mut 0) {
+            10 | 11 if budget == 0 => {
+                *made = 0;
+                0
+            }
+            _ => words::run(state, budget, made),
+        }
+    }),
+];
+
+const QUESTIONS: [Fault; 10] = [
+    ("no unit is a single point", |calls| {
+        calls.unit = |state, unit, reply| {
+            let number = words::unit(state, unit, reply);
+            if number == 0 {
+                reply[4] = 0;
+            }
+            number
+        }
+    }),
+    ("13 before 12 of a unit", |calls| {
+        calls.unit = |state, unit, reply| match words::unit(state, unit, reply) {
+            12 if unit >= state[0] => 13,
+            number => number,
+        }
+    }),
+    ("one label for all links", |calls| {
+        calls.link = |state, position, reply| {
+            let number = words::link(state, position, reply);
+            if number == 0 {
+                let mut first = [0; 3];
+                words::link(state, 0, &mut first);
+                reply[1] = first[1];
+            }
+            number
+        }
+    }),
+    ("a link after the last is answered", |calls| {
+        calls.link = |state, position, reply| match words::link(state, position, reply) {
+            13 if position == state[1] => 0,
+            number => number,
+        }
+    }),
+    ("a byte past the report of a state", |calls| {
+        calls.state_report = |state, out| {
+            let number = words::state_report(state, out);
+            if number == 0 {
+                touch(out, report_length(state));
+            }
+            number
+        }
+    }),
+    ("14 before 12 in the report of a state", |calls| {
+        calls.state_report = |state, out| match words::state_report(state, out) {
+            12 if out.len() < report_length(state) => 14,
+            number => number,
+        }
+    }),
+    ("the foreman sees the service line", |calls| calls.foreman_line = words::service_line),
+    ("14 before 10 in the foreman's line", |calls| {
+        calls.foreman_line = |state, out| match words::foreman_line(state, out) {
+            10 if out.is_empty() => 14,
+            number => number,
+        }
+    }),
+    ("the service line is the foreman's", |calls| calls.service_line = words::foreman_line),
+    ("a service line on a refusal", |calls| {
+        calls.service_line = |state, out| {
+            let number = words::service_line(state, out);
+            if number != 0 {
+                touch(out, 0);
+            }
+            number
+        }
+    }),
+];
+
 /// The case of seed 1 in which each fault is found.
 fn found(faults: &[Fault]) {
     for (name, spoil) in faults {
@@ -700,6 +876,21 @@ fn levels() {
 #[test]
 fn plans() {
     found(&PLANS);
+}
+
+#[test]
+fn files_and_printing() {
+    found(&FILES);
+}
+
+#[test]
+fn loads_and_rounds() {
+    found(&ROUNDS);
+}
+
+#[test]
+fn questions_and_lines() {
+    found(&QUESTIONS);
 }
 
 /// The plain version beside itself: no difference, and nothing that never came up.

@@ -23,6 +23,7 @@ fn numbers(text: &str) -> BTreeSet<u32> {
 }
 
 /// Each function with the numbers of its "returns"; a report, which returns a number of bytes, lists its refusals in brackets.
+/// The version is no call of the survey, and is refused nothing.
 #[test]
 fn functions_and_their_numbers() {
     let header = header();
@@ -30,6 +31,9 @@ fn functions_and_their_numbers() {
     let parts: Vec<&str> = header.split("\nuint32_t link_survey_").collect();
     for (before, after) in parts.iter().zip(&parts[1..]) {
         let name = &after[..after.find('(').unwrap()];
+        if name == "version" {
+            continue;
+        }
         let comment = &before[before.rfind("/*").unwrap()..];
         let mut of = if name == "report" {
             let from = comment.find("the refusal (").unwrap() + "the refusal (".len();

@@ -1,5 +1,5 @@
-//! A repeated link is found soon (document 02, T-03): the proved load refuses a table of 1,024 links with a repeat
-//! within a quarter of the time of a plain loop over all pairs. Both are timed in one run, by turns, and their shortest
+//! A repeated link is found soon (document 02, T-03): of 1,024 links with a repeat, the proved load takes at most a
+//! quarter of what a plain loop over all pairs takes. Both are timed in one run, by turns, and their shortest
 //! times are compared.
 //!
 //!     cargo test --release --features face --test repeats -- --nocapture

@@ -45,7 +45,7 @@ fn case(numbers: &mut Numbers, lines: &mut String) {
         }
     }
     for seat in 0..SEATS {
-        if seats[seat][0] == 0 {
+        if seats[seat][0] == 0 && seats[seat][STAGE] == 0 {
             lines.push_str("0\n");
         } else {
             lines.push('1');
@@ -120,22 +120,12 @@ mod search {
         numbers
     }
 
-    fn searched(proved: SeatCalls) {
-        let numbers = compare(proved, 12, 2000);
+    #[test]
+    fn seats_and_the_turn() {
+        let numbers = compare(PROVED_SEATS, 12, 2000);
         println!("{numbers:?}");
         for number in [0, 10, 11, 15, 23] {
             assert!(numbers[number] > 100, "{number} came up {} times", numbers[number]);
         }
-    }
-
-    #[test]
-    fn turn_as_a_number() {
-        searched(PROVED_SEATS);
-    }
-
-    #[cfg(feature = "record")]
-    #[test]
-    fn turn_as_a_record() {
-        searched(plain::face::record::BY_RECORD);
     }
 }

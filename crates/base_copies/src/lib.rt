@@ -7,14 +7,14 @@ ghost use Rattle.base_lists.specs.Tables.{over};
 ghost use Rattle.table_levels.specs.Level.{toWords, fromWords};
 ghost use Rattle.base_copies.specs.Parts.{part, laid, laidIn, copied, PartOr, copiedLevels, LevelsOr};
 
-// How many of so many entries a table of this size holds.
+// How many of the given entries a table of this size can hold.
 pub fn held(size: usize, count: usize) -> usize
     ensures { λ r. ⌜ r ≡ min size count ⌝ }
 {
     if size < count { size } else { count }
 }
 
-// Whether so many words are there from `at` on.
+// Whether the slice has that many words from `at` on.
 fn fits(at: usize, count: usize, words: usize) -> bool
     ensures { λ r. ⌜ r ≡ leb (at + count) words ⌝ }
 {
@@ -24,7 +24,7 @@ fn fits(at: usize, count: usize, words: usize) -> bool
     count <= words - at
 }
 
-// So many words from `at` on over those from `place` on.
+// Copies words from `at` on over those from `place` on.
 fn carry(from: &[u16], at: usize, count: usize, words: &mut [u16], place: usize)
     requires { ⌜ (at + count ≤ length (now from)) × (place + count ≤ length (now words)) ⌝ }
     ensures { λ _. ⌜ now (words .exit) ≡ laid place (part at count (now (from .entry))) (now (words .entry)) ⌝ }
@@ -47,7 +47,7 @@ pub fn lay(table: &[u16], at: usize, words: &mut [u16])
     carry(table, 0, count, words, at);
 }
 
-// So many words from `at` on become `x`.
+// Stores `x` in the given number of words from `at` on.
 pub fn fill(x: u16, at: usize, count: usize, words: &mut [u16])
     ensures { λ _. ⌜ now (words .exit) ≡ laidIn at (replicate count x) (now (words .entry)) ⌝ }
 {
@@ -78,7 +78,7 @@ pub fn lay_levels(levels: &[i16], at: usize, words: &mut [u16])
     }
 }
 
-// The first so many words of a table at the front of `words`, 0 past its end.
+// Copies the first words of a table to the front of `words`; past the end of the table it stores 0.
 pub fn lay_first(count: u16, table: &[u16], words: &mut [u16])
     ensures { λ _. ⌜ now (words .exit) ≡ over count (λ (i : ℕ). getD (now (table .entry)) i 0) (now (words .entry)) ⌝ }
 {

@@ -1,4 +1,4 @@
--- Document 01's lg(x): the least k with 2 to the power k at least x.
+-- lg(x) of document 01: "the least k with 2 to the power k at least x".
 use mathlib.Core.Bool.{cond}
 use Prim.Native.Nat.{ℕ, zero, suc, _^_}
 use lib.Dec.{leb}

@@ -1,5 +1,5 @@
-// Asks for the verdict on each two links of each case of each stream that an argument names: a line with, for each
-// question, 2 always, 1 perhaps, 0 never, or the number of a refusal. "fault" stands for a stream that is none.
+// Asks about doubtful links (T-08). For each case of each stream named as an argument it prints a line with a number
+// for each question: 2 always, 1 perhaps, 0 never, or a refusal. It prints `fault` for a malformed stream.
 use base_streams::Cursor;
 use base_streams::listed;
 use base_streams::text;
@@ -36,7 +36,7 @@ fn told(reply: Verdict) -> u32 {
     }
 }
 
-// The call, on so many marks.
+// The call, with the first marks of the slice.
 fn lend(survey: Survey, first: u16, second: u16, marks: &[u8], count: usize) -> u32 {
     if marks.len() < count {
         return 97;
@@ -46,7 +46,7 @@ fn lend(survey: Survey, first: u16, second: u16, marks: &[u8], count: usize) -> 
     told(reply)
 }
 
-// The survey of a table on so many words and so many levels.
+// The survey of the table that the first words and levels of the two slices hold.
 fn loaded<'a>(
     units: u16,
     words: &'a [u16],

@@ -1,6 +1,6 @@
-// Asks for the lifting order of each case of each stream that an argument names: a line with the number of a refusal,
-// or with 0 and the order. A line has a `!` for each word past the order that was altered; "fault" stands for a stream
-// that is none.
+// Asks for lifting orders (T-07). For each case of each stream named as an argument it prints a line with the number of
+// a refusal, or with 0 and the order, and a `!` for each word past the order that was altered. It prints `fault` for a
+// malformed stream.
 use base_streams::Cursor;
 use base_streams::listed;
 use base_streams::text;
@@ -77,7 +77,7 @@ fn asked<'a>(survey: Survey, pairs: &'a [u16], order: &mut [u16]) {
     told(reply, order);
 }
 
-// The call, on so many words of pairs and so many places.
+// The call, with the first words of the pairs and the first places of the output.
 fn lend(survey: Survey, pairs: &[u16], count: usize, places: usize) {
     if pairs.len() < count {
         return;
@@ -89,7 +89,7 @@ fn lend(survey: Survey, pairs: &[u16], count: usize, places: usize) {
     asked(survey, &pairs[..count], &mut order[..places]);
 }
 
-// The survey of a table on so many words and so many levels.
+// The survey of the table that the first words and levels of the two slices hold.
 fn loaded<'a>(
     units: u16,
     words: &'a [u16],

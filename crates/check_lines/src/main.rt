@@ -1,7 +1,7 @@
-// Surveys each case of each stream that an argument names, round by round: after the load and after each round the
-// foreman's line and the service line. A line "altered" follows where a byte past the line is not as it was, or any
-// byte where the slice is one place too short, "not refused" where that call is not refused with 14, and "fault" stands
-// for a stream that is none.
+// Surveys each case of each stream named as an argument, round by round, and prints both handsets' lines (T-06) after
+// the load and after each round. It prints `altered` where a byte past a line was touched, or any byte of a slice that
+// is one place too short, and `not refused` where such a slice is not refused with 14. It prints `fault` for a
+// malformed stream.
 use base_streams::Cursor;
 use base_streams::listed;
 use libc::STDOUT_FILENO;
@@ -30,7 +30,7 @@ fn say(line: &[u8], end: usize) {
     io::write_all(STDOUT_FILENO, &line[..end]);
 }
 
-// The line of so many characters that stands at the front, or the number of the refusal.
+// The line at the front, by its number of characters, or the number of the refusal.
 fn told(number: u8, needed: usize, out: &[u8]) {
     if number != 0 {
         io::print_decimal(STDOUT_FILENO, number as u64);
@@ -89,7 +89,7 @@ fn rounds(first: Survey) {
     }
 }
 
-// The survey of a table on so many words and so many levels.
+// The survey of the table that the first words and levels of the two slices hold.
 fn loaded<'a>(
     units: u16,
     words: &'a [u16],
@@ -107,7 +107,7 @@ fn loaded<'a>(
     answer.survey
 }
 
-// The same with a table of so many parents (T-05).
+// The same with the first parents of a third slice (T-05).
 fn planned<'a>(
     units: u16,
     words: &'a [u16],

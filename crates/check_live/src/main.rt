@@ -1,7 +1,7 @@
-// Plays the steps of each case of each stream on a live table by value. The arguments are in pairs, what to print and
-// the stream's name: with `lines` a line for each step and the table at the end of a case, with `numbers` the number of
-// each step alone. A line has a `!` for each end past the links that is not absent and each level past them that is not
-// 0; "fault" stands for a stream that is none.
+// Plays the steps of each case of each stream on a live table by value (T-09). Arguments come in pairs, what to print
+// and a stream's name: `lines` prints a line for each step and the table at the end of a case, `numbers` the number of
+// each step alone. A line has a `!` for each end past the links that is not absent and each level there that is not 0.
+// It prints `fault` for a malformed stream.
 use base_streams::Cursor;
 use base_streams::Level;
 use base_streams::text;
@@ -187,7 +187,7 @@ fn told(numbers: bool, number: u8, live: Live) {
     }
 }
 
-// Opened from so many words and so many levels.
+// Opened from the first words and levels of the two slices.
 fn opened(units: u16, words: &[u16], m: usize, levels: &[i16], n: usize) -> Answer {
     if words.len() < m {
         return Live::opened(0, &[], &[]);

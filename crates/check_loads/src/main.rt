@@ -1,6 +1,6 @@
-// Loads or writes the table of each case of each stream that an argument names: a line with the number of a refusal, or
-// with 0 and the countdown after the load, or with 0 and the characters of the file. A line has a `!` for each byte
-// past the file that was altered; "fault" stands for a stream that is none.
+// Loads or writes the table of each case of each stream named as an argument. It prints a line with the number of a
+// refusal, or with 0 and the countdown after the load or the length of the file, and a `!` for each byte past the file
+// that was altered. It prints `fault` for a malformed stream.
 use base_streams::Cursor;
 use base_streams::Level;
 use base_streams::listed;
@@ -154,7 +154,7 @@ fn written(units: u16, words: &[u16], levels: &[i16], out: &mut [u8]) {
     }
 }
 
-// The file, into so many places.
+// The file, into the first places of the slice.
 fn lend(units: u16, words: &[u16], levels: &[i16], places: usize) {
     if 16384 < places {
         return;
@@ -179,7 +179,7 @@ struct Sizes {
     parents: usize,
 }
 
-// The call, on so many words, levels and parents.
+// The call, with the first words, levels and parents of the slices.
 fn table(call: u32, t: Sizes, words: &[u16], levels: &[i16], parents: &[u16], places: usize) {
     let m = t.words;
     let n = t.levels;

@@ -1,6 +1,6 @@
-// Surveys the one-way links of each case of each stream that an argument names: a line with the number of a refusal, or
-// with 0, the passes and the number of each unit. A line has a `!` for each word past the numbers that was altered;
-// "fault" stands for a stream that is none.
+// Surveys the one-way links (T-11) of each case of each stream named as an argument. It prints a line with the number
+// of a refusal, or with 0, the passes and each unit's number, and a `!` for each word past these that was altered. It
+// prints `fault` for a malformed stream.
 use base_streams::Cursor;
 use base_streams::text;
 use libc::STDOUT_FILENO;
@@ -79,7 +79,7 @@ fn case(stream: &[u8], cursor: Cursor) -> Cursor {
     places.cursor
 }
 
-// The call, on so many words and so many places.
+// The call, with the first words of the table and the first places of the output.
 fn lend(units: u16, words: &[u16], count: usize, places: usize) {
     if words.len() < count {
         return;

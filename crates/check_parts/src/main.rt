@@ -1,6 +1,6 @@
-// Surveys the table of each case of each stream that an argument names and adds up its parts from the library's answers
-// (T-14): the number of labels, each label with the units that its links touch, less one, the sum, and the units less
-// the groups. "fault" stands for a stream that is none.
+// Surveys the table of each case of each stream named as an argument and adds up its parts from the library's answers
+// (T-14). It prints the number of labels, each label with its part (units touched, less one), the sum, and the units
+// less the groups. It prints `fault` for a malformed stream.
 use base_streams::Cursor;
 use base_streams::listed;
 use base_streams::text;
@@ -104,7 +104,7 @@ fn marked(marks: &[u16]) -> u16 {
 fn part(words: &[u16], label: &[u16], c: u16) -> u16 {
     let mut marks = [0u16; 256];
     mark(words, label, c, &mut marks);
-    table_values::less(marked(&marks), 1)
+    base_choice::difference(marked(&marks), 1)
 }
 
 // How many labels there are: positions that are their own.
@@ -179,7 +179,7 @@ fn told(s: Survey, units: u16, links: u16, words: &[u16]) {
     let all = parts(links, words, &label, at, &mut line);
     let summed = more(all.sum, all.end, &mut line);
     let last = more(
-        table_values::less(units, groups(s, units)),
+        base_choice::difference(units, groups(s, units)),
         summed,
         &mut line,
     );
@@ -187,7 +187,7 @@ fn told(s: Survey, units: u16, links: u16, words: &[u16]) {
     say(&line, end);
 }
 
-// The survey of a table on so many words and so many levels.
+// The survey of the table that the first words and levels of the two slices hold.
 fn loaded<'a>(
     units: u16,
     words: &'a [u16],

@@ -38,8 +38,8 @@ pub(crate) fn merge(marks: &mut [u16], i: u16, j: u16) -> u16
     }
     remark(
         marks,
-        table_values::greatest_of(one, other),
-        table_values::least_of(one, other),
+        base_choice::greatest_of(one, other),
+        base_choice::least_of(one, other),
     );
     1
 }

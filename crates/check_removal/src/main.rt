@@ -1,6 +1,6 @@
 // Surveys the tables of each stream with the library and again by removal, and compares: all tables of one to five
-// units, then tables of every shape. A line for each stream has the counts and its name; the arguments are the file and
-// the name of each. "fault" stands for a stream that is none.
+// units, then tables of every shape. Arguments come in pairs, a file and a name; for each it prints a line with the
+// counts and the name. It prints `fault` for a malformed stream.
 mod compare;
 mod groups;
 mod removal;

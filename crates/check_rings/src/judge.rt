@@ -28,7 +28,7 @@ fn pair(a: u16, b: u16, u: u16, v: u16) -> bool {
     false
 }
 
-// The unit after place `i` of a ring of so many units.
+// The unit after place `i` of a ring of `count` units.
 fn next(count: usize, ring: &[u16], i: usize) -> u16 {
     if i < count {
         let after = i + 1;

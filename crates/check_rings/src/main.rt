@@ -1,6 +1,6 @@
-// Asks for the rings of each case of each stream that an argument names: a line with, for each question, 1 where a ring
-// is shown, 0 where there is none, or the number of a refusal. A ring that is none, does not hold both links or starts
-// otherwise is 98, a word altered that should stay 99; "fault" stands for a stream that is none.
+// Asks for rings (T-04). For each case of each stream named as an argument it prints a line with a number for each
+// question: 1 for a ring, 0 for no ring, or a refusal; 98 where what is shown is not a ring, lacks a link or starts
+// with other units, 99 where a word was altered that should stay. It prints `fault` for a malformed stream.
 use base_streams::Cursor;
 use base_streams::text;
 use libc::STDOUT_FILENO;
@@ -83,7 +83,7 @@ fn asked(survey: Survey, words: &[u16], first: u16, second: u16, out: &mut [u16]
     told(reply, links, words, first, second, out)
 }
 
-// The call, on so many places.
+// The call, with the first places of the output.
 fn lend(survey: Survey, words: &[u16], first: u16, second: u16, places: usize) -> u32 {
     if 512 < places {
         return 97;
@@ -92,7 +92,7 @@ fn lend(survey: Survey, words: &[u16], first: u16, second: u16, places: usize) -
     asked(survey, words, first, second, &mut out[..places])
 }
 
-// The survey of a table on so many words and so many levels.
+// The survey of the table that the first words and levels of the two slices hold.
 fn loaded<'a>(
     units: u16,
     words: &'a [u16],

@@ -1,6 +1,6 @@
-// Plays the loads and ticks of each case of each stream that an argument names: a line with the number of a load; a
-// line with the number of a refused tick, or with 0, the seat and its status; at the end of a case a line for each
-// seat. "fault" stands for a stream that is none.
+// Plays the loads and ticks (T-12) of each case of each stream named as an argument. It prints the number of each load;
+// the number of each refused tick, or 0, the seat served and its status; and at the end of a case a line for each seat.
+// It prints `fault` for a malformed stream.
 use base_streams::Cursor;
 use base_streams::listed;
 use base_streams::text;
@@ -49,9 +49,9 @@ fn status(seat: &[u16; STATE_WORDS], at: usize, line: &mut [u8]) -> usize {
     more(reply[3], rounds, line)
 }
 
-// A seat as it is at the end: 0 where it is empty, else 1 and its status.
+// A seat as it is at the end: 0 where nothing was loaded, else 1 and its status.
 fn seen(seat: &[u16; STATE_WORDS]) {
-    if seat[0] == 0 {
+    if seat[0] == 0 && seat[STAGE] == 0 {
         told(0);
         return;
     }
@@ -94,7 +94,7 @@ fn tick(last: u16, seats: &mut [[u16; STATE_WORDS]; 8]) -> u16 {
     reply.last
 }
 
-// A load of a seat, on so many words and so many levels.
+// A load of a seat, with the first words and levels of the two slices.
 fn load<'a>(
     seats: &mut [[u16; STATE_WORDS]; 8],
     seat: u16,

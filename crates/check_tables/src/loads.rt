@@ -6,7 +6,7 @@ use file_spec::Reading;
 use libc::STDOUT_FILENO;
 use survey::Survey;
 
-pub fn of(text: &[u8]) -> Survey {
+pub(crate) fn of(text: &[u8]) -> Survey {
     if is_file(text) {
         return filed(text);
     }

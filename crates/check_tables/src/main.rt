@@ -1,5 +1,5 @@
-// Surveys the table of each file that an argument names, round by round: a line with its name, then every table after
-// the load and after each round. "fault" stands for a stream that is none.
+// Surveys the table of each file named as an argument, round by round, and prints its name, then every table after the
+// load and after each round. It prints `fault` for a malformed stream.
 use survey::Aux;
 use survey::Components;
 use survey::Global;

@@ -1,5 +1,5 @@
--- A frame, one a line (document 01): upper-case hexadecimal digits, two a byte, then a line feed. The first byte is the
--- kind; the last makes the sum of all bytes wrap to 0 in eight bits. Here a frame's body is its bytes without that
+-- A frame stands on a line of its own (document 01), two upper-case hexadecimal digits for each byte. Its kind comes
+-- first; its check byte comes last and brings the sum to 0 in eight bits. Here a frame's body is its bytes without the
 -- check byte.
 use mathlib.Core.Bool.{Bool, true, cond, _&&_}
 use mathlib.Core.List.{List, [], _∷_, _++_}

@@ -1,2 +1,3 @@
+pub mod FrameOrder
 pub mod Walk
 pub mod Marks

@@ -27,7 +27,7 @@ use Rattle.file_spec.specs.LineLaws.{none-lines, no-lines, front-says, front-li
 use Rattle.file_spec.specs.LineLaws.{front-word, faulty-here, faulty-later, sound-front, frontLine, pastLine}
 use Rattle.file_spec.specs.LineSteps.{frames-more, frames-link, ends-link, ends-other, levels-link, levels-other}
 use Rattle.file_spec.specs.LineSteps.{no-order, length-ends, length-levels}
-use Rattle.file_judge.specs.FrameOrder.{START, LINKS, ENDED, nextOrder, orderFrom, neither, order-next}
+use Rattle.file_read.specs.FrameOrder.{START, LINKS, ENDED, nextOrder, orderFrom, neither, order-next}
 
 -- ---- the count that is stated last
 

@@ -6,6 +6,7 @@ ghost use Rattle.file_spec.specs.File.{unless, linesOf, unitsIn, linkFrames, re
 ghost use Rattle.file_spec.specs.File.{readLevels, readingNumber, readingValues};
 use file_spec::Reading;
 
+mod judge;
 mod lines;
 mod marks;
 mod reader;

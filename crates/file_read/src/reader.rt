@@ -1,6 +1,6 @@
 // Reading a file with a cursor that goes from line to line: why it is refused, and its ends and levels laid down.
 ghost use mathlib.Core.Path.{_≡_};
-ghost use mathlib.Core.Bool.{false, cond, not, _||_};
+ghost use mathlib.Core.Bool.{false, cond, not};
 ghost use mathlib.Core.List.{_++_};
 ghost use Prim.Native.Nat.{_+_, _*_, _≤_, _<_};
 ghost use lib.Dec.{eqb};
@@ -14,19 +14,12 @@ use super::lines;
 use super::marks;
 use file_frames::kinds;
 
-// Whether the level in the line of kind 03 at `at` is none that a table may have.
+// Whether the level in the line of kind 03 at `at` is out of range.
 fn bad_level_at(t: &[u8], file: &[u8], at: usize) -> bool
     requires { ⌜ Marks (now t) × (at + 11 < length (now file)) ⌝ }
     ensures { λ r. ⌜ r ≡ not (inRange (byteLevel (byteAt (now (file .entry)) (at + 10)))) ⌝ }
 {
-    file_judge::bad_level(marks::byte_at(t, file, at + 10))
-}
-
-// One of the tests holds.
-fn either(x: bool, y: bool) -> bool
-    ensures { λ r. ⌜ r ≡ (x || y) ⌝ }
-{
-    if x { true } else { y }
+    crate::judge::bad_level(marks::byte_at(t, file, at + 10))
 }
 
 // The number of the first cause among 1, 2, 3, 6, 16, 14; 0 where there is none. The walk goes on past a broken order:
@@ -36,7 +29,7 @@ pub(crate) fn refusal(t: &[u8], file: &[u8], places: usize, spaces: usize) -> u8
     ensures { λ r. ⌜ r ≡ readRefusal (linesOf (now (file .entry))) places spaces ⌝ }
 {
     let mut at = 0;
-    let mut order = file_judge::START;
+    let mut order = crate::judge::START;
     let mut links = 0;
     let mut last = 0;
     let mut outside = false;
@@ -47,28 +40,28 @@ pub(crate) fn refusal(t: &[u8], file: &[u8], places: usize, spaces: usize) -> u8
         }
         last = at;
         if kind == kinds::LINK {
-            outside = either(outside, bad_level_at(t, file, at));
-            order = file_judge::next_order(order, kinds::LINK);
+            outside = base_choice::either(outside, bad_level_at(t, file, at));
+            order = crate::judge::next_order(order, kinds::LINK);
             links += 1;
-            at += file_judge::line_length(kinds::LINK);
+            at += crate::judge::line_length(kinds::LINK);
             continue;
         }
         if kind == kinds::BARE_LINK {
-            order = file_judge::next_order(order, kinds::BARE_LINK);
+            order = crate::judge::next_order(order, kinds::BARE_LINK);
             links += 1;
-            at += file_judge::line_length(kinds::BARE_LINK);
+            at += crate::judge::line_length(kinds::BARE_LINK);
             continue;
         }
-        order = file_judge::next_order(order, kind);
-        at += file_judge::line_length(kind);
+        order = crate::judge::next_order(order, kind);
+        at += crate::judge::line_length(kind);
     }
-    if order != file_judge::ENDED {
+    if order != crate::judge::ENDED {
         return 2;
     }
     if marks::word_at(t, file, last + 2) as usize != links {
         return 3;
     }
-    file_judge::later_refusal(links, outside, places, spaces)
+    crate::judge::later_refusal(links, outside, places, spaces)
 }
 
 // The level in the line of a link at `at`, of this kind.
@@ -107,10 +100,10 @@ pub(crate) fn fill(t: &[u8], file: &[u8], words: &mut [u16], levels: &mut [i16])
             let level = level_at(t, file, at, kind);
             levels[n] = level;
             n += 1;
-            at += file_judge::line_length(kind);
+            at += crate::judge::line_length(kind);
             continue;
         }
-        at += file_judge::line_length(kind);
+        at += crate::judge::line_length(kind);
     }
     n
 }

@@ -1,6 +1,6 @@
 -- What T-06 asks of the two handsets, for any state s and any slice `out`: 10 and 14 exactly for their causes, at every
--- stage; the line at the front and bytes past it untouched; equal foreman's lines where two surveys agree in unit
--- count, stage and rounds made in it; and lines that say what status says.
+-- stage; the line at the front and bytes past it untouched; equal foreman's lines where unit count, stage and the
+-- rounds of the stage are the same in two surveys; and lines that say what status says.
 use mathlib.Core.Path.{_≡_}
 use mathlib.Core.Bool.{true}
 use mathlib.Core.Logic.{_↔_}

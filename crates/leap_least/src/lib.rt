@@ -1,7 +1,7 @@
 // Leaps: many rounds of the least value at once, of stage 1 over links and of stage 9 over joins.
 use spec_state::Clock;
 ghost use mathlib.Core.Path.{_≡_};
-ghost use mathlib.Core.Bool.{true};
+ghost use mathlib.Core.Bool.{true, false};
 ghost use Prim.Native.Nat.{_+_, _≤_, min};
 ghost use Rattle.leap_least.specs.Leapt.{Leapt, roundsIn, passed};
 
@@ -24,14 +24,16 @@ pub fn leap(
     clock: Clock,
     made: u16,
 ) -> Landed
-    ensures { λ r. ⌜ (r .right ≡ true → Leapt units pairs (now (ends .entry)) most budget value clock made (r .value)
+    ensures leapt { λ r. ⌜ (r .right ≡ true →
+        Leapt units pairs (now (ends .entry)) most budget value clock made (r .value)
         (r .clock) (r .made)) ⌝ }
+    ensures stays { λ r. ⌜ (r .right ≡ false → (r .value ≡ value) × (r .clock ≡ clock) × (r .made ≡ made)) ⌝ }
 {
     let mut new = value;
     let found = leap_search::found(units, pairs, ends, &mut new);
     let rounds = rounds_in(clock.made, found.rounds);
     let covered = covers(rounds, budget, most, clock, made);
-    if !table_values::both(found.right, covered) {
+    if !base_choice::both(found.right, covered) {
         return Landed {
             right: false,
             value,
@@ -68,13 +70,13 @@ fn rounds_in(made: u16, rounds: u16) -> u32
     ensures few { λ r. ⌜ r ≤ 65536 ⌝ }
 {
     if made == 0 {
-        table_values::greatest_of(rounds, 1) as u32 + 1
+        base_choice::greatest_of(rounds, 1) as u32 + 1
     } else {
         rounds as u32 + 1
     }
 }
 
-// The clock after so many rounds, the last of which ends the stage.
+// The clock after the rounds of a leap, the last of which ends the stage.
 fn passed(rounds: u32, clock: Clock) -> Clock
     requires { ⌜ (clock .stage ≤ 10) × (rounds ≤ 65536) ⌝ }
     ensures { λ r. ⌜ r ≡ passed rounds clock ⌝ }
@@ -83,7 +85,7 @@ fn passed(rounds: u32, clock: Clock) -> Clock
         stage: clock.stage + 1,
         made: 0,
         rounds: limited(clock.rounds as u32 + rounds),
-        requests: table_values::least_of(clock.requests, Clock::MAX_REQUESTS),
+        requests: base_choice::least_of(clock.requests, Clock::MAX_REQUESTS),
     }
 }
 

@@ -4,8 +4,8 @@ use spec_state::Clock;
 use table::ABSENT;
 use table_values::bounds;
 ghost use mathlib.Core.Path.{_≡_};
-ghost use mathlib.Core.Bool.{true};
-ghost use Prim.Native.Nat.{_+_, _≤_, min};
+ghost use mathlib.Core.Bool.{true, false};
+ghost use Prim.Native.Nat.{_+_, _≤_};
 ghost use Rattle.spec_rules.specs.Ceilings.{rankingCeiling};
 ghost use Rattle.leap_ranking.specs.Leapt.{tried, cleared, passed, Found, Leapt};
 
@@ -33,12 +33,15 @@ pub struct Landed {
 pub fn tried(units: u16, budget: u16) -> bool
     ensures { λ r. ⌜ r ≡ tried units budget ⌝ }
 {
-    table_values::both(8 <= units, 12 <= budget)
+    base_choice::both(8 <= units, 12 <= budget)
 }
 
-// The rest of a ranking of the arcs of so many units.
+// The rest of a ranking of the arcs of `units` units.
 pub fn leap(units: u16, budget: u16, clock: Clock, jump: [u16; 512], sum: [u16; 512]) -> Landed
-    ensures { λ r. ⌜ (r .right ≡ true → Leapt units budget jump sum clock (r .jump) (r .sum) (r .clock) (r .made)) ⌝ }
+    ensures leapt { λ r. ⌜ (r .right ≡ true →
+        Leapt units budget jump sum clock (r .jump) (r .sum) (r .clock) (r .made)) ⌝ }
+    ensures stays { λ r. ⌜ (r .right ≡ false →
+        (r .jump ≡ jump) × (r .sum ≡ sum) × (r .clock ≡ clock) × (r .made ≡ 0)) ⌝ }
 {
     if 256 < units {
         return Landed {
@@ -52,7 +55,7 @@ pub fn leap(units: u16, budget: u16, clock: Clock, jump: [u16; 512], sum: [u16; 
     let arcs = 2 * (units as usize);
     let found = found(arcs, jump, sum);
     let covered = covers(units, found.rounds, budget, clock);
-    if !table_values::both(found.right, covered) {
+    if !base_choice::both(found.right, covered) {
         return Landed {
             right: false,
             jump,
@@ -85,11 +88,11 @@ fn covers(units: u16, rounds: u16, budget: u16, clock: Clock) -> bool
     if budget <= rounds {
         return false;
     }
-    let most = base_log2::lg(table_values::less(2 * units, 2)) as u32 + 1;
+    let most = base_log2::lg(base_choice::difference(2 * units, 2)) as u32 + 1;
     clock.made as u32 + (rounds as u32 + 1) <= most
 }
 
-// The clock after so many rounds with so many requests, the last of which ends the stage.
+// The clock after the rounds and requests of a leap, the last round of which ends the stage.
 fn passed(rounds: u16, requests: u16, clock: Clock) -> Clock
     requires { ⌜ clock .stage ≤ 10 ⌝ }
     ensures { λ r. ⌜ r ≡ passed rounds requests clock ⌝ }
@@ -97,17 +100,9 @@ fn passed(rounds: u16, requests: u16, clock: Clock) -> Clock
     Clock {
         stage: clock.stage + 1,
         made: 0,
-        rounds: limited(clock.rounds, rounds, Clock::MAX_ROUNDS),
-        requests: limited(clock.requests, requests, Clock::MAX_REQUESTS),
+        rounds: base_choice::limited(clock.rounds, rounds, Clock::MAX_ROUNDS),
+        requests: base_choice::limited(clock.requests, requests, Clock::MAX_REQUESTS),
     }
-}
-
-// A sum within its limit.
-fn limited(x: u16, y: u16, most: u16) -> u16
-    ensures { λ r. ⌜ r ≡ min (x + y) most ⌝ }
-{
-    let sum = x as u32 + y as u32;
-    if sum < most as u32 { sum as u16 } else { most }
 }
 
 // No object has a predecessor.
@@ -134,8 +129,8 @@ fn found(arcs: usize, jump: [u16; 512], sum: [u16; 512]) -> Summed
     let total = tests::sums(arcs, &key, sum);
     let rank = tests::ranks(arcs, &key, sum);
     let asked = tests::asked(arcs, &rank);
-    let bounded = table_values::both(bounds::numbers_ok(&sum), bounds::numbers_ok(&total));
-    let right = table_values::both(bounded, tests::keys_right(arcs, &jump, &sum, &key));
+    let bounded = base_choice::both(bounds::numbers_ok(&sum), bounds::numbers_ok(&total));
+    let right = base_choice::both(bounded, tests::keys_right(arcs, &jump, &sum, &key));
     Summed {
         right,
         sum: total,

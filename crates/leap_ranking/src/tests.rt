@@ -147,7 +147,7 @@ pub(crate) fn asked(arcs: usize, rank: &[u16; 512]) -> Counted
     while a < arcs {
         let more = digits(rank[a]);
         requests += more;
-        rounds = table_values::greatest_of(rounds, more);
+        rounds = base_choice::greatest_of(rounds, more);
         a += 1;
     }
     Counted { requests, rounds }

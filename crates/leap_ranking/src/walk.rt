@@ -4,7 +4,7 @@
 use table::ABSENT;
 ghost use Prim.Native.Nat.{_≤_, _<_};
 
-// Which object follows each; those without a predecessor are the firsts, and so many.
+// The follower of each object; the objects without a predecessor, which begin the lists; and their number.
 fn followers(
     arcs: usize,
     jump: &[u16; 512],

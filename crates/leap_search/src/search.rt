@@ -191,6 +191,6 @@ pub(crate) fn search<'a>(
             &mut queue,
             end,
         );
-        v = table_values::choose(end < units, v + 1, units);
+        v = base_choice::choose(end < units, v + 1, units);
     }
 }

@@ -28,7 +28,8 @@ pub fn tested<'a>(
 ) -> Arrived
     ensures found { λ r. ⌜ (r .right ≡ true →
         Found units pairs (now (ends .entry)) (now (value .entry)) (now (value .exit)) (r .rounds)) ⌝ }
-    ensures stays { λ r. ⌜ (r .right ≡ false → now (value .exit) ≡ now (value .entry)) ⌝ }
+    ensures stays { λ r. ⌜ (r .right ≡ false →
+        (r .rounds ≡ 0) × (now (value .exit) ≡ now (value .entry))) ⌝ }
 {
     if !fits(units, pairs, ends, value) {
         return Arrived {
@@ -39,11 +40,11 @@ pub fn tested<'a>(
     let rounds = furthest(units, key);
     let over_pairs = pairs_right(pairs, ends, key);
     let over_units = units_right(units, pairs, ends, value, key, via);
-    let both = table_values::both(over_pairs, over_units);
-    if !table_values::both(rounds < 65535, both) {
+    let both = base_choice::both(over_pairs, over_units);
+    if !base_choice::both(rounds < 65535, both) {
         return Arrived {
             right: false,
-            rounds,
+            rounds: 0,
         };
     }
     end(units, key, value);
@@ -135,9 +136,9 @@ fn leads(key: &[u32; 256], v: u16, a: u16, b: u16) -> bool
     ensures { λ r. ⌜ r ≡ leads (now (key .entry)) a b v ⌝ }
 {
     let before = sooner(key[v as usize]);
-    let from_b = table_values::both(a == v, key[b as usize] == before);
-    let from_a = table_values::both(b == v, key[a as usize] == before);
-    table_values::either(from_b, from_a)
+    let from_b = base_choice::both(a == v, key[b as usize] == before);
+    let from_a = base_choice::both(b == v, key[a as usize] == before);
+    base_choice::either(from_b, from_a)
 }
 
 // A round before.
@@ -180,7 +181,7 @@ fn unit_right<'a>(
     if wait_in(key[at]) == 0 {
         return here == last;
     }
-    table_values::both(last < here, led(pairs, ends, key, via[at], v))
+    base_choice::both(last < here, led(pairs, ends, key, via[at], v))
 }
 
 // Every unit.
@@ -199,7 +200,7 @@ fn units_right<'a>(
     let mut right = true;
     let mut v = 0;
     while v < units {
-        right = table_values::both(right, unit_right(pairs, ends, value, key, via, v));
+        right = base_choice::both(right, unit_right(pairs, ends, value, key, via, v));
         v += 1;
     }
     right
@@ -213,7 +214,7 @@ fn furthest(units: u16, key: &[u32; 256]) -> u16
     let mut most = 0;
     let mut v = 0;
     while v < units {
-        most = table_values::greatest_of(most, wait_in(key[v as usize]));
+        most = base_choice::greatest_of(most, wait_in(key[v as usize]));
         v += 1;
     }
     most

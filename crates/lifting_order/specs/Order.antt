@@ -1,4 +1,4 @@
--- The lifting order of T-07 as it is made: from unit 0, each time the least-numbered unit that may stand next; the unit
+-- The lifting order of T-07 as it is made: unit 0 stands first, then again and again the least unit that may; the unit
 -- that stood last is lifted first. t has the words of the links, p those of the crew's pairs "this before that", two a
 -- pair.
 use mathlib.Core.Path.{_≡_}

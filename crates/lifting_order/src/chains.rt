@@ -70,8 +70,8 @@ pub(crate) fn walk<'a>(
         let past = c as usize;
         let i = past - 1;
         let w = base_slices::word(t, other(i)) as usize;
-        let less = table_values::less(base_slices::word(x, w), (i % 2) as u16);
-        let new = table_values::choose(mark, 1, less);
+        let less = base_choice::difference(base_slices::word(x, w), (i % 2) as u16);
+        let new = base_choice::choose(mark, 1, less);
         base_slices::put(x, w, new);
         c = base_slices::word(next, i);
     }

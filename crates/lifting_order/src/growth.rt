@@ -1,8 +1,8 @@
-// The order, from unit 0: each time the least-numbered unit that may stand next.
+// The order as it grows from unit 0: again and again the least unit that may stand.
 use super::chains;
 ghost use mathlib.Core.Path.{_≡_};
 ghost use mathlib.Core.Bool.{cond};
-ghost use Prim.Native.Nat.{ℕ, _*_, _≤_, _<_};
+ghost use Prim.Native.Nat.{ℕ, _*_, _<_};
 ghost use lib.Dec.{eqb};
 ghost use lib.ListN.{length, getD};
 ghost use Rattle.base_lists.specs.Folds.{count};
@@ -45,18 +45,18 @@ fn next_up<'a>(units: u16, near: &'a [u16], wait: &'a [u16]) -> u16
     let mut v = 0;
     while v < units {
         let i = v as usize;
-        let may = table_values::both(
+        let may = base_choice::both(
             base_slices::word(near, i) != 0,
             base_slices::word(wait, i) == 0,
         );
-        least = table_values::least_of(least, table_values::choose(may, v, units));
+        least = base_choice::least_of(least, base_choice::choose(may, v, units));
         v += 1;
     }
     least
 }
 
-// How many units are left when all stand or none may stand next; the others lie in `order` past so many places, the
-// last to stand in front. A unit that stands waits for ever, so that it is not taken twice.
+// The number of units left over when all stand, or when none may stand next. The others lie in `order` after that many
+// places, the last to stand first. A unit that stands is made to wait for ever, so that it is not taken twice.
 pub(crate) fn grown<'a>(units: u16, ends: &'a [u16], pairs: &'a [u16], order: &mut [u16]) -> u16
     requires { ⌜ Given units (now ends) (now pairs) × (length (now order) ≡ 256) ⌝ }
     ensures { λ r. ⌜ Found units (now (ends .entry)) (now (pairs .entry)) (now (order .exit)) r ⌝ }

@@ -17,7 +17,7 @@ use Rattle.table.specs.RefusalLaws.{passed-test}
 use Rattle.table.specs.Table.{maxUnits, endA, endB, sameEnds, joinedIn}
 use Rattle.table.specs.TableCauses.{sameEnds-exact, stored-first-cause, stored-some-cause}
 use Rattle.spec_machine.specs.Load.{Input, linksIn}
-use Rattle.spec_machine.specs.Calls.{loadAnswer, storedLoadAnswer}
+use Rattle.spec_machine.specs.Calls.{loadAnswer, storedLoadAnswer, plannedLoadAnswer}
 use Rattle.live_table.specs.Counts.{linksAt}
 use Rattle.live_table.specs.CountLaws.{counts-at}
 use Rattle.live_table.specs.Live.{Live, held, liveOf, added, withdrawn, placeOf}
@@ -144,6 +144,7 @@ list-right x e cs =
       holds = in-it;
       loads = λ s. ap (λ (y : Input). loadAnswer y s) in-it;
       storedLoads = λ s. ap (λ (y : Input). storedLoadAnswer y s) in-it;
+      plannedLoads = λ parents s. ap (λ (y : Input). plannedLoadAnswer y parents s) in-it;
       passes = leftBy-passes cs x e;
       counts =
           λ v h.

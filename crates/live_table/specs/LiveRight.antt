@@ -13,7 +13,7 @@ use Rattle.table.specs.Table.{maxUnits, endA, endB}
 use Rattle.table.specs.TableCauses.{SameEnds, storedReasons}
 use Rattle.spec_machine.specs.Load.{Input, linksIn}
 use Rattle.spec_machine.specs.State.{State}
-use Rattle.spec_machine.specs.Calls.{loadAnswer, storedLoadAnswer}
+use Rattle.spec_machine.specs.Calls.{loadAnswer, storedLoadAnswer, plannedLoadAnswer}
 use Rattle.live_table.specs.Counts.{linksAt}
 use Rattle.live_table.specs.Live.{Live, held, liveOf, added, withdrawn, placeOf}
 use Rattle.live_table.specs.LiveCalls.{Answer, openRefusal, openAnswer, addAnswer, withdrawAnswer, linkRefusal}
@@ -81,6 +81,9 @@ pub record ListRight (x : Input) (cs : List Change) : Type 0 where
   pub loads : (s : State) → loadAnswer (held (played cs (openAnswer x .live))) s ≡ loadAnswer (leftBy cs x) s
   pub storedLoads : (s : State) → storedLoadAnswer (held (played cs (openAnswer x .live))) s
       ≡ storedLoadAnswer (leftBy cs x) s
+  pub plannedLoads : (parents : List ℕ) (s : State) →
+      plannedLoadAnswer (held (played cs (openAnswer x .live))) parents s
+      ≡ plannedLoadAnswer (leftBy cs x) parents s
   pub passes : openRefusal (leftBy cs x) ≡ 0
   -- each stored number is the count
   pub counts : (v : ℕ) → v < maxUnits → getD (played cs (openAnswer x .live) .counts) v 0

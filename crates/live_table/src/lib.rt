@@ -31,7 +31,7 @@ fn count_in(counts: &mut [u16], a: u16, b: u16)
     ensures { λ _. ⌜ now (counts .exit) ≡ countedIn (now (counts .entry)) a b ⌝ }
 {
     raise(counts, a, 1);
-    raise(counts, b, table_values::choose(a == b, 0, 1));
+    raise(counts, b, base_choice::choose(a == b, 0, 1));
 }
 
 // The number of links at each unit, of the first `links` links.
@@ -60,7 +60,7 @@ pub fn miscounted<'a>(links: u16, words: &'a [u16], counts: &'a [u16]) -> bool
     let mut wrong = false;
     let mut v: usize = 0;
     while v < 256 {
-        wrong = table_values::either(
+        wrong = base_choice::either(
             wrong,
             base_slices::word(counts, v) != base_slices::word(&right, v),
         );
@@ -73,9 +73,9 @@ pub fn miscounted<'a>(links: u16, words: &'a [u16], counts: &'a [u16]) -> bool
 fn same_ends(a: u16, b: u16, c: u16, d: u16) -> bool
     ensures { λ r. ⌜ r ≡ sameEnds a b c d ⌝ }
 {
-    table_values::either(
-        table_values::both(a == c, b == d),
-        table_values::both(a == d, b == c),
+    base_choice::either(
+        base_choice::both(a == c, b == d),
+        base_choice::both(a == d, b == c),
     )
 }
 

@@ -42,7 +42,7 @@ fn unfit(units: u16, links: u16, table: &[u16], parents: &[u16]) -> bool
     let tops = chains::tops(units, parents);
     let astray = strays(units, parents, &near, &tops);
     let apart = splits(links, table, &tops);
-    table_values::either(astray, apart)
+    base_choice::either(astray, apart)
 }
 
 // Whether a unit has a parent and no mark, or is below its top.
@@ -55,8 +55,8 @@ fn strays(units: u16, parents: &[u16], near: &[u16], tops: &[u16]) -> bool
         let has = tables::at(parents, v) != ABSENT;
         let bare = tables::at(near, v) == 0;
         let top = tables::at(tops, v);
-        let wrong = table_values::either(table_values::both(has, bare), v < top);
-        astray = table_values::either(astray, wrong);
+        let wrong = base_choice::either(base_choice::both(has, bare), v < top);
+        astray = base_choice::either(astray, wrong);
         v += 1;
     }
     astray
@@ -73,7 +73,7 @@ fn splits(links: u16, table: &[u16], tops: &[u16]) -> bool
         let i = 2 * (j as usize);
         let a = tables::at(tops, base_slices::word(table, i));
         let b = tables::at(tops, base_slices::word(table, i + 1));
-        apart = table_values::either(apart, a != b);
+        apart = base_choice::either(apart, a != b);
         j += 1;
     }
     apart

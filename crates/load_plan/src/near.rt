@@ -3,7 +3,7 @@ use table_values::tables;
 ghost use mathlib.Core.Path.{_≡_};
 ghost use mathlib.Core.Bool.{cond};
 ghost use Prim.Native.Nat.{ℕ, _<_, _≤_};
-ghost use lib.ListN.{length, getD};
+ghost use lib.ListN.{getD};
 ghost use Rattle.base_lists.specs.Folds.{some};
 ghost use Rattle.spec_rules.specs.Planned.{parentLink};
 ghost use Rattle.load_plan.specs.Marks.{marked};
@@ -33,7 +33,7 @@ fn mark(parents: &[u16], v: u16, w: u16, near: &mut [u16])
 {
     let own = tables::at(near, v);
     let up = tables::at(parents, v);
-    let x = table_values::choose(up == w, 1, own);
+    let x = base_choice::choose(up == w, 1, own);
     tables::store(near, v, x);
 }
 

@@ -1,8 +1,8 @@
 // Least labels handed on along the links that are left, until no label falls.
 use crate::order;
-use one_way_tables::both;
-use one_way_tables::choose;
-use one_way_tables::either;
+use base_choice::both;
+use base_choice::choose;
+use base_choice::either;
 ghost use mathlib.Core.Path.{_≡_};
 ghost use Prim.Native.Nat.{_+_, _≤_, _<_};
 ghost use lib.ListN.{length, getD};

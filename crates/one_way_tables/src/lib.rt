@@ -1,32 +1,11 @@
 // The tables of a pass over one-way links (T-11): the labels that it begins with, the marks and the keys that it
 // leaves.
 ghost use mathlib.Core.Path.{_≡_};
-ghost use mathlib.Core.Bool.{cond, _&&_, _||_};
+ghost use mathlib.Core.Bool.{cond};
 ghost use Prim.Native.Nat.{ℕ, _+_, _*_, _<_};
 ghost use lib.Dec.{eqb};
 ghost use Rattle.base_lists.specs.Tables.{over};
 ghost use Rattle.theory_min_label.specs.MinLabel.{NONE, at, source, marked, unfinished};
-
-// `x` where the test holds, else `y`.
-pub fn choose(test: bool, x: u16, y: u16) -> u16
-    ensures { λ r. ⌜ r ≡ cond test x y ⌝ }
-{
-    if test { x } else { y }
-}
-
-// One of the tests holds.
-pub fn either(x: bool, y: bool) -> bool
-    ensures { λ r. ⌜ r ≡ (x || y) ⌝ }
-{
-    if x { true } else { y }
-}
-
-// Both tests hold.
-pub fn both(x: bool, y: bool) -> bool
-    ensures { λ r. ⌜ r ≡ (x && y) ⌝ }
-{
-    if x { y } else { false }
-}
 
 // Every unit its own label.
 pub fn own() -> [u16; 256]
@@ -48,7 +27,11 @@ pub fn sources(f: &[u16]) -> [u16; 256]
     let mut x = [0u16; 256];
     let mut v: u16 = 0;
     while v < 256 {
-        x[v as usize] = choose(base_slices::word(f, v as usize) == v, v, table::ABSENT);
+        x[v as usize] = base_choice::choose(
+            base_slices::word(f, v as usize) == v,
+            v,
+            table::ABSENT,
+        );
         v += 1;
     }
     x
@@ -58,7 +41,11 @@ pub fn sources(f: &[u16]) -> [u16; 256]
 fn number_of(f: u16, b: u16, old: u16) -> u16
     ensures { λ r. ⌜ r ≡ cond (eqb old NONE) (cond (eqb f b) f NONE) old ⌝ }
 {
-    choose(old == table::ABSENT, choose(f == b, f, table::ABSENT), old)
+    base_choice::choose(
+        old == table::ABSENT,
+        base_choice::choose(f == b, f, table::ABSENT),
+        old,
+    )
 }
 
 // Step 3, marking: a unit whose two labels are equal has its number.
@@ -97,7 +84,7 @@ pub fn unfinished(units: u16, out: &[u16]) -> bool
     let mut any = false;
     let mut v: u16 = 0;
     while v < units {
-        any = either(any, base_slices::word(out, v as usize) == table::ABSENT);
+        any = base_choice::either(any, base_slices::word(out, v as usize) == table::ABSENT);
         v += 1;
     }
     any

@@ -1,7 +1,7 @@
 // Flags: 1 where a test passes, else 0.
 ghost use mathlib.Core.Path.{_≡_};
 ghost use mathlib.Core.Bool.{cond};
-ghost use Prim.Native.Nat.{ℕ, _≤_};
+ghost use Prim.Native.Nat.{ℕ};
 ghost use lib.Dec.{eqb};
 ghost use lib.ListN.{getD};
 ghost use Rattle.base_lists.specs.Folds.{count};
@@ -13,13 +13,6 @@ pub fn flag(test: bool) -> u8
     if test { 1 } else { 0 }
 }
 
-// The same as one more to a count.
-pub fn one_if(test: bool) -> u16
-    ensures { λ r. ⌜ (r ≡ cond test 1 0) × (r ≤ 1) ⌝ }
-{
-    if test { 1 } else { 0 }
-}
-
 // How many of the first `n` flags are 1.
 pub fn count_flags(n: u16, flags: &[u8]) -> u16
     ensures { λ r. ⌜ r ≡ count n (λ (i : ℕ). eqb (getD (now (flags .entry)) i 0) 1) ⌝ }
@@ -27,7 +20,7 @@ pub fn count_flags(n: u16, flags: &[u8]) -> u16
     let mut ones = 0;
     let mut i = 0;
     while i < n {
-        let one = one_if(base_slices::byte(flags, i as usize) == 1);
+        let one = base_choice::one_if(base_slices::byte(flags, i as usize) == 1);
         ones += one;
         i += 1;
     }

@@ -13,7 +13,7 @@ fn sharing(links: u16, label: &[u16], x: u16) -> u16
     let mut n = 0;
     let mut k = 0;
     while k < links {
-        let one = flags::one_if(base_slices::word(label, k as usize) == x);
+        let one = base_choice::one_if(base_slices::word(label, k as usize) == x);
         n += one;
         k += 1;
     }
@@ -50,7 +50,7 @@ fn count_labels(links: u16, label: &[u16], bucket: &mut [u16]) -> u16
             count_in(bucket, q);
             continue;
         }
-        let one = flags::one_if(q == ABSENT);
+        let one = base_choice::one_if(q == ABSENT);
         absent += one;
     }
     absent

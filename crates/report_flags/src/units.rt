@@ -1,6 +1,6 @@
 // Single points: units at which links of two labels meet.
 ghost use mathlib.Core.Path.{_≡_};
-ghost use mathlib.Core.Bool.{true, false, cond};
+ghost use mathlib.Core.Bool.{true, false};
 ghost use Rattle.table.specs.Table.{endA, endB};
 ghost use Rattle.spec_rules.specs.Basics.{at};
 ghost use Rattle.spec_rules.specs.Labels.{touches, single};
@@ -33,13 +33,6 @@ fn touches(ends: &[u16], u: u16, j: u16) -> bool
     base_slices::word(ends, at + 1) == u
 }
 
-// `x` where the test holds, else `y`.
-fn choose(test: bool, x: u16, y: u16) -> u16
-    ensures { λ r. ⌜ r ≡ cond test x y ⌝ }
-{
-    if test { x } else { y }
-}
-
 // The label of link `j`: links of one label count once.
 fn label_of(label: &[u16], j: u16) -> u16
     ensures { λ r. ⌜ r ≡ at (now (label .entry)) j ⌝ }
@@ -55,7 +48,7 @@ fn label_bits<'a>(any: bool, links: u16, ends: &'a [u16], label: &'a [u16], u: u
     let mut z = none;
     let mut j = 0;
     while j < links {
-        let x = choose(touches(ends, u, j), label_of(label, j), none);
+        let x = base_choice::choose(touches(ends, u, j), label_of(label, j), none);
         z = op(any, z, x);
         j += 1;
     }

@@ -23,7 +23,7 @@ fn hold<'a>(count: u16, parent: &'a [u16], seq: &'a [u16], pos: &'a [u16], held:
     while i < count {
         let v = tables::at(seq, i);
         let above = tables::at(held, tables::at(parent, v));
-        let x = table_values::choose(on(pos, v), v, above);
+        let x = base_choice::choose(on(pos, v), v, above);
         tables::store(held, v, x);
         i += 1;
     }
@@ -43,10 +43,10 @@ fn ties<'a>(
 {
     let a = end_a(ends, j);
     let b = end_b(ends, j);
-    let known = table_values::both(counts(marks, j), has(parent, a));
+    let known = base_choice::both(counts(marks, j), has(parent, a));
     let apart = tables::at(held, a) != tables::at(held, b);
-    let within = table_values::both(on(pos, a), on(pos, b));
-    table_values::both(table_values::both(known, apart), !within)
+    let within = base_choice::both(on(pos, a), on(pos, b));
+    base_choice::both(base_choice::both(known, apart), !within)
 }
 
 // How many units from `v` up hang on the order.
@@ -73,7 +73,7 @@ fn move_on(units: u16, q: u16, c: u16, pos: &mut [u16])
     let mut v = 0;
     while v < units {
         let p = tables::at(pos, v);
-        let x = table_values::choose(q < p, table_values::bounded_sum(p, c), p);
+        let x = base_choice::choose(q < p, table_values::bounded_sum(p, c), p);
         tables::store(pos, v, x);
         v += 1;
     }
@@ -109,8 +109,8 @@ fn ear<'a>(units: u16, ends: &'a [u16], parent: &'a [u16], held: &'a [u16], j: u
     let a = end_a(ends, j);
     let b = end_b(ends, j);
     let up = tables::at(pos, tables::at(held, a)) < tables::at(pos, tables::at(held, b));
-    let u = table_values::choose(up, a, b);
-    let v = table_values::choose(up, b, a);
+    let u = base_choice::choose(up, a, b);
+    let v = base_choice::choose(up, b, a);
     weave(units, parent, held, u, v, pos);
 }
 

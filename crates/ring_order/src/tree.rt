@@ -17,7 +17,7 @@ fn leads_out<'a>(marks: &'a [u8], ends: &'a [u16], parent: &'a [u16], j: u16) ->
 {
     let a = has(parent, end_a(ends, j));
     let b = has(parent, end_b(ends, j));
-    table_values::both(counts(marks, j), table_values::pick(a, !b, b))
+    base_choice::both(counts(marks, j), base_choice::pick(a, !b, b))
 }
 
 // Over link `j`, where it leads out, the tree has one unit more; how many it has.
@@ -42,8 +42,8 @@ fn reach<'a>(
     let a = end_a(ends, j);
     let b = end_b(ends, j);
     let up = has(parent, a);
-    let new = table_values::choose(up, b, a);
-    let old = table_values::choose(up, a, b);
+    let new = base_choice::choose(up, b, a);
+    let old = base_choice::choose(up, a, b);
     tables::store(parent, new, old);
     tables::store(seq, count, new);
     table_values::bounded_sum(count, 1)
@@ -96,7 +96,7 @@ fn deepen<'a>(
         let after = tables::at(next, i);
         tables::store(cursor, v, after);
         let more = reach(marks, links, ends, i / 2, count, parent, seq);
-        v = table_values::choose(count < more, tables::at(seq, count), v);
+        v = base_choice::choose(count < more, tables::at(seq, count), v);
         count = more;
     }
     count

@@ -23,7 +23,7 @@ fn within<'a>(marks: &'a [u8], ends: &'a [u16], pos: &'a [u16], j: u16) -> bool
 {
     let a = on(pos, end_a(ends, j));
     let b = on(pos, end_b(ends, j));
-    table_values::both(counts(marks, j), table_values::both(a, b))
+    base_choice::both(counts(marks, j), base_choice::both(a, b))
 }
 
 // Link `j`, where it is within the order: each of its ends leans on the other.
@@ -44,8 +44,8 @@ fn lean_one<'a>(
     let a = end_a(ends, j);
     let b = end_b(ends, j);
     let up = tables::at(pos, a) < tables::at(pos, b);
-    let lower = table_values::choose(up, a, b);
-    let higher = table_values::choose(up, b, a);
+    let lower = base_choice::choose(up, a, b);
+    let higher = base_choice::choose(up, b, a);
     tables::store(low, higher, lower);
     tables::store(high, lower, higher);
 }
@@ -73,9 +73,9 @@ pub(crate) fn lean<'a>(
 fn serves<'a>(marks: &'a [u8], ends: &'a [u16], pos: &'a [u16], i: u16, j: u16, k: u16) -> bool
     ensures { λ r. ⌜ r ≡ serves (sure (now (marks .entry))) (now (ends .entry)) (now (pos .entry)) i j k ⌝ }
 {
-    table_values::both(
+    base_choice::both(
         within(marks, ends, pos, k),
-        table_values::pick(i == j, k != i, k == j),
+        base_choice::pick(i == j, k != i, k == j),
     )
 }
 

@@ -53,14 +53,14 @@ pub fn lay(next: &[u16], count: u16, v: u16, i: u16, up: bool, placing: bool, ou
     let mut x = i;
     let mut left = count;
     while 0 < left {
-        let p = table_values::choose(placing, u, x);
-        let q = table_values::choose(placing, x, u);
+        let p = base_choice::choose(placing, u, x);
+        let q = base_choice::choose(placing, x, u);
         tables::store(out, p, q);
         u = tables::at(next, u);
-        x = table_values::choose(
+        x = base_choice::choose(
             up,
             table_values::bounded_sum(x, 1),
-            table_values::less(x, 1),
+            base_choice::difference(x, 1),
         );
         left -= 1;
     }

@@ -1,42 +1,56 @@
 // T-13: every set of links among one to five units, opened as a stored table and surveyed by the library; a line for
 // each with its single points.
 use libc::STDOUT_FILENO;
-use small_tables::MOST;
+use small_tables::listing;
+use small_tables::listing::SITES;
 use survey::Reply;
 use survey::Survey;
+ghost use mathlib.Core.Path.{_≡_};
+ghost use mathlib.Core.List.{_∷_, []};
+ghost use mathlib.Core.Bool.{_&&_};
+ghost use mathlib.Core.List.{_++_};
+ghost use Prim.Native.Nat.{_≤_, _<_};
+ghost use lib.ListN.{length, take, drop};
+ghost use Rattle.table.specs.Table.{linkCount};
+ghost use Rattle.file_frames.specs.Frame.{lineOver};
+ghost use Rattle.spec_machine.specs.Load.{unloaded, storedLoadRefusal};
+ghost use Rattle.spec_machine.specs.Calls.{storedLoadAnswer, runAnswer, unitAnswer};
+ghost use Rattle.survey.specs.View.{of};
+ghost use Rattle.report_program.specs.Printed.{surveyed};
+ghost use Rattle.small_tables.specs.Listing.{siteAt};
+ghost use Rattle.small_sites.specs.Sites.{opened, singlesIn, bodyOf, printed, PRINTED, toldSingle};
 
-// The tables of so many units: a bit for each pair.
-fn tables_of(units: u16) -> u16 {
-    match units {
-        1 => 1,
-        2 => 2,
-        3 => 8,
-        4 => 64,
-        _ => 1024,
-    }
-}
+// The characters of a line, and of all.
+const LINE: usize = 15;
 
-// The library's survey of a table, begun, and made to its end.
-fn begun(units: u16, words: &[u16]) -> Survey {
+// A table opened as a stored one, with levels of 0.
+fn begun(units: u16, words: &[u16]) -> Survey
+    requires { ⌜ linkCount (now words) ≤ 1024 ⌝ }
+    ensures { λ r. ⌜ of r ≡ storedLoadAnswer (opened units (now (words .entry))) unloaded .state ⌝ }
+{
     let levels = [0i16; 1024];
     let links = words.len() / 2;
-    if levels.len() < links {
-        return Survey::new();
-    }
     let loaded = Survey::new().load_stored(units, words, &levels[..links]);
     loaded.survey
 }
 
-fn ended(s: Survey) -> Survey {
+// Its survey, made to the end.
+fn ended(s: Survey) -> Survey
+    ensures { λ r. ⌜ of r ≡ runAnswer 65535 (of s) .state ⌝ }
+{
     let ran = s.run(65535);
     ran.survey
 }
 
-// Whether the library calls unit `v` a single point.
-fn single(s: Survey, v: u16) -> bool {
-    let answer = value_calls::unit(s, v);
-    let reply = answer.reply;
+// Whether an answer calls its unit a single point.
+fn told(reply: Reply) -> bool
+    ensures { λ r. ⌜ r ≡ toldSingle reply ⌝ }
+{
     match reply {
+        Reply::Refused(_) => false,
+        Reply::Done => false,
+        Reply::Made(_) => false,
+        Reply::Status { .. } => false,
         Reply::Unit {
             unit,
             color,
@@ -44,52 +58,73 @@ fn single(s: Survey, v: u16) -> bool {
             place,
             single,
         } => single,
-        _ => false,
+        Reply::Link { .. } => false,
+        Reply::Read { .. } => false,
+        Reply::Written(_) => false,
     }
 }
 
-// The question about a unit that the site lacks is refused.
-fn singles(s: Survey) -> [bool; 5] {
-    let mut all = [false; 5];
-    let mut v: u16 = 0;
-    while v < MOST {
-        all[v as usize] = single(s, v);
-        v += 1;
-    }
-    all
+// Whether the library calls unit `v` a single point; the question about one that the site lacks is refused.
+fn single(s: Survey, v: u16) -> bool
+    ensures { λ r. ⌜ r ≡ toldSingle (unitAnswer v (of s) .reply) ⌝ }
+{
+    let answer = value_calls::unit(s, v);
+    let reply = answer.reply;
+    told(reply)
 }
 
-// The same with the first `end` words.
-fn surveyed(units: u16, end: usize, words: &[u16]) -> [bool; 5] {
-    if end <= words.len() {
-        singles(ended(begun(units, &words[..end])))
-    } else {
-        [false; 5]
-    }
+fn singles(s: Survey) -> [bool; 5]
+    ensures { λ r. ⌜ r ≡ toldSingle (unitAnswer 0 (of s) .reply) ∷ toldSingle (unitAnswer 1 (of s) .reply)
+        ∷ toldSingle (unitAnswer 2 (of s) .reply) ∷ toldSingle (unitAnswer 3 (of s) .reply)
+        ∷ toldSingle (unitAnswer 4 (of s) .reply) ∷ [] ⌝ }
+{
+    [
+        single(s, 0),
+        single(s, 1),
+        single(s, 2),
+        single(s, 3),
+        single(s, 4),
+    ]
 }
 
-fn site(units: u16, number: u16) {
+// The single points of a table that passes.
+fn surveyed(units: u16, words: &[u16]) -> [bool; 5]
+    requires { ⌜ storedLoadRefusal (opened units (now words)) ≡ 0 ⌝ }
+    ensures { λ r. ⌜ r ≡ singlesIn units (surveyed (opened units (now (words .entry)))) ⌝ }
+{
+    singles(ended(begun(units, words)))
+}
+
+// The line of the site at place `i`, at the front of `out`.
+fn line_at(i: u16, out: &mut [u8])
+    requires { ⌜ i < 1099 ⌝ }
+    ensures { λ _. ⌜ now (out .exit) ≡ lineOver (bodyOf (siteAt i)) (now (out .entry)) ⌝ }
+{
+    let site = listing::site_at(i);
+    let units = site.units;
+    let number = site.number;
     let table = small_tables::table(units, number);
     let words = table.words;
-    let mask = small_tables::mask(surveyed(units, table.count as usize, &words));
-    let mut line = [0u8; 15];
-    small_tables::line(units, number, mask, &mut line);
-    io::write_all(STDOUT_FILENO, &line);
+    let end = table.count as usize;
+    let mask = small_tables::mask(surveyed(units, &words[..end]));
+    small_tables::line(units, number, mask, out);
 }
 
-fn sites(units: u16) {
-    let count = tables_of(units);
-    let mut number: u16 = 0;
-    while number < count {
-        site(units, number);
-        number += 1;
+// The lines of all sites, in the order of the listing.
+fn lines(out: &mut [u8])
+    requires { ⌜ PRINTED ≤ length (now out) ⌝ }
+    ensures { λ _. ⌜ now (out .exit) ≡ printed ++ drop PRINTED (now (out .entry)) ⌝ }
+{
+    let mut i: u16 = 0;
+    while i < SITES {
+        let at = LINE * (i as usize);
+        line_at(i, &mut out[at..]);
+        i += 1;
     }
 }
 
 fn main() {
-    let mut units: u16 = 1;
-    while units <= MOST {
-        sites(units);
-        units += 1;
-    }
+    let mut out = [0u8; 16485];
+    lines(&mut out);
+    io::write_all(STDOUT_FILENO, &out);
 }

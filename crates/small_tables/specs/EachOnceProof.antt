@@ -46,7 +46,7 @@ of-with y a b (suc k) l h = go (either (eqb y b)) (λ m. of-with y a (suc b) k m
     go (inl e) ih = inl (refl, eqb-true y b e)
     go (inr e) ih = inr (ih (omega (arith, eqb-false y b e)))
 
-from-of : (x y a k : ℕ) → Listed x y (pairsFrom a k) → (a ≤ x) × (x < y) × (y < a + k)
+pub from-of : (x y a k : ℕ) → Listed x y (pairsFrom a k) → (a ≤ x) × (x < y) × (y < a + k)
 from-of x y a zero h = absurd h
 from-of x y a (suc k) h = go (listed-cases x y (pairsWith a (suc a) k) (pairsFrom (suc a) k) h) (from-of x y (suc a) k)
   where
@@ -73,7 +73,7 @@ of-from x y a (suc k) l h u = go (either (eqb x a)) (λ m. of-from x y (suc a) k
     go (inr e) ih = listed-right x y (pairsWith a (suc a) k) (pairsFrom (suc a) k) (ih (omega (arith, eqb-false x a e)))
 
 -- no pair stands twice
-Apart : List (ℕ × ℕ) → Type 0
+unfoldable pub Apart : List (ℕ × ℕ) → Type 0
 Apart [] = Unit {0}
 Apart (p ∷ ps) = (Listed (p .0) (p .1) ps → ⊥) × Apart ps
 
@@ -95,7 +95,7 @@ unfolding Apart
 apart-with a b zero = tt
 apart-with a b (suc k) = (λ m. let w = with-of a b a (suc b) k m in omega (arith, w .1), apart-with a (suc b) k)
 
-apart-from : (a k : ℕ) → Apart (pairsFrom a k)
+pub apart-from : (a k : ℕ) → Apart (pairsFrom a k)
 unfolding Apart
 apart-from a zero = tt
 apart-from a (suc k) =
@@ -105,7 +105,7 @@ apart-from a (suc k) =
 -- ---- numbers and their bits
 
 -- a pair that is chosen is one of the list
-chosen-of : (a b : ℕ) (ps : List (ℕ × ℕ)) (k : ℕ) → Listed a b (chosen ps k) → Listed a b ps
+pub chosen-of : (a b : ℕ) (ps : List (ℕ × ℕ)) (k : ℕ) → Listed a b (chosen ps k) → Listed a b ps
 chosen-of a b [] k h = absurd h
 chosen-of a b (p ∷ ps) k h = go (eqb (k % 2) 1) (chosen-of a b ps (k / 2)) h
   where

@@ -126,7 +126,7 @@ begin-with : (n number : ℕ) → 2 * length (pairsOf n) ≤ 20 → Ahead (blank
 unfolding blank laid tableOf
 begin-with n number l = record { t = []; words = refl; count = refl; fits = omega (arith, l); whole = refl }
 
-few-pairs : (n : ℕ) → n ≤ 5 → 2 * length (pairsOf n) ≤ 20
+pub few-pairs : (n : ℕ) → n ≤ 5 → 2 * length (pairsOf n) ≤ 20
 few-pairs zero l = omega arith
 few-pairs (suc zero) l = omega arith
 few-pairs (suc (suc zero)) l = omega arith

@@ -5,7 +5,9 @@ ghost use Prim.Native.Nat.{_+_, _-_, _≤_, _<_, min};
 ghost use lib.ListN.{length};
 ghost use Rattle.file_frames.specs.Frame.{lineOver};
 ghost use Rattle.small_tables.specs.Small.{tableOf, maskOf, smallBody};
-ghost use Rattle.small_tables.specs.SmallLaws.{laid, blank, takes, rowBy, rowsBy};
+ghost use Rattle.small_tables.specs.SmallLaws.{laid, blank, takes, rowBy};
+
+pub mod listing;
 
 // The most units of a small site, and the words of all its pairs.
 pub const MOST: u16 = 5;
@@ -31,7 +33,7 @@ pub fn table(units: u16, number: u16) -> Small
     ensures words { λ r. ⌜ r .words ≡ laid (tableOf (min units 5) number) ⌝ }
     ensures count { λ r. ⌜ r .count ≡ length (tableOf (min units 5) number) ⌝ }
 {
-    let n = table_values::least_of(units, MOST);
+    let n = base_choice::least_of(units, MOST);
     let mut x = none_of(number);
     let mut a = 0;
     while a < n {
@@ -97,7 +99,7 @@ pub fn mask(singles: [bool; 5]) -> u8
     let mut bit: u16 = 1;
     let mut i: usize = 0;
     while i < 5 {
-        set += table_values::choose(singles[i], bit, 0);
+        set += base_choice::choose(singles[i], bit, 0);
         bit *= 2;
         i += 1;
     }

@@ -9,21 +9,20 @@ use lib.ListN.{replicate}
 use Rattle.base_lists.specs.Tests.{not-both}
 use Rattle.spec_state.specs.declared.reply.Reply.the-variants.{Done}
 use Rattle.spec_machine.specs.State.{State, finished}
-use Rattle.spec_machine.specs.Load.{Input, loadRefusal, loaded}
-use Rattle.spec_machine.specs.LoadLaws.{load-accepted}
 use Rattle.spec_machine.specs.WellFormed.{wellFormed}
 use Rattle.spec_machine.specs.Step.{step}
-use Rattle.spec_machine.specs.StepLaws.{loaded-wellFormed, step-wellFormed}
-use Rattle.spec_machine.specs.Calls.{Answer, roundAnswer, roundRefusal, loadAnswer}
+use Rattle.spec_machine.specs.StepLaws.{step-wellFormed}
+use Rattle.spec_machine.specs.Calls.{Answer, roundAnswer, roundRefusal}
 use Rattle.spec_claim.specs.Play.{Call, round, play, usedBy, used}
-use Rattle.spec_claim.specs.Claim.{Claim, fresh}
+use Rattle.spec_claim.specs.Claim.{Claim}
 use Rattle.spec_claim.specs.ClaimProof.{claim}
 use Rattle.spec_channel.specs.Office
 use Rattle.spec_channel.specs.OfficeLaws.{Rounds, none, one, waiting-parts, rounds-made}
 use Rattle.spec_channel.specs.OfficeLaws
 use Rattle.spec_channel.specs.Fairness.{InOrder, round-soon, play-order, tick-goes, tick-rests}
 use Rattle.spec_channel.specs.TickCauses.{tick-first-cause, tick-some-cause}
-use Rattle.spec_channel.specs.Channel.{Gives, Channel, OneChannel}
+use Rattle.spec_channel.specs.LoadingLaws.{load-done, load-kept}
+use Rattle.spec_channel.specs.Channel.{Gives, Channel, AnyOffice, OneChannel}
 
 -- ---- rounds of a seat are round calls
 
@@ -59,17 +58,13 @@ rounds-played (suc k) s e w (one due r) =
           ∙ (ap (λ (n : ℕ). 1 + n) q ∙ more)),
     )
 
-load-done : (input : Input) (s : State) → loadRefusal input ≡ 0 →
-    loadAnswer input s ≡ record { state = loaded input; reply = Done }
-unfolding loadAnswer
-load-done input s e = rw e refl
-
 -- demand 3 of a survey after rounds of its own
-rounds-claim : (input : Input) (k : ℕ) (e : State) → loadRefusal input ≡ 0 → Rounds k (loaded input) e
-    → Claim input (loaded input) (replicate k round) e k
-rounds-claim input k e a r =
-    let (p, q) = rounds-played k (loaded input) e (loaded-wellFormed input (load-accepted input a)) r in
-    let c = claim input (loaded input) (fresh (loaded input) (load-done input (loaded input) a)) (replicate k round) in
+rounds-claim : (load : Office.Loading) (k : ℕ) (e : State) → Office.ownRefusal load ≡ 0 →
+    Rounds k (Office.surveyOf load) e
+    → Claim (Office.inputOf load) (Office.surveyOf load) (replicate k round) e k
+rounds-claim load k e a r =
+    let (p, q) = rounds-played k (Office.surveyOf load) e (load-kept load a) r in
+    let c = claim (Office.inputOf load) (Office.surveyOf load) (load-done load a) (replicate k round) in
     rw (p, q) at c
 
 -- ---- a seat that does not wait
@@ -78,18 +73,37 @@ rests-still : (k : ℕ) (s e : State) → Office.waiting s ≡ false → Rounds 
 rests-still zero s e w none = refl
 rests-still (suc k) s e w (one due r) = absurd (not-both (Office.waiting s) due w)
 
+-- ---- any office
+
+pub any-office : AnyOffice
+any-office o eight =
+    record {
+      cause = tick-first-cause o;
+      refused = tick-some-cause o;
+      gives = gives;
+      unmoved = OfficeLaws.tick-refused o;
+      missing = OfficeLaws.seat-missing;
+      own = OfficeLaws.seat-there;
+      takes = λ i load e. record {
+        survey = OfficeLaws.load-same i load o eight e;
+        others = λ j h. OfficeLaws.load-other i load o j (λ q _. h q);
+        turn = OfficeLaws.load-turn i load o;
+      };
+      left = λ i load h. OfficeLaws.load-refused i load o h;
+    }
+  where
+    gives : Office.tickRefusal o ≡ 0 → Gives o (Office.tick o)
+    gives e =
+        let turned : Office.tick o .last ≡ Office.served o = rw (OfficeLaws.tick-made o e) refl in
+        record {
+          next = rw turned (OfficeLaws.served-next o e);
+          round = rw turned (OfficeLaws.tick-same o eight e);
+          others = λ j h. OfficeLaws.tick-other o j (λ _ q. h (turned ∙ q));
+        }
+
 -- ---- an office in order
 
 module _ (o : Office.Office) (I : InOrder o) where
-  gives : Office.tickRefusal o ≡ 0 → Gives o (Office.tick o)
-  gives e =
-      let turned : Office.tick o .last ≡ Office.served o = rw (OfficeLaws.tick-made o e) refl in
-      record {
-        next = rw turned (OfficeLaws.served-next o e);
-        round = rw turned (OfficeLaws.tick-same o (I .eight) e);
-        others = λ j h. OfficeLaws.tick-other o j (λ _ q. h (turned ∙ q));
-      }
-
   sound : Office.tickRefusal o ≡ 10 → ⊥
   sound e = go (either-waits)
     where
@@ -103,34 +117,25 @@ module _ (o : Office.Office) (I : InOrder o) where
   channel : Channel o
   channel =
       record {
-        cause = tick-first-cause o;
-        refused = tick-some-cause o;
+        step = any-office o (I .eight);
         sound = sound;
-        gives = gives;
-        unmoved = OfficeLaws.tick-refused o;
-        missing = OfficeLaws.seat-missing;
-        own = OfficeLaws.seat-there;
-        takes = λ i input e. record {
-          survey = OfficeLaws.load-same i input o (I .eight) e;
-          others = λ j h. OfficeLaws.load-other i input o j (λ q _. h q);
-          turn = OfficeLaws.load-turn i input o;
-        };
-        left = λ i input h. OfficeLaws.load-refused i input o h;
         soon = λ i h w es l t. round-soon es o i I h w l t;
         rests = λ i w es l. rests-still _ (Office.seat i o) (Office.seat i (Office.play es o)) w
             (rounds-made i es o (I .eight) l);
-        alone = λ i input e es l. alone i input e es l;
+        alone = alone;
       }
     where
-      alone : (i : ℕ) (input : Input) → Office.seatRefusal i input ≡ 0 → (es : List Office.Event) → Office.NotAgain i es
-          → Claim input (loaded input) (replicate (Office.roundsOf i es (Office.loadSeat i input o)) round)
-          (Office.seat i (Office.play es (Office.loadSeat i input o)))
-          (Office.roundsOf i es (Office.loadSeat i input o))
-      alone i input e es l =
-          let r = rounds-made i es (Office.loadSeat i input o) (OfficeLaws.load-length i input o ∙ I .eight) l in
-          rounds-claim input (Office.roundsOf i es (Office.loadSeat i input o))
-          (Office.seat i (Office.play es (Office.loadSeat i input o)))
-          (OfficeLaws.seat-accepted i input e .1) (rw (OfficeLaws.load-same i input o (I .eight) e) at r)
+      alone : (i : ℕ) (load : Office.Loading) → Office.seatRefusal i load ≡ 0 → (es : List Office.Event) →
+          Office.NotAgain i es
+          → Claim (Office.inputOf load) (Office.surveyOf load)
+          (replicate (Office.roundsOf i es (Office.loadSeat i load o)) round)
+          (Office.seat i (Office.play es (Office.loadSeat i load o)))
+          (Office.roundsOf i es (Office.loadSeat i load o))
+      alone i load e es l =
+          let r = rounds-made i es (Office.loadSeat i load o) (OfficeLaws.load-length i load o ∙ I .eight) l in
+          rounds-claim load (Office.roundsOf i es (Office.loadSeat i load o))
+          (Office.seat i (Office.play es (Office.loadSeat i load o)))
+          (OfficeLaws.seat-accepted i load e .1) (rw (OfficeLaws.load-same i load o (I .eight) e) at r)
 
 pub one-channel : OneChannel
 one-channel start b es = channel (Office.play es start)

@@ -13,14 +13,13 @@ use Rattle.base_lists.specs.Folds.{some}
 use Rattle.base_lists.specs.Some.{some-exact}
 use Rattle.base_lists.specs.Tests.{and-left, and-right, refuted, not-both}
 use Rattle.spec_machine.specs.State.{State}
-use Rattle.spec_machine.specs.Load.{Input, loaded}
-use Rattle.spec_machine.specs.LoadLaws.{load-accepted}
 use Rattle.spec_machine.specs.WellFormed.{wellFormed}
 use Rattle.spec_machine.specs.Step.{step}
-use Rattle.spec_machine.specs.StepLaws.{loaded-wellFormed, step-wellFormed}
+use Rattle.spec_machine.specs.StepLaws.{step-wellFormed}
 use Rattle.spec_channel.specs.Turns.{seatAfter, Next}
 use Rattle.spec_channel.specs.Office
 use Rattle.spec_channel.specs.OfficeLaws
+use Rattle.spec_channel.specs.LoadingLaws.{load-kept}
 
 -- eight seats, each empty or kept, and a turn that names one
 pub record InOrder (o : Office.Office) : Type 0 where
@@ -65,23 +64,23 @@ module _ (o : Office.Office) (I : InOrder o) where
 
 -- ---- it stays in order
 
-pub load-order : (i : ℕ) (input : Input) (o : Office.Office) → InOrder o → InOrder (Office.loadSeat i input o)
-load-order i input o I =
+pub load-order : (i : ℕ) (load : Office.Loading) (o : Office.Office) → InOrder o → InOrder (Office.loadSeat i load o)
+load-order i load o I =
     record {
-      eight = OfficeLaws.load-length i input o ∙ I .eight;
-      turn = rw (OfficeLaws.load-turn i input o) (I .turn);
-      sound = λ j h. go j h (ℕ-discrete i j) (ℕ-discrete (Office.seatRefusal i input) 0);
+      eight = OfficeLaws.load-length i load o ∙ I .eight;
+      turn = rw (OfficeLaws.load-turn i load o) (I .turn);
+      sound = λ j h. go j h (ℕ-discrete i j) (ℕ-discrete (Office.seatRefusal i load) 0);
     }
   where
-    go : (j : ℕ) → j < 8 → Dec (i ≡ j) → Dec (Office.seatRefusal i input ≡ 0)
-        → (Office.empty (Office.seat j (Office.loadSeat i input o)) ≡ true)
-        ⊎ (wellFormed (Office.seat j (Office.loadSeat i input o)) ≡ true)
+    go : (j : ℕ) → j < 8 → Dec (i ≡ j) → Dec (Office.seatRefusal i load ≡ 0)
+        → (Office.empty (Office.seat j (Office.loadSeat i load o)) ≡ true)
+        ⊎ (wellFormed (Office.seat j (Office.loadSeat i load o)) ≡ true)
     go j h (yes q) (yes e) =
-        let s : Office.seat j (Office.loadSeat i input o) ≡ loaded input =
-        rw (sym q) (OfficeLaws.load-same i input o (I .eight) e) in
-        inr (rw s (loaded-wellFormed input (load-accepted input (OfficeLaws.seat-accepted i input e .1))))
-    go j h (no q) d = rw (OfficeLaws.load-other i input o j (λ p _. q p)) (I .sound j h)
-    go j h (yes q) (no e) = rw (OfficeLaws.load-other i input o j (λ _ p. e p)) (I .sound j h)
+        let s : Office.seat j (Office.loadSeat i load o) ≡ Office.surveyOf load =
+        rw (sym q) (OfficeLaws.load-same i load o (I .eight) e) in
+        inr (rw s (load-kept load (OfficeLaws.seat-accepted i load e .1)))
+    go j h (no q) d = rw (OfficeLaws.load-other i load o j (λ p _. q p)) (I .sound j h)
+    go j h (yes q) (no e) = rw (OfficeLaws.load-other i load o j (λ _ p. e p)) (I .sound j h)
 
 pub tick-order : (o : Office.Office) → InOrder o → InOrder (Office.tick o)
 tick-order o I =
@@ -113,7 +112,7 @@ tick-order o I =
 
 pub play-order : (es : List Office.Event) (o : Office.Office) → InOrder o → InOrder (Office.play es o)
 play-order [] o I = I
-play-order (Office.loads i input ∷ es) o I = play-order es (Office.loadSeat i input o) (load-order i input o I)
+play-order (Office.loads i load ∷ es) o I = play-order es (Office.loadSeat i load o) (load-order i load o I)
 play-order (Office.ticks ∷ es) o I = play-order es (Office.tick o) (tick-order o I)
 
 -- ---- the turn comes round
@@ -132,9 +131,9 @@ comes : (es : List Office.Event) (o : Office.Office) (i k : ℕ) → InOrder o �
     Office.waits o i ≡ true
     → Office.NotAgain i es → k < Office.tickCount es → 1 ≤ Office.roundsOf i es o
 comes [] o i k I h a p w l t = absurd (omega arith)
-comes (Office.loads j input ∷ es) o i k I h a p w l t =
-    comes es (Office.loadSeat j input o) i k (load-order j input o I) h a (rw (OfficeLaws.load-turn j input o) p)
-    (rw (OfficeLaws.load-other j input o i (l .0)) w) (l .1) t
+comes (Office.loads j load ∷ es) o i k I h a p w l t =
+    comes es (Office.loadSeat j load o) i k (load-order j load o I) h a (rw (OfficeLaws.load-turn j load o) p)
+    (rw (OfficeLaws.load-other j load o i (l .0)) w) (l .1) t
 comes (Office.ticks ∷ es) o i k I h a p w l t =
     go (ℕ-discrete (Office.served o) i) (λ m. comes es (Office.tick o) i m (tick-order o I) h)
   where

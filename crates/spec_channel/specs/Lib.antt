@@ -2,6 +2,7 @@ pub mod Turns
 pub mod TurnLaws
 pub mod Office
 pub mod OfficeLaws
+pub mod LoadingLaws
 pub mod TickLaws
 pub mod Fairness
 pub mod TickCauses

@@ -15,7 +15,7 @@ use Rattle.base_lists.specs.Some.{some-exact, some-none}
 use Rattle.base_lists.specs.Tests.{either, and-left, and-right, or-false-left, or-false-right, refuted}
 use Rattle.table.specs.RefusalLaws.{passed-test}
 use Rattle.spec_machine.specs.State.{State, finished}
-use Rattle.spec_machine.specs.Load.{Input, loadRefusal, loaded, unloaded}
+use Rattle.spec_machine.specs.Load.{unloaded}
 use Rattle.spec_machine.specs.Step.{step}
 use Rattle.spec_channel.specs.Turns.{Next}
 use Rattle.spec_channel.specs.TurnLaws.{picked-next}
@@ -32,60 +32,60 @@ waiting-parts s e = (
 
 -- ---- a load of a seat
 
-module _ (i : ℕ) (input : Input) where
-  -- 23 exactly for a seat above 7; else load's own number
-  pub seat-missing : 7 < i → Office.seatRefusal i input ≡ 23
+module _ (i : ℕ) (load : Office.Loading) where
+  -- 23 exactly for a seat above 7; else the load's own number
+  pub seat-missing : 7 < i → Office.seatRefusal i load ≡ 23
   unfolding Office.seatRefusal
   seat-missing h = rw (lt-ltb 7 i h) refl
 
-  pub seat-there : i < 8 → Office.seatRefusal i input ≡ loadRefusal input
+  pub seat-there : i < 8 → Office.seatRefusal i load ≡ Office.ownRefusal load
   unfolding Office.seatRefusal
   seat-there h = rw (refuted (ltb 7 i) (λ e. omega (arith, ltb-true 7 i e))) refl
 
-  pub seat-accepted : Office.seatRefusal i input ≡ 0 → (i < 8) × (loadRefusal input ≡ 0)
+  pub seat-accepted : Office.seatRefusal i load ≡ 0 → (i < 8) × (Office.ownRefusal load ≡ 0)
   seat-accepted e = go (decLt i 8)
     where
-      go : Dec (i < 8) → (i < 8) × (loadRefusal input ≡ 0)
+      go : Dec (i < 8) → (i < 8) × (Office.ownRefusal load ≡ 0)
       go (yes h) = (h, sym (seat-there h) ∙ e)
       go (no h) = let z : _≡_ {A = ℕ} 23 0 = sym (seat-missing (omega arith)) ∙ e in absurd (omega arith)
 
-module _ (i : ℕ) (input : Input) (o : Office.Office) where
-  pub load-made : Office.seatRefusal i input ≡ 0 →
-      Office.loadSeat i input o ≡ record { seats = set (o .seats) i (loaded input); last = o .last }
+module _ (i : ℕ) (load : Office.Loading) (o : Office.Office) where
+  pub load-made : Office.seatRefusal i load ≡ 0 →
+      Office.loadSeat i load o ≡ record { seats = set (o .seats) i (Office.surveyOf load); last = o .last }
   unfolding Office.loadSeat
-  load-made e = rw (eq-eqb (Office.seatRefusal i input) 0 e) refl
+  load-made e = rw (eq-eqb (Office.seatRefusal i load) 0 e) refl
 
-  pub load-refused : (Office.seatRefusal i input ≡ 0 → ⊥) → Office.loadSeat i input o ≡ o
+  pub load-refused : (Office.seatRefusal i load ≡ 0 → ⊥) → Office.loadSeat i load o ≡ o
   unfolding Office.loadSeat
-  load-refused h = rw (ne-eqb (Office.seatRefusal i input) 0 h) refl
+  load-refused h = rw (ne-eqb (Office.seatRefusal i load) 0 h) refl
 
   -- a seat that isn't loaded again stays, and so do the number of seats and the turn
-  pub load-other : (j : ℕ) → (i ≡ j → Office.seatRefusal i input ≡ 0 → ⊥) →
-      Office.seat j (Office.loadSeat i input o) ≡ Office.seat j o
-  load-other j h = go (ℕ-discrete (Office.seatRefusal i input) 0)
+  pub load-other : (j : ℕ) → (i ≡ j → Office.seatRefusal i load ≡ 0 → ⊥) →
+      Office.seat j (Office.loadSeat i load o) ≡ Office.seat j o
+  load-other j h = go (ℕ-discrete (Office.seatRefusal i load) 0)
     where
-      go : Dec (Office.seatRefusal i input ≡ 0) → Office.seat j (Office.loadSeat i input o) ≡ Office.seat j o
+      go : Dec (Office.seatRefusal i load ≡ 0) → Office.seat j (Office.loadSeat i load o) ≡ Office.seat j o
       go (no n) = rw (load-refused n) refl
-      go (yes e) = rw (load-made e) (getD-set-other (o .seats) i j (loaded input) unloaded (λ q. h (sym q) e))
+      go (yes e) = rw (load-made e) (getD-set-other (o .seats) i j (Office.surveyOf load) unloaded (λ q. h (sym q) e))
 
-  pub load-turn : Office.loadSeat i input o .last ≡ o .last
-  load-turn = go (ℕ-discrete (Office.seatRefusal i input) 0)
+  pub load-turn : Office.loadSeat i load o .last ≡ o .last
+  load-turn = go (ℕ-discrete (Office.seatRefusal i load) 0)
     where
-      go : Dec (Office.seatRefusal i input ≡ 0) → Office.loadSeat i input o .last ≡ o .last
+      go : Dec (Office.seatRefusal i load ≡ 0) → Office.loadSeat i load o .last ≡ o .last
       go (no n) = rw (load-refused n) refl
       go (yes e) = rw (load-made e) refl
 
-  pub load-length : length (Office.loadSeat i input o .seats) ≡ length (o .seats)
-  load-length = go (ℕ-discrete (Office.seatRefusal i input) 0)
+  pub load-length : length (Office.loadSeat i load o .seats) ≡ length (o .seats)
+  load-length = go (ℕ-discrete (Office.seatRefusal i load) 0)
     where
-      go : Dec (Office.seatRefusal i input ≡ 0) → length (Office.loadSeat i input o .seats) ≡ length (o .seats)
+      go : Dec (Office.seatRefusal i load ≡ 0) → length (Office.loadSeat i load o .seats) ≡ length (o .seats)
       go (no n) = rw (load-refused n) refl
-      go (yes e) = rw (load-made e) (length-set (o .seats) i (loaded input))
+      go (yes e) = rw (load-made e) (length-set (o .seats) i (Office.surveyOf load))
 
-  pub load-same : length (o .seats) ≡ 8 → Office.seatRefusal i input ≡ 0 →
-      Office.seat i (Office.loadSeat i input o) ≡ loaded input
-  load-same l e = let h = seat-accepted i input e .0 in rw (load-made e)
-      (getD-set-same (o .seats) i (loaded input) unloaded (omega (arith, h, l)))
+  pub load-same : length (o .seats) ≡ 8 → Office.seatRefusal i load ≡ 0 →
+      Office.seat i (Office.loadSeat i load o) ≡ Office.surveyOf load
+  load-same l e = let h = seat-accepted i load e .0 in rw (load-made e)
+      (getD-set-same (o .seats) i (Office.surveyOf load) unloaded (omega (arith, h, l)))
 
 -- some seat passes a test, or none does
 pub some-or-none : (p : ℕ → Bool) → ((i : ℕ) × (i < 8) × (p i ≡ true)) ⊎ ((i : ℕ) → i < 8 → p i ≡ false)
@@ -179,9 +179,9 @@ pub data Rounds : ℕ → State → State → Type 0 where
 pub rounds-made : (i : ℕ) (es : List Office.Event) (o : Office.Office) → length (o .seats) ≡ 8 → Office.NotAgain i es
     → Rounds (Office.roundsOf i es o) (Office.seat i o) (Office.seat i (Office.play es o))
 rounds-made i [] o l a = none
-rounds-made i (Office.loads j input ∷ es) o l a =
-    let r = rounds-made i es (Office.loadSeat j input o) (load-length j input o ∙ l) (a .1) in
-    rw (load-other j input o i (a .0)) at r
+rounds-made i (Office.loads j load ∷ es) o l a =
+    let r = rounds-made i es (Office.loadSeat j load o) (load-length j load o ∙ l) (a .1) in
+    rw (load-other j load o i (a .0)) at r
 rounds-made i (Office.ticks ∷ es) o l a =
     go (ℕ-discrete (Office.tickRefusal o) 0) (ℕ-discrete (Office.served o) i)
     (rounds-made i es (Office.tick o) (tick-length o ∙ l) a)

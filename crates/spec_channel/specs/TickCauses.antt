@@ -5,7 +5,7 @@ use mathlib.Core.Logic.{_⊎_, _↔_}
 use mathlib.Core.List.{List, [], _∷_}
 use Prim.Native.Nat.{ℕ, _<_}
 use native.Mathlib.Omega.{arith}
-use lib.Dec.{ltb}
+use lib.Dec.{eqb, ltb}
 use borrow.Author.Tests.{ltb-true, lt-ltb}
 use Rattle.base_lists.specs.Folds.{some}
 use Rattle.base_lists.specs.Some.{some-exact}
@@ -17,23 +17,32 @@ use Rattle.spec_machine.specs.Kept.{Kept, kept-exact}
 use Rattle.spec_machine.specs.WellFormed.{wellFormed}
 use Rattle.spec_channel.specs.Office
 
+-- no survey: neither units nor a stage
+abbrev pub Empty : State → Type 0
+Empty s = (units s ≡ 0) × (s .clock .stage ≡ 0)
+
+pub empty-exact : (s : State) → (Office.empty s ≡ true) ↔ Empty s
+unfolding Office.empty
+empty-exact s = and-exact (eqb (units s) 0) (eqb (s .clock .stage) 0) (eq-exact (units s) 0)
+    (eq-exact (s .clock .stage) 0)
+
 -- a loaded survey that isn't finished; a loaded one that isn't kept
 abbrev pub Waits : State → Type 0
-Waits s = (units s ≡ 0 → ⊥) × (s .clock .stage ≡ FINISHED → ⊥)
+Waits s = (Empty s → ⊥) × (s .clock .stage ≡ FINISHED → ⊥)
 
 abbrev pub Spoilt : State → Type 0
-Spoilt s = (units s ≡ 0 → ⊥) × (Kept s → ⊥)
+Spoilt s = (Empty s → ⊥) × (Kept s → ⊥)
 
 pub waits-exact : (s : State) → (Office.waiting s ≡ true) ↔ Waits s
 unfolding Office.waiting
 waits-exact s =
-    and-exact (not (Office.empty s)) (not (finished s)) (not-exact (Office.empty s) (eq-exact (units s) 0))
+    and-exact (not (Office.empty s)) (not (finished s)) (not-exact (Office.empty s) (empty-exact s))
     (not-exact (finished s) (eq-exact (s .clock .stage) FINISHED))
 
 pub spoilt-exact : (s : State) → (Office.spoilt s ≡ true) ↔ Spoilt s
 unfolding Office.spoilt
 spoilt-exact s =
-    and-exact (not (Office.empty s)) (not (wellFormed s)) (not-exact (Office.empty s) (eq-exact (units s) 0))
+    and-exact (not (Office.empty s)) (not (wellFormed s)) (not-exact (Office.empty s) (empty-exact s))
     (not-exact (wellFormed s) (kept-exact s))
 
 pub some-is : (p : ℕ → Bool) (P : ℕ → Type 0) → ((i : ℕ) → (p i ≡ true) ↔ P i) →
@@ -43,7 +52,7 @@ some-is p P x = (
   λ w. some-exact 8 p .1 (w .0, w .1, x (w .0) .1 (w .2)),
 )
 
--- 10: the last-served number is above 7, or a loaded seat's survey isn't kept
+-- 10: the turn names no seat, or some loaded seat has a survey that isn't kept
 abbrev pub unsound : Office.Office → Reason
 unsound o =
     record {

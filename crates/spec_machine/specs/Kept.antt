@@ -21,7 +21,7 @@ use Rattle.spec_machine.specs.State.{units, links, words, FINISHED, MAX-
 use Rattle.spec_machine.specs.WellFormed.{unitTables, arcTables, linkTables, distTables, numberTables, tableOk}
 use Rattle.spec_machine.specs.WellFormed.{madeOk, clockOk, entriesOk, wellFormed}
 
--- the rounds of the stage are below its ceiling, zero at stage 11
+-- "the rounds of the stage are below its ceiling (zero at stage 11)"
 abbrev pub MadeOk : State → Type 0
 MadeOk s =
     ((s .clock .stage ≡ FINISHED) × (s .clock .made ≡ 0))

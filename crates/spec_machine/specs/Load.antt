@@ -1,4 +1,4 @@
--- Loading: every unit, link and list place and every distance absent, all else 0, stage 1.
+-- Loading: names of units, links and list places are absent, and so are distances; all else is 0; stage 1.
 use mathlib.Core.Bool.{Bool, not}
 use mathlib.Core.List.{List, [], _∷_, _++_}
 use Prim.Native.Nat.{ℕ}

@@ -49,7 +49,7 @@ FINISHED = 11
 abbrev pub finished : State → Bool
 finished s = eqb (s .clock .stage) FINISHED
 
--- all rounds are at most 804 and requests at most 8,158
+-- "all rounds are at most 804 and requests at most 8,158"
 abbrev pub MAX-ROUNDS : ℕ
 MAX-ROUNDS = 804
 

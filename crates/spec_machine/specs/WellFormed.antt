@@ -66,9 +66,9 @@ clockOk n c =
     && leb (c .rounds) MAX-ROUNDS
     && leb (c .requests) MAX-REQUESTS
 
--- every stored unit, list place or link is absent or names one that exists; no other stored number exceeds 2,048, save
--- that a distance may be absent; every level is in range (document 02, T-01); whether a plan was given is a stored
--- number (T-05)
+-- every stored name of a unit, list place or link is absent or names one that exists; distances are at most 2,048 or
+-- absent, other numbers at most 2,048; every level is in range (document 02, T-01); whether a plan was given is a
+-- stored number (T-05)
 unfoldable pub entriesOk : State → Bool
 entriesOk s =
     every (every (nameOk (units s))) (unitTables s)

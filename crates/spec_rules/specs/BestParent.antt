@@ -1,5 +1,5 @@
--- Document 02, T-02, in its words: of the neighbours visited in the round before, the one with the highest level, ties
--- to the least number. `Best` says it of a unit, `chosen-best` that the choice of a parent is this one, and `chosen` in
+-- Document 02, T-02: "of the neighbours visited in the round before, the one with the highest level, ties to the least
+-- number". `Best` says it of a unit, `chosen-best` that the choice of a parent is this one, and `chosen` in
 -- ParentChoice.antt that there is one wherever such a neighbour is.
 use mathlib.Core.Path.{_≡_, sym, _∙_}
 use mathlib.Core.Bool.{true}

@@ -30,6 +30,6 @@ abbrev pub total : List ℕ → ℕ
 total [] = 0
 total (c ∷ cs) = c + total cs
 
--- the current stage's ceiling less its rounds made, plus the later ceilings; 0 at stage 11
+-- what is left of this stage's ceiling, and the ceilings of the later stages; 0 at stage 11
 unfoldable pub countdown : ℕ → ℕ → ℕ → ℕ
 countdown n stage made = total (drop (stage - 1) (ceilings n)) - made

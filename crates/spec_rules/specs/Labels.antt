@@ -23,7 +23,7 @@ classOf ends parent pre color j = at color (namingUnit parent pre (endA ends j) 
 unfoldable pub classRound : ℕ → List ℕ → List ℕ → List ℕ → List ℕ → List ℕ → List ℕ
 classRound m ends parent pre color class = over m (classOf ends parent pre color) class
 
--- round two: each link's label is the least position in its class
+-- round two: the label of a link is the least position in its class
 unfoldable pub labelOf : ℕ → List ℕ → ℕ → ℕ
 labelOf m class j = least m (λ (k : ℕ). cond (eqb (at class k) (at class j)) k ABSENT) ABSENT
 
@@ -38,7 +38,7 @@ lone m label j = eqb (count m (λ (k : ℕ). eqb (at label k) (at label j))) 1
 abbrev pub touches : List ℕ → ℕ → ℕ → Bool
 touches ends u j = eqb (endA ends j) u || eqb (endB ends j) u
 
--- a unit is a single point if links of two labels meet at it
+-- "A unit is a single point if links of two labels meet at it."
 unfoldable pub single : ℕ → List ℕ → List ℕ → ℕ → Bool
 single m ends label u =
     some m

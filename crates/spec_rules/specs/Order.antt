@@ -13,7 +13,7 @@ use Rattle.spec_rules.specs.Tour.{isArc, isInto}
 abbrev pub reverseArc : ℕ → ℕ
 reverseArc a = cond (isInto a) (a + 1) (a - 1)
 
--- round one: a directed tree link is forward if its rank is below its reverse's
+-- round one: an arc is forward where its rank is below that of the arc back
 abbrev pub forwardMark : List ℕ → List ℕ → ℕ → ℕ
 forwardMark parent rank a = cond (isArc parent a && ltb (at rank a) (at rank (reverseArc a))) 1 0
 
@@ -41,7 +41,7 @@ secondSums n parent forward sum = over (2 * n) (secondSum parent forward) sum
 unfoldable pub secondJumps : ℕ → List ℕ → List ℕ → List ℕ
 secondJumps n pred jump = over (2 * n) (at pred) jump
 
--- the place of v: its forward sum, 0 at a root, plus the number of units in components of smaller color
+-- the place of v: its forward sum (at a root 0) and, besides, the units of all components of smaller color
 unfoldable pub placeOf : ℕ → List ℕ → List ℕ → List ℕ → ℕ → ℕ
 placeOf n color parent sum v =
     bounded (cond (isRoot parent v) 0 (at sum (2 * v)) + count n (λ (w : ℕ). ltb (at color w) (at color v)))

@@ -40,7 +40,7 @@ endPlace nd pre v = at pre v + at nd v
 unfoldable pub globalFirst : (ℕ → ℕ → ℕ) → ℕ → ℕ → List ℕ → List ℕ → List ℕ → List ℕ → List ℕ
 globalFirst op n m ends parent pre global = over n (localAt op n m ends parent pre) global
 
--- a unit begins with the local values of its last descendant's place, 0 where that is no place
+-- the values that a unit begins with: the local ones at its last descendant's place, 0 where that is no place
 abbrev pub rangeBegin : (ℕ → ℕ → ℕ) → ℕ → ℕ → List ℕ → List ℕ → List ℕ → List ℕ → ℕ → ℕ
 rangeBegin op n m ends parent nd pre v =
     cond (leb 1 (endPlace nd pre v) && leb (endPlace nd pre v) n)

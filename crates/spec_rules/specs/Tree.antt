@@ -52,8 +52,8 @@ bestNeighbor passes zero ends levels v = NOBODY
 bestNeighbor passes (suc m) ends levels v =
     overLink passes (levelAt levels m) (endA ends m) (endB ends m) v (bestNeighbor passes m ends levels v)
 
--- the choice of a parent: of the neighbours visited in the round before, the one with the highest level, ties to the
--- least number; absent where there is none. BestParent.antt has that it is this one
+-- the choice of a parent: "of the neighbours visited in the round before, the one with the highest level, ties to the
+-- least number"; absent where there is none. BestParent.antt proves that it is this one
 unfoldable pub chosenParent : ℕ → ℕ → List ℕ → List ℤ → List ℕ → ℕ → ℕ
 chosenParent m made ends levels dist v = bestNeighbor (visitedBefore made dist) m ends levels v .unit
 

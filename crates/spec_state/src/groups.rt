@@ -10,7 +10,7 @@ pub struct Table {
     pub levels: [i16; 1024],
 }
 
-// Stage 1 to 10, or 11 when finished; rounds made in this stage; all rounds made; all ranking requests.
+// The stage, 1 to 10 or 11 at the end; the rounds of this stage; all rounds; all requests of the rankings.
 pub struct Clock {
     pub stage: u16,
     pub made: u16,

@@ -4,7 +4,7 @@ pub enum Reply {
     Refused(u8),
     // A load or a round was made.
     Done,
-    // A run made so many rounds.
+    // A run: the number of rounds that it made.
     Made(u16),
     Status {
         stage: u16,
@@ -31,6 +31,6 @@ pub enum Reply {
         units: u16,
         links: u16,
     },
-    // A report or a file of so many characters was written.
+    // A report or a file was written: the number of its characters.
     Written(u32),
 }

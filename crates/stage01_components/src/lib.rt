@@ -23,7 +23,7 @@ pub struct Ran {
     pub made: u16,
 }
 
-// At most so many rounds.
+// Runs up to `budget` rounds of this stage.
 pub fn run(
     units: u16,
     links: u16,
@@ -65,7 +65,7 @@ fn leapt(
         (record { color = color; clock = clock; made = 0 })) ⌝ }
 {
     let goes_on = stage_clock::goes_on(fits, units, 1, 0, budget, clock);
-    if !table_values::both(pays(units, links, budget, ends), goes_on) {
+    if !base_choice::both(pays(units, links, budget, ends), goes_on) {
         return Landed {
             right: false,
             value: color,
@@ -78,7 +78,7 @@ fn leapt(
         units,
         links,
         ends,
-        table_values::greatest_of(2, units),
+        base_choice::greatest_of(2, units),
         budget,
         said,
         clock,
@@ -86,11 +86,11 @@ fn leapt(
     )
 }
 
-// Whether a leap pays: the budget covers a round for each unit, as many as there can be, and few rounds are not to be
-// expected, as of few units or where the first is linked with half of them. No more than a guess: what a run leaves
-// does not hang on it.
+// Whether a leap is likely to pay: the budget covers a round for each unit, which is the most there can be, and many
+// rounds are to be expected: there are not few units, and the first is not linked with half of them. This affects speed
+// only.
 fn pays(units: u16, links: u16, budget: u16, ends: &[u16; 2048]) -> bool {
-    if table_values::either(units < 32, budget < units) {
+    if base_choice::either(units < 32, budget < units) {
         return false;
     }
     first_named(links, ends) < units / 2
@@ -98,24 +98,17 @@ fn pays(units: u16, links: u16, budget: u16, ends: &[u16; 2048]) -> bool {
 
 // How often the first unit is named.
 fn first_named(links: u16, ends: &[u16; 2048]) -> u16 {
-    let words = 2 * table_values::least_of(links, 1024);
+    let words = 2 * base_choice::least_of(links, 1024);
     let mut count: u16 = 0;
     let mut i: u16 = 0;
     while i < words {
-        count += one_if(ends[i as usize] == 0);
+        count += base_choice::one_if(ends[i as usize] == 0);
         i += 1;
     }
     count
 }
 
-// 1 where the test holds, else 0.
-fn one_if(test: bool) -> u16
-    ensures { λ r. ⌜ r ≤ 1 ⌝ }
-{
-    if test { 1 } else { 0 }
-}
-
-// At most so many rounds, one after the other.
+// Runs up to `budget` rounds of this stage, one after the other.
 fn rounds(
     fits: bool,
     units: u16,
@@ -184,8 +177,8 @@ fn hear(n: u16, said: &[u16], a: u16, b: u16, t: &mut [u16])
     let y = said[at_b];
     lower(
         t,
-        table_values::choose(x < y, b, a),
-        table_values::least_of(x, y),
+        base_choice::choose(x < y, b, a),
+        base_choice::least_of(x, y),
     );
 }
 

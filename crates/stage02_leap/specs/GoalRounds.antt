@@ -21,7 +21,7 @@ use Rattle.spec_rules.specs.Tree.{visitedBefore, Neighbor, bestNeighbor, chosen
 use Rattle.spec_rules.specs.Tree.{treeEnds}
 use Rattle.spec_rules.specs.ParentChoice.{Joins, Found, by, lacking, found, best-cong, Choice, nearer, nobody, chosen}
 use Rattle.spec_rules.specs.ParentChoice.{visits-later}
-use Rattle.stage02_distances.specs.Goal.{Goal, oneNearer, nearest, shown, unvisited, parentLeft}
+use Rattle.stage02_leap.specs.Goal.{Goal, oneNearer, nearest, shown, unvisited, parentLeft}
 
 -- the best neighbour one nearer is one
 pub nearer-unit : (m : ℕ) (ends : List ℕ) (levels : List ℤ) (far : List ℕ) (v : ℕ) →

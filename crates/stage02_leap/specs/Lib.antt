@@ -1,1 +1,3 @@
+pub mod Goal
+pub mod Nearer
 pub mod GoalRounds

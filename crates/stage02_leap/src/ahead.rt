@@ -17,7 +17,7 @@ pub(crate) fn distances(units: u16, links: u16, made: u16, ends: &[u16], dist: [
 {
     let mut far = dist;
     let mut queue = tables::blank();
-    let seeds = begin(units, table_values::less(made, 1), &far, &mut queue);
+    let seeds = begin(units, base_choice::difference(made, 1), &far, &mut queue);
     let absent = missing(units, &far);
     if absent == 0 {
         return Found { far, tip: ABSENT };
@@ -34,7 +34,7 @@ pub(crate) fn distances(units: u16, links: u16, made: u16, ends: &[u16], dist: [
         &mut queue,
         seeds,
     );
-    let last = table_values::less(count, 1) as usize;
+    let last = base_choice::difference(count, 1) as usize;
     let tip = base_slices::word(&queue, last);
     Found { far, tip }
 }
@@ -70,13 +70,6 @@ fn hang<'a>(of: u16, i: u16, ends: &[u16], first: &'a mut [u16], next: &'a mut [
     first[v] = i;
 }
 
-// 1 where the test holds.
-fn one_if(test: bool) -> u16
-    ensures { λ r. ⌜ r ≤ 1 ⌝ }
-{
-    if test { 1 } else { 0 }
-}
-
 // The units at this distance stand in the queue.
 fn begin(units: u16, here: u16, far: &[u16], queue: &mut [u16]) -> u16
     requires { ⌜ (units ≤ 256) × (length (now far) ≡ 256) × (length (now queue) ≡ 256) ⌝ }
@@ -88,7 +81,7 @@ fn begin(units: u16, here: u16, far: &[u16], queue: &mut [u16]) -> u16
         let at = v as usize;
         let free = count as usize;
         queue[free] = v;
-        count += one_if(far[at] == here);
+        count += base_choice::one_if(far[at] == here);
         v += 1;
     }
     count
@@ -103,7 +96,7 @@ fn missing(units: u16, far: &[u16]) -> u16
     let mut v = 0;
     while v < units {
         let at = v as usize;
-        count += one_if(far[at] == ABSENT);
+        count += base_choice::one_if(far[at] == ABSENT);
         v += 1;
     }
     count

@@ -1,11 +1,12 @@
 // The rest of stage 2's rounds at once: a search finds distances ahead of them, and tests say whether these are right.
 // The search is proved to end and to stay within its tables, no more.
-use stage02_distances::Leap;
+use distances::Leap;
 ghost use mathlib.Core.Path.{_≡_};
-ghost use mathlib.Core.Bool.{true};
-ghost use Rattle.stage02_distances.specs.Goal.{Leapt};
+ghost use mathlib.Core.Bool.{true, false};
+ghost use Rattle.stage02_leap.specs.Goal.{Leapt};
 
 mod ahead;
+mod distances;
 
 // From the round after `made` rounds on.
 pub fn leap<'a>(
@@ -17,13 +18,14 @@ pub fn leap<'a>(
     parent: [u16; 256],
     dist: [u16; 256],
 ) -> Leap
-    ensures { λ r. ⌜ (r .right ≡ true → Leapt units links made (r .last) (now (ends .entry))
+    ensures leapt { λ r. ⌜ (r .right ≡ true → Leapt units links made (r .last) (now (ends .entry))
         (now (levels .entry)) parent dist (r .parent) (r .dist)) ⌝ }
+    ensures stays { λ r. ⌜ (r .right ≡ false → (r .parent ≡ parent) × (r .dist ≡ dist) × (r .last ≡ 0)) ⌝ }
 {
-    let count = table_values::least_of(units, 256);
-    let most = table_values::least_of(links, 1024);
+    let count = base_choice::least_of(units, 256);
+    let most = base_choice::least_of(links, 1024);
     let found = ahead::distances(count, most, made, ends, dist);
-    stage02_distances::tested(
+    distances::tested(
         units,
         links,
         made,

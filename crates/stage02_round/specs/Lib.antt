@@ -1,2 +1,4 @@
+pub mod Climb
+pub mod Comparison
 pub mod Wrapped
 pub mod Chosen

@@ -1,5 +1,8 @@
 // A round of breadth first (stage 2): one pass over the links gives each unit the parent that it would take, one over
 // the units both tables and the end.
+pub mod choice;
+pub mod planned;
+
 use table::ABSENT;
 ghost use mathlib.Core.Path.{_≡_};
 ghost use mathlib.Core.Bool.{not};
@@ -38,8 +41,8 @@ pub fn round<'a>(
     ensures ends { λ r. ⌜ r .ends ≡ treeEnds (min units 256) (min links 1024) made (wrapped (now (ends .entry)))
         (now (levels .entry)) (now (color .entry)) dist ⌝ }
 {
-    let count = table_values::least_of(units, 256);
-    let most = table_values::least_of(links, 1024);
+    let count = base_choice::least_of(units, 256);
+    let most = base_choice::least_of(links, 1024);
     let cand = chosen(most, made, ends, levels, &dist);
     visit(count, made, color, &cand, parent, dist)
 }
@@ -58,8 +61,8 @@ fn chosen<'a>(
         getD r v 0 ≡ chosenParent links made (wrapped (now (ends .entry))) (now (levels .entry)) (now (dist .entry)) v)
         ⌝ }
 {
-    let mut held = stage02_choice::no_levels();
-    let mut best = stage02_choice::no_units();
+    let mut held = choice::no_levels();
+    let mut best = choice::no_units();
     let mut j = 0;
     while j < links {
         let pos = j as usize;
@@ -90,9 +93,9 @@ fn offer_both(
 {
     let from_a = was_visited(made, dist, a);
     let from_b = was_visited(made, dist, b);
-    if table_values::either(from_a, from_b) {
-        stage02_choice::offer_if(from_b, held, best, a, level, b);
-        stage02_choice::offer_if(from_a, held, best, b, level, a);
+    if base_choice::either(from_a, from_b) {
+        choice::offer_if(from_b, held, best, a, level, b);
+        choice::offer_if(from_a, held, best, b, level, a);
     }
 }
 
@@ -102,7 +105,7 @@ fn was_visited(made: u16, dist: &[u16], w: u16) -> bool
     ensures { λ r. ⌜ r ≡ visitedBefore made (now (dist .entry)) w ⌝ }
 {
     let at = w as usize;
-    dist[at] == table_values::less(made, 1)
+    dist[at] == base_choice::difference(made, 1)
 }
 
 // The round, from the chosen parents: one pass over the units, without branches.
@@ -128,12 +131,12 @@ fn visit<'a>(
         let at = v as usize;
         let visited = visits(made, color, &dist, cand, v);
         let best = cand[at];
-        let taken = table_values::choose(made == 0, ABSENT, best);
-        let x = table_values::choose(visited, taken, parent[at]);
-        let d = table_values::choose(visited, made, dist[at]);
+        let taken = base_choice::choose(made == 0, ABSENT, best);
+        let x = base_choice::choose(visited, taken, parent[at]);
+        let d = base_choice::choose(visited, made, dist[at]);
         new_parent[at] = x;
         new_dist[at] = d;
-        any = table_values::either(any, visited);
+        any = base_choice::either(any, visited);
         v += 1;
     }
     After {
@@ -150,6 +153,6 @@ fn visits<'a>(made: u16, color: &'a [u16], dist: &'a [u16], cand: &'a [u16], v: 
 {
     let at = v as usize;
     let best = cand[at];
-    let later = table_values::both(dist[at] == ABSENT, best != ABSENT);
-    table_values::pick(made == 0, color[at] == v, later)
+    let later = base_choice::both(dist[at] == ABSENT, best != ABSENT);
+    base_choice::pick(made == 0, color[at] == v, later)
 }

@@ -19,7 +19,7 @@ use Rattle.spec_machine.specs.InStage.{Ready, lastAt, inStage, stands, may, in-
 use Rattle.spec_machine.specs.StageRun.{stageRun, Turning, turns-begin, turns-on, turns-over}
 use Rattle.stage02_tree.specs.declared.Ran.{Ran}
 use Rattle.stage02_tree.specs.Rounds.{on, one, after-search}
-use Rattle.stage02_distances.specs.Goal.{Goal, parentLeft, Leapt}
+use Rattle.stage02_leap.specs.Goal.{Goal, parentLeft, Leapt}
 use Rattle.stage02_leap.specs.GoalRounds.{dist-next, parent-next, ends-not, ends-now, goal-next, parents-onward, gone}
 use Rattle.stage02_leap.specs.GoalRounds.{parent-ended, dist-ended}
 

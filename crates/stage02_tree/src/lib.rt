@@ -28,7 +28,7 @@ struct Rest {
     right: bool,
 }
 
-// At most so many rounds.
+// Runs up to `budget` rounds of this stage.
 pub fn run<'a>(
     units: u16,
     links: u16,
@@ -48,8 +48,8 @@ pub fn run<'a>(
         (record { parent = parent; dist = dist; clock = clock; made = 0 }) ⌝ }
 {
     let fits = bounds::links_fit(units, links, ends);
-    let wait = table_values::less(LEAP_AFTER, clock.made);
-    let leap_at = table_values::choose(units <= table_values::less(budget, wait), wait, ABSENT);
+    let wait = base_choice::difference(LEAP_AFTER, clock.made);
+    let leap_at = base_choice::choose(units <= base_choice::difference(budget, wait), wait, ABSENT);
     let mut above = parent;
     let mut far = dist;
     let mut c = clock;
@@ -126,9 +126,9 @@ fn remaining<'a>(
         (record { parent = parent; dist = dist; clock = clock; made = made })) ⌝ }
 {
     let found = stage02_leap::leap(units, links, clock.made, ends, levels, parent, dist);
-    let more = table_values::less(found.last, clock.made);
-    let covered = table_values::both(given == 0, more < left);
-    if !table_values::both(found.right, covered) {
+    let more = base_choice::difference(found.last, clock.made);
+    let covered = base_choice::both(given == 0, more < left);
+    if !base_choice::both(found.right, covered) {
         let run = Ran {
             parent,
             dist,
@@ -142,7 +142,7 @@ fn remaining<'a>(
     let after = Clock {
         stage: 3,
         made: 0,
-        rounds: table_values::least_of(clock.rounds + (more + 1), Clock::MAX_ROUNDS),
+        rounds: base_choice::least_of(clock.rounds + (more + 1), Clock::MAX_ROUNDS),
         requests: clock.requests,
     };
     let run = Ran {
@@ -176,7 +176,7 @@ fn round<'a>(
         (now (color .entry)) dist ⌝ }
 {
     if given != 0 {
-        let new = stage02_planned::take_over(units, plan, color, parent, dist);
+        let new = stage02_round::planned::take_over(units, plan, color, parent, dist);
         let new_parent = new.parent;
         let new_dist = new.dist;
         return After {

@@ -1,1 +1,5 @@
+pub mod Firsts
+pub mod Siblings
+pub mod Neighbors
+pub mod Predecessors
 pub mod Rounds

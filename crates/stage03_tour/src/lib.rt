@@ -1,5 +1,8 @@
 // Stage 3, tour: the Euler tour of each tree. Its first round finds the followers of arcs, its second their
 // predecessors, with the start of the first ranking.
+mod followers;
+mod predecessors;
+
 use spec_state::Clock;
 use table_values::bounds;
 ghost use mathlib.Core.Path.{_≡_};
@@ -16,7 +19,7 @@ pub struct Ran {
     pub made: u16,
 }
 
-// At most so many rounds.
+// Runs up to `budget` rounds of this stage.
 pub fn run(
     units: u16,
     budget: u16,
@@ -40,13 +43,13 @@ pub fn run(
     while stage_clock::goes_on(fits, units, 3, made, budget, c) {
         let after = stage_clock::ticked(units, 3, c.made == 1, 0, c);
         if c.made == 0 {
-            let new = stage03_followers::next_round(units, parent, to);
+            let new = followers::next_round(units, parent, to);
             to = new;
             c = after;
             made += 1;
             continue;
         }
-        let new = stage03_predecessors::pred_round(units, parent, &to, from, before, total);
+        let new = predecessors::pred_round(units, parent, &to, from, before, total);
         let new_pred = new.pred;
         let new_jump = new.jump;
         let new_sum = new.sum;

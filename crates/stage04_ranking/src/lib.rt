@@ -18,13 +18,13 @@ pub struct Ran {
     pub made: u16,
 }
 
-// At most so many rounds.
+// Runs up to `budget` rounds of this stage.
 pub fn run(units: u16, budget: u16, clock: Clock, jump: [u16; 512], sum: [u16; 512]) -> Ran
     ensures { λ r. ⌜ r ≡ stageRun (on units) (one units) budget
         (record { jump = jump; sum = sum; clock = clock; made = 0 }) ⌝ }
 {
     let goes_on = stage_clock::goes_on(true, units, 4, 0, budget, clock);
-    if table_values::both(leap_ranking::tried(units, budget), goes_on) {
+    if base_choice::both(leap_ranking::tried(units, budget), goes_on) {
         return at_once(units, budget, clock, jump, sum);
     }
     rounds(units, budget, clock, jump, sum)
@@ -51,7 +51,7 @@ fn at_once(units: u16, budget: u16, clock: Clock, jump: [u16; 512], sum: [u16; 5
     }
 }
 
-// At most so many rounds, one after the other.
+// Runs up to `budget` rounds of this stage, one after the other.
 fn rounds(units: u16, budget: u16, clock: Clock, jump: [u16; 512], sum: [u16; 512]) -> Ran
     ensures { λ r. ⌜ r ≡ stageRun (on units) (one units) budget
         (record { jump = jump; sum = sum; clock = clock; made = 0 }) ⌝ }
@@ -129,7 +129,7 @@ pub fn requests(objects: usize, jump: &[u16; 512]) -> u16
     let mut made: u16 = 0;
     let mut a = 0;
     while a < limit {
-        made += table_values::choose(jump[a] != ABSENT, 1, 0);
+        made += base_choice::choose(jump[a] != ABSENT, 1, 0);
         a += 1;
     }
     made

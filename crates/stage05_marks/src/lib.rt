@@ -20,7 +20,7 @@ pub struct Ran {
     pub made: u16,
 }
 
-// At most so many rounds.
+// Runs up to `budget` rounds of this stage.
 pub fn run<'a>(
     units: u16,
     budget: u16,
@@ -70,7 +70,7 @@ pub fn run<'a>(
 fn forward_mark(arc: bool, own: u16, other: u16) -> u16
     ensures { λ r. ⌜ r ≡ cond (arc && ltb own other) 1 0 ⌝ }
 {
-    table_values::choose(table_values::both(arc, own < other), 1, 0)
+    base_choice::choose(base_choice::both(arc, own < other), 1, 0)
 }
 
 // Round one: the forward marks.
@@ -113,7 +113,7 @@ fn descend<'a>(
         let into = 2 * v;
         let size = counts::count_by(false, units, color, &bucket, absent, color[v]);
         let span = table_values::half_span(rank[into], rank[into + 1]);
-        nd[v] = table_values::choose(parent[v] == ABSENT, size, span);
+        nd[v] = base_choice::choose(parent[v] == ABSENT, size, span);
         v += 1;
     }
 }
@@ -122,7 +122,7 @@ fn descend<'a>(
 fn second_sum(arc: bool, mark: u16) -> u16
     ensures { λ r. ⌜ r ≡ cond (arc && not (eqb mark 0)) 1 0 ⌝ }
 {
-    table_values::choose(table_values::both(arc, mark != 0), 1, 0)
+    base_choice::choose(base_choice::both(arc, mark != 0), 1, 0)
 }
 
 // Round two: the second ranking begins with the forward links and the tour's predecessors.

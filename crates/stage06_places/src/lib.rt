@@ -19,7 +19,7 @@ pub struct Ran {
     pub made: u16,
 }
 
-// At most so many rounds.
+// Runs up to `budget` rounds of this stage.
 pub fn run<'a>(
     units: u16,
     budget: u16,
@@ -34,7 +34,7 @@ pub fn run<'a>(
         (record { pre = pre; jump = jump; sum = sum; clock = clock; made = 0 }) ⌝ }
 {
     let goes_on = stage_clock::goes_on(true, units, 6, 0, budget, clock);
-    if table_values::both(leap_ranking::tried(units, budget), goes_on) {
+    if base_choice::both(leap_ranking::tried(units, budget), goes_on) {
         return at_once(units, budget, color, parent, clock, pre, jump, sum);
     }
     rounds(units, budget, color, parent, clock, pre, jump, sum)
@@ -73,7 +73,7 @@ fn at_once<'a>(
     }
 }
 
-// At most so many rounds, one after the other.
+// Runs up to `budget` rounds of this stage, one after the other.
 fn rounds<'a>(
     units: u16,
     budget: u16,
@@ -149,7 +149,7 @@ fn number<'a>(
     let mut v: usize = 0;
     while v < n {
         let before = counts::count_by(true, units, color, &bucket, absent, color[v]);
-        let own = table_values::choose(parent[v] == ABSENT, 0, sum[2 * v]);
+        let own = base_choice::choose(parent[v] == ABSENT, 0, sum[2 * v]);
         pre[v] = table_values::bounded_sum(own, before);
         v += 1;
     }

@@ -1,4 +1,6 @@
 // Stage 7, range: low and high over all descendants, by segments whose length doubles.
+mod local;
+
 use spec_state::Clock;
 use table_values::bounds;
 ghost use mathlib.Core.Path.{_≡_};
@@ -17,7 +19,7 @@ pub struct Ran {
     pub made: u16,
 }
 
-// At most so many rounds.
+// Runs up to `budget` rounds of this stage.
 pub fn run<'a>(
     units: u16,
     links: u16,
@@ -60,7 +62,7 @@ pub fn run<'a>(
     while stage_clock::goes_on(fits, units, 7, made, budget, c) {
         let after = stage_clock::ticked(units, 7, c.made == most, 0, c);
         if c.made == 0 {
-            stage07_local::begin(
+            local::begin(
                 units,
                 links,
                 ends,

@@ -16,7 +16,7 @@ fn span_of(i: u16) -> u32
     ensures length { λ r. ⌜ r ≡ 2 ^ min i 16 ⌝ }
     ensures small { λ r. ⌜ r ≤ 65536 ⌝ }
 {
-    let last = table_values::least_of(i, 16);
+    let last = base_choice::least_of(i, 16);
     let mut span: u32 = 1;
     let mut k = 0;
     while k < last {
@@ -46,7 +46,7 @@ fn segment_at(n: u16, global: &[u16; 256], q: u16) -> u16
 fn place_before(span: u32, q: u16) -> u16
     ensures { λ r. ⌜ r ≡ cond (ltb q span) ABSENT (q - span) ⌝ }
 {
-    table_values::choose((q as u32) < span, 65535, table_values::less_step(q, span))
+    base_choice::choose((q as u32) < span, 65535, table_values::less_step(q, span))
 }
 
 // What `x` becomes with the segment at place `q`, if an end moves over it.
@@ -127,14 +127,14 @@ fn units_move<'a>(
 fn step_on(moves: bool, span: u32, x: u16) -> u16
     ensures { λ r. ⌜ r ≡ cond moves (min (x + span) 2048) x ⌝ }
 {
-    table_values::choose(moves, table_values::bounded_step(x, span), x)
+    base_choice::choose(moves, table_values::bounded_step(x, span), x)
 }
 
 // Big a segment back, if it moves.
 fn step_back(moves: bool, span: u32, x: u16) -> u16
     ensures { λ r. ⌜ r ≡ cond moves (x - span) x ⌝ }
 {
-    table_values::choose(moves, table_values::less_step(x, span), x)
+    base_choice::choose(moves, table_values::less_step(x, span), x)
 }
 
 // A round of the segments in place: those at multiples of twice the span take in the next.
@@ -150,8 +150,8 @@ fn segments_move(i: u16, n: u16, low: &mut [u16; 256], high: &mut [u16; 256])
     let mut q: usize = 0;
     while q < last {
         let next = q + step;
-        low[q] = table_values::least_of(low[q], low[next]);
-        high[q] = table_values::greatest_of(high[q], high[next]);
+        low[q] = base_choice::least_of(low[q], low[next]);
+        high[q] = base_choice::greatest_of(high[q], high[next]);
         q += period;
     }
 }

@@ -20,7 +20,7 @@ pub struct Ran {
     pub made: u16,
 }
 
-// At most so many rounds.
+// Runs up to `budget` rounds of this stage.
 pub fn run<'a>(
     units: u16,
     links: u16,
@@ -99,20 +99,20 @@ fn link_join<'a>(
     requires { ⌜ (a < 256) × (b < 256) ⌝ }
     ensures { λ r. ⌜ r ≡ cond (joinsEnds (now (parent .entry)) (now (nd .entry)) (now (pre .entry)) a b) 1 0 ⌝ }
 {
-    let off = table_values::both(parent[a as usize] != b, parent[b as usize] != a);
+    let off = base_choice::both(parent[a as usize] != b, parent[b as usize] != a);
     let here = pre[a as usize];
     let there = pre[b as usize];
     let above = within(here, nd[a as usize], there);
     let below = within(there, nd[b as usize], here);
-    let apart = table_values::both(table_values::both(off, !above), !below);
-    table_values::choose(apart, 1, 0)
+    let apart = base_choice::both(base_choice::both(off, !above), !below);
+    base_choice::choose(apart, 1, 0)
 }
 
 // Whether a place is among the `nd` places from `place` on: those of a unit and its descendants.
 fn within(place: u16, nd: u16, other: u16) -> bool
     ensures { λ r. ⌜ r ≡ (leb place other && ltb other (place + nd)) ⌝ }
 {
-    table_values::both(place <= other, (other as u32) < place as u32 + nd as u32)
+    base_choice::both(place <= other, (other as u32) < place as u32 + nd as u32)
 }
 
 // 1 for each unit that joins its parent, else 0.
@@ -133,7 +133,7 @@ fn parent_joins<'a>(
     let mut u = 0;
     while u < units {
         let joins = joins_parent(parent, nd, pre, low, high, u);
-        new[u as usize] = table_values::choose(joins, 1, 0);
+        new[u as usize] = base_choice::choose(joins, 1, 0);
         u += 1;
     }
     new
@@ -156,9 +156,9 @@ fn joins_parent<'a>(
     let p = parent[at];
     let place = tables::at(pre, p);
     let past = reaches(place, tables::at(nd, p), high[at]);
-    let out = table_values::either(low[at] < place, past);
-    table_values::both(
-        table_values::both(p != ABSENT, tables::at(parent, p) != ABSENT),
+    let out = base_choice::either(low[at] < place, past);
+    base_choice::both(
+        base_choice::both(p != ABSENT, tables::at(parent, p) != ABSENT),
         out,
     )
 }

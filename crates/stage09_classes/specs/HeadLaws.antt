@@ -18,7 +18,7 @@ use Rattle.base_lists.specs.Scatter.{takesIn, fold-absorbs, single-over}
 use Rattle.spec_rules.specs.Basics.{ABSENT, at, isRoot}
 use Rattle.spec_rules.specs.Bounds.{nameOk}
 use Rattle.spec_rules.specs.BoundLaws.{Names, name-exact, names-at}
-use Rattle.stage09_heads.specs.Heads.{headOf, Heads}
+use Rattle.stage09_aux.specs.Heads.{headOf, Heads}
 use Rattle.stage09_classes.specs.Propagation.{toHeads}
 
 pub heads-exist : (n : ℕ) (parent marks heads : List ℕ) → every (nameOk n) parent ≡ true →

@@ -24,8 +24,8 @@ use Rattle.leap_tests.specs.Settling.{spread}
 use Rattle.leap_least.specs.Leapt.{Spreads}
 use Rattle.stage09_classes.specs.declared.Ran.{Ran}
 use Rattle.stage09_classes.specs.Absorbed.{least-rest}
-use Rattle.stage09_heads.specs.Heads.{saidBy}
-use Rattle.stage09_pairs.specs.Pairs.{Hears, linksHeard, joinsHeard}
+use Rattle.stage09_aux.specs.Heads.{saidBy}
+use Rattle.stage09_aux.specs.Pairs.{Hears, linksHeard, joinsHeard}
 use Rattle.stage09_classes.specs.Rounds.{fits, on, one}
 
 -- the values, the clock and the rounds made

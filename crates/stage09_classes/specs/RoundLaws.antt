@@ -24,7 +24,7 @@ use Rattle.spec_rules.specs.Fits.{EndsWithin}
 use Rattle.spec_rules.specs.ComponentsLaws.{over-said}
 use Rattle.spec_rules.specs.Aux.{heardOver, leastJoined, auxSaid, auxRound}
 use Rattle.stage09_classes.specs.Absorbed.{least-alike, least-aside}
-use Rattle.stage09_heads.specs.Heads.{saidBy, Heads, leastOf}
+use Rattle.stage09_aux.specs.Heads.{saidBy, Heads, leastOf}
 use Rattle.stage09_classes.specs.Propagation.{heardIf, overLinks, toHeads, byHead}
 use Rattle.stage09_classes.specs.HeadLaws.{to-over}
 

@@ -13,7 +13,7 @@ ghost use Rattle.spec_rules.specs.Fits.{EndsWithin};
 ghost use Rattle.spec_machine.specs.InStage.{inStage};
 ghost use Rattle.spec_machine.specs.StageRun.{stageRun};
 ghost use Rattle.stage09_classes.specs.Leap.{ran};
-ghost use Rattle.stage09_heads.specs.Heads.{Heads};
+ghost use Rattle.stage09_aux.specs.Heads.{Heads};
 ghost use Rattle.stage09_classes.specs.Rounds.{fits, on, one};
 
 mod links;
@@ -26,7 +26,7 @@ pub struct Ran {
     pub made: u16,
 }
 
-// At most so many rounds.
+// Runs up to `budget` rounds of this stage.
 pub fn run<'a>(
     units: u16,
     links: u16,
@@ -42,7 +42,7 @@ pub fn run<'a>(
         (one units links (now (ends .entry)) (now (parent .entry)) (now (linked .entry)) (now (parents .entry))) budget
         (record { color = color; clock = clock; made = 0 }) ⌝ }
 {
-    let fits = table_values::both(
+    let fits = base_choice::both(
         bounds::links_fit(units, links, ends),
         bounds::names_ok(units as u32, parent),
     );
@@ -101,7 +101,7 @@ fn leapt<'a>(
         (record { color = color; clock = clock; made = 0 })) ⌝ }
 {
     let goes_on = stage_clock::goes_on(fit, units, 9, 0, budget, clock);
-    if !table_values::both(pays(units, budget, clock.made, parents), goes_on) {
+    if !base_choice::both(pays(units, budget, clock.made, parents), goes_on) {
         return Landed {
             right: false,
             value: color,
@@ -122,16 +122,16 @@ fn leapt<'a>(
     )
 }
 
-// Whether a leap pays: the stage begins, the budget covers a round for each unit, as many as there can be, and few
-// rounds are not to be expected, as of few units or where no unit joins its parent. But for the first no more than a
-// guess: what a run leaves does not hang on it.
+// Whether a leap is likely to pay: the stage begins, the budget covers a round for each unit, which is the most there
+// can be, and many rounds are to be expected: there are not few units, and some unit joins its parent. All but the
+// first affect speed only.
 fn pays(units: u16, budget: u16, made: u16, parents: &[u16; 256]) -> bool
     ensures { λ r. ⌜ (r ≡ true → made ≡ 0) ⌝ }
 {
     if made != 0 {
         return false;
     }
-    if table_values::either(units < 32, budget < units) {
+    if base_choice::either(units < 32, budget < units) {
         return false;
     }
     some_joins(parents)
@@ -142,7 +142,7 @@ fn some_joins(parents: &[u16; 256]) -> bool {
     let mut some = false;
     let mut u = 0;
     while u < 256 {
-        some = table_values::either(some, parents[u] != 0);
+        some = base_choice::either(some, parents[u] != 0);
         u += 1;
     }
     some
@@ -168,14 +168,14 @@ fn over_pairs<'a>(
         (record { color = color; clock = clock; made = 0 })) ⌝ }
 {
     let mut table = [0; 2560];
-    let count = stage09_pairs::joins(units, links, ends, parent, linked, parents, &mut table);
+    let count = stage09_aux::pairs::joins(units, links, ends, parent, linked, parents, &mut table);
     let value = propagation::said(units, 0, color);
-    let said = stage09_heads::without_roots(units, parent, value);
-    let most = table_values::greatest_of(2, table_values::less(units, 1));
+    let said = stage09_aux::heads::without_roots(units, parent, value);
+    let most = base_choice::greatest_of(2, base_choice::difference(units, 1));
     leap_least::leap(units, count, &table, most, budget, said, clock, 0)
 }
 
-// At most so many rounds, one after the other.
+// Runs up to `budget` rounds of this stage, one after the other.
 fn rounds<'a>(
     fit: bool,
     units: u16,
@@ -193,7 +193,7 @@ fn rounds<'a>(
         (one units links (now (ends .entry)) (now (parent .entry)) (now (linked .entry)) (now (parents .entry))) budget
         (record { color = color; clock = clock; made = 0 }) ⌝ }
 {
-    let heads = stage09_heads::of(units, parent, parents);
+    let heads = stage09_aux::heads::of(units, parent, parents);
     let mut value = color;
     let mut c = clock;
     let mut made: u16 = 0;
@@ -230,9 +230,9 @@ fn round<'a>(
         → r ≡ auxRound units links made (now (ends .entry)) (now (parent .entry)) (now (linked .entry)) marks color) ⌝ }
 {
     let value = propagation::said(units, made, color);
-    let said = stage09_heads::without_roots(units, parent, value);
+    let said = stage09_aux::heads::without_roots(units, parent, value);
     let mut heard = said;
     links::propagate(units, links, ends, linked, &said, &mut heard);
     let told = tell::propagate(units, heads, &said, &mut heard);
-    stage09_heads::least(units, parent, &told, &heard, value)
+    stage09_aux::heads::least(units, parent, &told, &heard, value)
 }

@@ -53,7 +53,7 @@ fn any_marked(linked: &[u16; 1024], from: u16, to: u16) -> bool
     let mut any = false;
     let mut j = from;
     while j < to {
-        any = table_values::either(any, linked[j as usize] != 0);
+        any = base_choice::either(any, linked[j as usize] != 0);
         j += 1;
     }
     any
@@ -97,8 +97,8 @@ fn hear(units: u16, said: &[u16; 256], a: u16, b: u16, t: &mut [u16; 256])
 {
     let at_a = a as usize;
     let at_b = b as usize;
-    let x = table_values::least_of(t[at_a], said[at_b]);
+    let x = base_choice::least_of(t[at_a], said[at_b]);
     t[at_a] = x;
-    let y = table_values::least_of(t[at_b], said[at_a]);
+    let y = base_choice::least_of(t[at_b], said[at_a]);
     t[at_b] = y;
 }

@@ -23,7 +23,7 @@ pub(crate) fn propagate<'a>(
         let at = u as usize;
         let head = heads[at] as usize;
         told[at] = said[head];
-        let x = table_values::least_of(t[head], said[at]);
+        let x = base_choice::least_of(t[head], said[at]);
         t[head] = x;
         u += 1;
     }

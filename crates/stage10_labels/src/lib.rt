@@ -19,7 +19,7 @@ pub struct Ran {
     pub made: u16,
 }
 
-// At most so many rounds: classes, then labels.
+// Runs up to `budget` rounds of this stage: classes, then labels.
 pub fn run<'a>(
     units: u16,
     links: u16,
@@ -109,11 +109,11 @@ fn naming<'a>(parent: &'a [u16; 256], pre: &'a [u16; 256], a: u16, b: u16) -> u1
 fn named(up: bool, down: bool, before: bool, a: u16, b: u16) -> u16
     ensures { λ r. ⌜ r ≡ cond (up && down) (min a b) (cond down b (cond up a (cond before a b))) ⌝ }
 {
-    let off = table_values::choose(before, a, table_values::choose(up, a, b));
-    let one = table_values::choose(down, b, off);
-    table_values::choose(
-        table_values::both(up, down),
-        table_values::least_of(a, b),
+    let off = base_choice::choose(before, a, base_choice::choose(up, a, b));
+    let one = base_choice::choose(down, b, off);
+    base_choice::choose(
+        base_choice::both(up, down),
+        base_choice::least_of(a, b),
         one,
     )
 }

@@ -3,12 +3,12 @@ ghost use mathlib.Core.Path.{_≡_};
 ghost use Prim.Native.Nat.{_≤_, min};
 ghost use Rattle.spec_rules.specs.Ceilings.{rankingCeiling, ceiling, countdown};
 
-// What a ranking of the arcs of so many units takes at most.
+// The most rounds that a ranking of the arcs of `units` units takes.
 fn ranking_ceiling(units: u16) -> u16
     requires { ⌜ units ≤ 256 ⌝ }
     ensures { λ r. ⌜ r ≡ rankingCeiling units ⌝ }
 {
-    base_log2::lg(table_values::less(2 * units, 2)) + 1
+    base_log2::lg(base_choice::difference(2 * units, 2)) + 1
 }
 
 // The ceiling of a stage from 1 to 10.
@@ -17,12 +17,12 @@ pub(crate) fn ceiling(units: u16, stage: u16) -> u16
     ensures { λ r. ⌜ r ≡ ceiling units stage ⌝ }
 {
     match stage {
-        1 => table_values::greatest_of(2, units),
+        1 => base_choice::greatest_of(2, units),
         2 => units + 1,
         4 | 6 => ranking_ceiling(units),
         7 => base_log2::lg(units) + 1,
         8 => 1,
-        9 => table_values::greatest_of(2, table_values::less(units, 1)),
+        9 => base_choice::greatest_of(2, base_choice::difference(units, 1)),
         _ => 2,
     }
 }
@@ -31,7 +31,7 @@ pub(crate) fn ceiling(units: u16, stage: u16) -> u16
 pub(crate) fn stage_ceiling(units: u16, stage: u16) -> u16
     ensures { λ r. ⌜ r ≡ ceiling (min units 256) stage ⌝ }
 {
-    let count = table_values::least_of(units, 256);
+    let count = base_choice::least_of(units, 256);
     if stage < 1 {
         return ceiling(count, 1);
     }
@@ -46,12 +46,12 @@ pub(crate) fn stage_ceiling(units: u16, stage: u16) -> u16
 pub fn countdown(units: u16, stage: u16, made: u16) -> u16
     ensures { λ r. ⌜ r ≡ countdown (min units 256) stage made ⌝ }
 {
-    let count = table_values::least_of(units, 256);
+    let count = base_choice::least_of(units, 256);
     let mut sum: u16 = 0;
-    let mut k = table_values::greatest_of(stage, 1);
+    let mut k = base_choice::greatest_of(stage, 1);
     while k <= 10 {
         sum += ceiling(count, k);
         k += 1;
     }
-    table_values::less(sum, made)
+    base_choice::difference(sum, made)
 }

@@ -5,7 +5,7 @@ use spec_state::Clock;
 ghost use mathlib.Core.Path.{_≡_};
 ghost use mathlib.Core.Bool.{true, _&&_};
 ghost use Prim.Native.Nat.{_≤_};
-ghost use lib.ListN.{length, take};
+ghost use lib.ListN.{take};
 ghost use Rattle.table.specs.Table.{bareRefusal};
 ghost use Rattle.spec_machine.specs.WellFormed.{tableOk, madeOk, clockOk};
 
@@ -50,8 +50,8 @@ fn clock_ok(units: u16, c: Clock) -> bool
     if Clock::FINISHED < c.stage {
         return false;
     }
-    table_values::both(
-        table_values::both(made_ok(units, c), c.rounds <= Clock::MAX_ROUNDS),
+    base_choice::both(
+        base_choice::both(made_ok(units, c), c.rounds <= Clock::MAX_ROUNDS),
         c.requests <= Clock::MAX_REQUESTS,
     )
 }

@@ -12,24 +12,24 @@ ghost use Rattle.spec_machine.specs.Step.{nextClock};
 fn within(units: u16, stage: u16, c: Clock) -> bool
     ensures { λ r. ⌜ r ≡ inStage units stage c ⌝ }
 {
-    let in_stage = table_values::both(
+    let in_stage = base_choice::both(
         units <= 256,
-        table_values::both(stage <= 10, c.stage == stage),
+        base_choice::both(stage <= 10, c.stage == stage),
     );
-    let few = table_values::both(
+    let few = base_choice::both(
         c.rounds <= Clock::MAX_ROUNDS,
         c.requests <= Clock::MAX_REQUESTS,
     );
-    table_values::both(in_stage, table_values::both(c.made <= 256, few))
+    base_choice::both(in_stage, base_choice::both(c.made <= 256, few))
 }
 
-// Whether a run that made so many of its rounds makes one more in the stage, of tables that fit.
+// Whether a run that has made `made` rounds makes one more in this stage, on tables that fit.
 pub fn goes_on(fits: bool, units: u16, stage: u16, made: u16, budget: u16, c: Clock) -> bool
     ensures { λ r. ⌜ r ≡ (ltb made budget && (fits && inStage units stage c)) ⌝ }
 {
-    table_values::both(
+    base_choice::both(
         made < budget,
-        table_values::both(fits, within(units, stage, c)),
+        base_choice::both(fits, within(units, stage, c)),
     )
 }
 
@@ -38,7 +38,7 @@ pub fn is_last(units: u16, ends: bool, c: Clock) -> bool
     ensures { λ r. ⌜ r ≡ lastAt (min units 256) ends c ⌝ }
 {
     let most = ceilings::stage_ceiling(units, c.stage) as u32;
-    table_values::either(ends, most <= c.made as u32 + 1)
+    base_choice::either(ends, most <= c.made as u32 + 1)
 }
 
 // The clock of a stage after a round that ends it by its rule or does not, with so many requests; as it was where it
@@ -58,21 +58,9 @@ fn next(last: bool, requests: u16, c: Clock) -> Clock
     ensures { λ r. ⌜ r ≡ nextClock last requests c ⌝ }
 {
     Clock {
-        stage: table_values::choose(last, c.stage + 1, c.stage),
-        made: table_values::choose(last, 0, c.made + 1),
-        rounds: table_values::least_of(c.rounds + 1, Clock::MAX_ROUNDS),
-        requests: limited(c.requests, requests),
-    }
-}
-
-// All requests, within their limit.
-fn limited(before: u16, more: u16) -> u16
-    ensures { λ r. ⌜ r ≡ min (before + more) 8158 ⌝ }
-{
-    let sum = before as u32 + more as u32;
-    if sum < Clock::MAX_REQUESTS as u32 {
-        sum as u16
-    } else {
-        Clock::MAX_REQUESTS
+        stage: base_choice::choose(last, c.stage + 1, c.stage),
+        made: base_choice::choose(last, 0, c.made + 1),
+        rounds: base_choice::least_of(c.rounds + 1, Clock::MAX_ROUNDS),
+        requests: base_choice::limited(c.requests, requests, Clock::MAX_REQUESTS),
     }
 }

@@ -1,4 +1,4 @@
-// Whether a state is well formed (document 01: kept), told of every state where its tables stand.
+// Whether a state is well formed (document 01: kept). The tables are judged where they stand, without a copy.
 use super::whole::Survey;
 ghost use mathlib.Core.Path.{_≡_};
 ghost use Rattle.spec_machine.specs.WellFormed.{wellFormed};

@@ -1,4 +1,4 @@
-// The state of a survey by value: document 01's struct, its limits, and its constructor.
+// The state of a survey by value: document 01's struct and its constructor; its limits are those of its clock.
 use spec_state::Aux;
 use spec_state::Clock;
 use spec_state::Components;
@@ -31,11 +31,6 @@ pub struct Survey {
 }
 
 impl Survey {
-    // The limits of all rounds and of all requests.
-    pub const MAX_ROUNDS: u16 = Clock::MAX_ROUNDS;
-
-    pub const MAX_REQUESTS: u16 = Clock::MAX_REQUESTS;
-
     // The state before any round: names and distances absent, all else 0.
     pub fn begun(table: Table) -> Survey
         ensures { λ r. ⌜ of r ≡ begun table ⌝ }

@@ -1,24 +1,25 @@
 // The survey for callers in C: the state is an array of words that the caller lends (words_layout/specs/Layout.antt), a
 // reply an array of its fixed size. A number that comes back is document 01's number of the refusal, 0 where the call
-// was not refused; on a refusal nothing lent is altered.
+// was not refused; on a refusal nothing lent is altered. What a call leaves in a state's words is settled word for word
+// (words_known/specs/Left.antt).
 mod asked;
 mod live_tables;
+mod seats;
+mod version;
 
 use words_layout::STATE_WORDS;
 ghost use mathlib.Core.Path.{_≡_};
-ghost use Prim.Native.Nat.{ℕ};
 ghost use lib.ListN.{length};
 ghost use Rattle.spec_machine.specs.Calls.{numberOf, loadAnswer, storedLoadAnswer, plannedLoadAnswer};
 ghost use Rattle.words_layout.specs.Layout.{stateOf};
+ghost use Rattle.words_known.specs.Left.{Left};
 ghost use Rattle.file_spec.specs.File.{linesOf, unitsIn, linkFrames, readRefusal, readWords, readLevels, writeRefusal};
 ghost use Rattle.file_spec.specs.File.{writtenFile};
 ghost use Rattle.words_calls.specs.FileFace.{wordSaid};
 ghost use Rattle.spec_claim.specs.Play;
-ghost use Rattle.words_claim.specs.Exchange.{numberTo, stateAfter, lentAfter, madeAfter};
+ghost use Rattle.words_claim.specs.Exchange.{numberTo, lentAfter, madeAfter};
 ghost use Rattle.report_program.specs.Printed.{printed, laidOver, laidCount};
 ghost use Rattle.handset_lines.specs.Lines.{foremanAnswer, foremanShown, serviceAnswer, serviceShown};
-ghost use Rattle.spec_channel.specs.Office.{tickRefusal, tick, seatRefusal, loadSeat};
-ghost use Rattle.words_seats.specs.Lent.{officeOf};
 
 // No state: what the program prints for the bytes of a file, at the front of `out`, and the number of bytes; nothing
 // and 0 where `out` is too short.
@@ -41,9 +42,9 @@ pub extern "C" fn link_survey_load(
     ensures number { λ r. ⌜ r ≡ numberOf
         (loadAnswer (record { units = units; words = now (table .entry); levels = now (levels .entry) })
         (stateOf (now (state .entry))) .reply) ⌝ }
-    ensures words { λ _. ⌜ stateOf (now (state .exit))
-        ≡ loadAnswer (record { units = units; words = now (table .entry); levels = now (levels .entry) })
-        (stateOf (now (state .entry))) .state ⌝ }
+    ensures left { λ _. ⌜ Left (now (state .entry)) (now (state .exit))
+        (loadAnswer (record { units = units; words = now (table .entry); levels = now (levels .entry) })
+        (stateOf (now (state .entry)))) ⌝ }
 {
     words_calls::load(state, units, table, levels)
 }
@@ -59,9 +60,9 @@ pub extern "C" fn link_survey_load_stored(
     ensures number { λ r. ⌜ r ≡ numberOf
         (storedLoadAnswer (record { units = units; words = now (table .entry); levels = now (levels .entry) })
         (stateOf (now (state .entry))) .reply) ⌝ }
-    ensures words { λ _. ⌜ stateOf (now (state .exit))
-        ≡ storedLoadAnswer (record { units = units; words = now (table .entry); levels = now (levels .entry) })
-        (stateOf (now (state .entry))) .state ⌝ }
+    ensures left { λ _. ⌜ Left (now (state .entry)) (now (state .exit))
+        (storedLoadAnswer (record { units = units; words = now (table .entry); levels = now (levels .entry) })
+        (stateOf (now (state .entry)))) ⌝ }
 {
     words_calls::load_stored(state, units, table, levels)
 }
@@ -78,9 +79,9 @@ pub extern "C" fn link_survey_load_planned(
     ensures number { λ r. ⌜ r ≡ numberOf
         (plannedLoadAnswer (record { units = units; words = now (table .entry); levels = now (levels .entry) })
         (now (parents .entry)) (stateOf (now (state .entry))) .reply) ⌝ }
-    ensures words { λ _. ⌜ stateOf (now (state .exit))
-        ≡ plannedLoadAnswer (record { units = units; words = now (table .entry); levels = now (levels .entry) })
-        (now (parents .entry)) (stateOf (now (state .entry))) .state ⌝ }
+    ensures left { λ _. ⌜ Left (now (state .entry)) (now (state .exit))
+        (plannedLoadAnswer (record { units = units; words = now (table .entry); levels = now (levels .entry) })
+        (now (parents .entry)) (stateOf (now (state .entry)))) ⌝ }
 {
     words_calls::load_planned(state, units, table, levels, parents)
 }
@@ -89,7 +90,8 @@ pub extern "C" fn link_survey_load_planned(
 #[no_mangle]
 pub extern "C" fn link_survey_round(state: &mut [u16; STATE_WORDS]) -> u32
     ensures number { λ r. ⌜ r ≡ numberTo Play.round (now (state .entry)) ⌝ }
-    ensures words { λ _. ⌜ stateOf (now (state .exit)) ≡ stateAfter Play.round (now (state .entry)) ⌝ }
+    ensures left { λ _. ⌜ Left (now (state .entry)) (now (state .exit))
+        (Play.answerTo Play.round (stateOf (now (state .entry)))) ⌝ }
 {
     words_calls::round(state)
 }
@@ -102,7 +104,8 @@ pub extern "C" fn link_survey_run(
     made: &mut u16,
 ) -> u32
     ensures number { λ r. ⌜ r ≡ numberTo (Play.run budget) (now (state .entry)) ⌝ }
-    ensures words { λ _. ⌜ stateOf (now (state .exit)) ≡ stateAfter (Play.run budget) (now (state .entry)) ⌝ }
+    ensures left { λ _. ⌜ Left (now (state .entry)) (now (state .exit))
+        (Play.answerTo (Play.run budget) (stateOf (now (state .entry)))) ⌝ }
     ensures made { λ _. ⌜ now (made .exit) ≡ madeAfter budget (now (state .entry)) (now (made .entry)) ⌝ }
 {
     words_calls::run(state, budget, made)
@@ -214,34 +217,4 @@ pub extern "C" fn link_survey_write(
         ≡ writtenFile units (now (table .entry)) (now (levels .entry)) (now (out .entry)) ⌝ }
 {
     words_calls::write(units, table, levels, out)
-}
-
-// A load of a seat (T-12): 23, then 4 to 6, 15, 16, 7 to 9, 22. The other seats and the turn stay.
-#[no_mangle]
-pub extern "C" fn link_survey_seat_load(
-    seats: &mut [[u16; STATE_WORDS]; 8],
-    seat: u16,
-    units: u16,
-    table: &[u16],
-    levels: &[i16],
-) -> u32
-    ensures number { λ r. ⌜ r ≡ seatRefusal seat
-        (record { units = units; words = now (table .entry); levels = now (levels .entry) }) ⌝ }
-    ensures seats { λ _. ⌜ ((last : ℕ) → officeOf last (now (seats .exit))
-        ≡ loadSeat seat (record { units = units; words = now (table .entry); levels = now (levels .entry) })
-        (officeOf last (now (seats .entry)))) ⌝ }
-{
-    words_seats::load(seats, seat, units, table, levels)
-}
-
-// A tick (T-12): 10, 11. One round to the seat whose turn it is, whose number goes to `last`.
-#[no_mangle]
-pub extern "C" fn link_survey_tick(last: &mut u16, seats: &mut [[u16; STATE_WORDS]; 8]) -> u32
-    ensures number { λ r. ⌜ r ≡ tickRefusal (officeOf (now (last .entry)) (now (seats .entry))) ⌝ }
-    ensures office { λ _. ⌜ officeOf (now (last .exit)) (now (seats .exit))
-        ≡ tick (officeOf (now (last .entry)) (now (seats .entry))) ⌝ }
-{
-    let r = words_seats::serve(*last, seats);
-    *last = r.last;
-    r.number
 }

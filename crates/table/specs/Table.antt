@@ -1,6 +1,6 @@
--- The table of links (document 01): 16-bit words, two a link, its two ends in either order. A link's position is its
--- number from 0. Beside it (document 02, T-01) the levels, one a link. Each check is its own definition; their order is
--- the list at the end.
+-- The table of links (document 01): 16-bit words, two a link, for its ends in either order; links are numbered by their
+-- position, from 0. Beside it (document 02, T-01) the levels, one a link. Each check is its own definition; their order
+-- is the list at the end.
 use mathlib.Core.Bool.{Bool, false, not, cond, _&&_, _||_}
 use mathlib.Core.List.{List, [], _∷_, _++_}
 use Prim.Native.Nat.{ℕ, zero, suc, _+_, _*_, _/_, _%_}

@@ -1,8 +1,8 @@
 // The checks 4 to 9, 15, 16 and 22 on a lent table of links and its levels.
 ghost use mathlib.Core.Path.{_≡_};
-ghost use mathlib.Core.Bool.{false, _||_};
+ghost use mathlib.Core.Bool.{false};
 ghost use Prim.Native.Nat.{_≤_};
-ghost use Rattle.table.specs.Table.{maxUnits, endMissing, equalEnds, repeatedLink, countRefusal, levelRefusal};
+ghost use Rattle.table.specs.Table.{maxUnits, endMissing, equalEnds, countRefusal, levelRefusal};
 ghost use Rattle.table.specs.Table.{endRefusal, bareRefusal, storedRefusal, refusalAs, repeatedAs, pairRefusal};
 ghost use Rattle.table.specs.Table.{unlevelledAs, unlinkedUnit};
 
@@ -122,13 +122,6 @@ fn ends(ordered: bool, units: u16, table: &[u16]) -> u8
     0
 }
 
-// One of the tests holds.
-fn either(x: bool, y: bool) -> bool
-    ensures { λ r. ⌜ r ≡ (x || y) ⌝ }
-{
-    if x { true } else { y }
-}
-
 // Whether an end is `units` or more. Every end is looked at: a loop without a way out is taken several words at a time.
 fn end_missing(units: u16, table: &[u16]) -> bool
     ensures { λ r. ⌜ r ≡ endMissing units (now (table .entry)) ⌝ }
@@ -136,7 +129,7 @@ fn end_missing(units: u16, table: &[u16]) -> bool
     let mut missing = false;
     let mut i = 0;
     while i < table.len() {
-        missing = either(missing, units <= table[i]);
+        missing = base_choice::either(missing, units <= table[i]);
         i += 1;
     }
     missing
@@ -149,7 +142,7 @@ fn equal_ends(table: &[u16]) -> bool
     let mut equal = false;
     let mut i = 0;
     while i + 1 < table.len() {
-        equal = either(equal, table[i] == table[i + 1]);
+        equal = base_choice::either(equal, table[i] == table[i + 1]);
         i += 2;
     }
     equal

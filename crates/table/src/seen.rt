@@ -24,7 +24,7 @@ pub(crate) fn some_blank(units: u16, marks: &[u8]) -> bool
     let mut blank = false;
     let mut v = 0;
     while v < units {
-        blank = super::either(blank, base_slices::byte(marks, v as usize) == 0);
+        blank = base_choice::either(blank, base_slices::byte(marks, v as usize) == 0);
         v += 1;
     }
     blank

@@ -63,7 +63,7 @@ pub fn all_in_range(levels: &[i16]) -> bool
     let mut i = 0;
     while i < levels.len() {
         let level = levels[i];
-        ok = both(ok, in_range(level));
+        ok = base_choice::both(ok, in_range(level));
         i += 1;
     }
     ok
@@ -90,11 +90,4 @@ fn lay(levels: &[i16], words: &mut [u16])
         words[i] = word_of(level);
         i += 1;
     }
-}
-
-// Both tests hold.
-fn both(x: bool, y: bool) -> bool
-    ensures { λ r. ⌜ r ≡ (x && y) ⌝ }
-{
-    if x { y } else { false }
 }

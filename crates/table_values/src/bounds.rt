@@ -64,7 +64,7 @@ fn top(more: u16, t: &[u16]) -> u16
     let mut i = 0;
     while i < t.len() {
         let x = std::num::wrapping_add_u16(t[i], more);
-        greatest = super::greatest_of(greatest, x);
+        greatest = base_choice::greatest_of(greatest, x);
         i += 1;
     }
     greatest
@@ -109,7 +109,7 @@ pub fn all_below(count: u16, t: &[u16]) -> bool
     top(0, t) <= count - 1
 }
 
-// There are at most 1,024 links, and each end is one of so many units.
+// There are at most 1,024 links, and each end is one of `units` units.
 pub fn links_fit(units: u16, links: u16, ends: &[u16]) -> bool
     ensures { λ r. ⌜ r ≡ linksFit units links (now (ends .entry)) ⌝ }
 {

@@ -28,8 +28,8 @@ pub fn first_at(count: u16, key: &[u16], q: u16) -> u16
     let mut x = ABSENT;
     let mut k = 0;
     while k < count {
-        let y = super::choose(tables::at(key, k) == q, k, ABSENT);
-        x = super::least_of(x, y);
+        let y = base_choice::choose(tables::at(key, k) == q, k, ABSENT);
+        x = base_choice::least_of(x, y);
         k += 1;
     }
     x

@@ -1,7 +1,6 @@
 // Small value functions: inside a loop they stand for branches, so that what a turn does is one equation.
 ghost use mathlib.Core.Path.{_≡_};
-ghost use mathlib.Core.Bool.{cond, _&&_, _||_};
-ghost use Prim.Native.Nat.{_+_, _-_, _/_, min, max};
+ghost use Prim.Native.Nat.{_+_, _-_, _/_, min};
 ghost use Rattle.base_lists.specs.Scatter.{opOf};
 
 pub mod bounds;
@@ -9,41 +8,6 @@ pub mod counts;
 pub mod firsts;
 pub mod propagation;
 pub mod tables;
-
-// `x` where the test holds, else `y`.
-pub fn choose(test: bool, x: u16, y: u16) -> u16
-    ensures { λ r. ⌜ r ≡ cond test x y ⌝ }
-{
-    if test { x } else { y }
-}
-
-// The same of tests.
-pub fn pick(test: bool, x: bool, y: bool) -> bool
-    ensures { λ r. ⌜ r ≡ cond test x y ⌝ }
-{
-    if test { x } else { y }
-}
-
-// Both tests hold.
-pub fn both(x: bool, y: bool) -> bool
-    ensures { λ r. ⌜ r ≡ (x && y) ⌝ }
-{
-    if x { y } else { false }
-}
-
-// One of the tests holds.
-pub fn either(x: bool, y: bool) -> bool
-    ensures { λ r. ⌜ r ≡ (x || y) ⌝ }
-{
-    if x { true } else { y }
-}
-
-// The difference, 0 where it would be negative.
-pub fn less(x: u16, y: u16) -> u16
-    ensures { λ r. ⌜ r ≡ x - y ⌝ }
-{
-    if x < y { 0 } else { x - y }
-}
 
 // Half of the steps from a rank to another, the two included; 0 where it lies before.
 pub fn half_span(from: u16, to: u16) -> u16
@@ -56,28 +20,14 @@ pub fn half_span(from: u16, to: u16) -> u16
     }
 }
 
-// The lesser of two.
-pub fn least_of(x: u16, y: u16) -> u16
-    ensures { λ r. ⌜ r ≡ min x y ⌝ }
-{
-    if x < y { x } else { y }
-}
-
-// The greater of two.
-pub fn greatest_of(x: u16, y: u16) -> u16
-    ensures { λ r. ⌜ r ≡ max x y ⌝ }
-{
-    if x < y { y } else { x }
-}
-
 // The greater of two, or the lesser.
 pub fn op_of(greatest: bool, x: u16, y: u16) -> u16
     ensures { λ r. ⌜ r ≡ opOf greatest x y ⌝ }
 {
     if greatest {
-        greatest_of(x, y)
+        base_choice::greatest_of(x, y)
     } else {
-        least_of(x, y)
+        base_choice::least_of(x, y)
     }
 }
 

@@ -45,7 +45,7 @@ fn agree<'a>(units: u16, before: &'a [u16], after: &'a [u16]) -> bool
     let mut same = true;
     let mut i = 0;
     while i < count {
-        same = super::both(
+        same = base_choice::both(
             same,
             base_slices::word(before, i) == base_slices::word(after, i),
         );

@@ -26,7 +26,7 @@ abbrev pub Step : ℕ → List ℕ → ℕ → ℕ → Type 0
 Step a [] u v = ⊥
 Step a (b ∷ l) u v = ((u ≡ a) × (v ≡ b)) ⊎ Step b l u v
 
--- Ring (a simple cycle): three or more different units, each linked to the next and the last to the first.
+-- A ring: "a simple cycle: three or more different units, each linked to the next and the last to the first".
 abbrev pub lastOf : List ℕ → ℕ
 lastOf [] = zero
 lastOf (a ∷ l) = last a l

@@ -1,4 +1,4 @@
--- Document 02, T-02: labels, lone links and single points are those of the same table without levels. Stated of any two
+-- Document 02, T-02: what "labels, lone links and single points" are does not depend on the levels. Stated of any two
 -- loads of one table, whatever their levels: `AnyLevels`, at the end, and AnyLevelsProof.antt proves it. All rounds may
 -- differ, since stage 9 follows the tree; the first countdown does not.
 use mathlib.Core.Path.{_≡_}

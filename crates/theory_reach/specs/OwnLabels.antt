@@ -1,4 +1,4 @@
--- T-14, "the sum over all labels": `machine/Parts.parts` sums over the positions that are their own label, and of a
+-- T-14, "the sum over all labels": `spec_machine/Parts.parts` sums over the positions that are their own label. Of a
 -- finished survey these are exactly the labels that its links carry, each once.
 use mathlib.Core.Path.{_≡_, sym, ap, _∙_}
 use mathlib.Core.Bool.{true}

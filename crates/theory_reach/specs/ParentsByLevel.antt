@@ -1,6 +1,6 @@
 -- T-02 of the survey itself: in every kept state at stage 2 without a plan, after its first round, the parent that a
--- round stores for a unit which it visits is, of the neighbours visited in the round before, the one with the highest
--- level, ties to the least number. ParentsByLevelProof.antt proves it.
+-- round stores for a unit which it visits is "of the neighbours visited in the round before, the one with the highest
+-- level, ties to the least number". ParentsByLevelProof.antt proves it.
 use mathlib.Core.Path.{_≡_}
 use mathlib.Core.Bool.{false}
 use mathlib.Core.Logic.{_↔_, _≢_}

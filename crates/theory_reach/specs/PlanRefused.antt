@@ -14,8 +14,8 @@ use Rattle.theory_reach.specs.Site.{Link}
 use Rattle.theory_reach.specs.Colors.{Colored}
 use Rattle.theory_reach.specs.PlannedSteps.{Never}
 
--- what document 02 gives 18 for, of unit v: a colour unit has a parent, or another unit's parent isn't its neighbour or
--- its chain of parents doesn't end at its colour unit
+-- 18's cause of unit v: "a colour unit has a parent, or another unit's parent isn't its neighbour or its chain of
+-- parents doesn't end at its colour unit" (document 02)
 abbrev pub Misdrawn : ℕ → List ℕ → List ℕ → List ℕ → ℕ → Type 0
 Misdrawn m ends color ps v =
     ((at color v ≡ v) × (at ps v ≢ ABSENT))

@@ -1,5 +1,5 @@
--- Document 01, stages 4 and 6, for all lengths at once: a list of L objects needs lg(L) rounds with requests, the stage
--- follows its longest list and ends with one round without requests. RankedListsProof.antt proves it.
+-- Document 01, stages 4 and 6, for all lengths at once: a list of L objects needs lg(L) rounds with requests; of many
+-- lists the longest counts, and one round without requests is the last. RankedListsProof.antt proves it.
 use mathlib.Core.Path.{_≡_}
 use mathlib.Core.Bool.{true, cond}
 use mathlib.Core.Logic.{_⊎_, _↔_}

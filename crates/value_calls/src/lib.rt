@@ -1,5 +1,7 @@
 // The calls that ask: questions to a finished survey, its report, and files read and written. Each hands the state back
 // beside its answer; a refusal gives only the number, and nothing is written.
+mod questions;
+
 ghost use mathlib.Core.Path.{_≡_};
 ghost use lib.ListN.{length};
 ghost use Rattle.file_spec.specs.File.{readWords, readLevels, writtenFile};
@@ -8,11 +10,11 @@ ghost use Rattle.survey.specs.View.{of, answerOf};
 ghost use Rattle.value_calls.specs.FileAnswers.{readingReply, writingReply};
 use file_spec::Reading;
 use file_spec::Writing;
+pub use questions::link;
+pub use questions::unit;
 use survey::Answer;
 use survey::Reply;
 use survey::Survey;
-pub use value_questions::link;
-pub use value_questions::unit;
 
 // The report at the front of `out`: 10, 12, 14. Bytes past it stay.
 pub fn report(survey: Survey, out: &mut [u8]) -> Answer

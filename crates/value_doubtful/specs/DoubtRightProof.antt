@@ -1,22 +1,22 @@
 -- The proof of what T-08 asks, by what `ring_search` tells of the sure links and of all: more links, more rings.
 use mathlib.Core.Path.{_≡_, refl, sym, ap, _∙_}
-use mathlib.Core.Bool.{Bool, true, false, not, false≢true}
-use mathlib.Core.Logic.{_⊎_, inl, inr, _↔_}
+use mathlib.Core.Bool.{Bool, true, false, not}
+use mathlib.Core.Logic.{_↔_}
 use mathlib.Core.List.{List}
 use Prim.Native.Nat.{ℕ, _<_}
 use native.Mathlib.Omega.{arith}
-use lib.ListN.{length, getD, take}
+use lib.ListN.{length, getD}
 use lib.Dec.{eqb}
-use borrow.Author.Tests.{eq-eqb, ne-eqb}
+use borrow.Author.Tests.{eq-eqb}
 use Rattle.table.specs.RefusalLaws.{first-cause, some-cause}
 use Rattle.spec_machine.specs.Kept.{kept-exact}
 use Rattle.spec_machine.specs.State.{State, units, links, finished}
 use Rattle.spec_machine.specs.WellFormed.{wellFormed}
 use Rattle.report_write.specs.TwoLinks.{two-passed}
 use Rattle.theory_reach.specs.Site.{Site}
-use Rattle.theory_ears.specs.Found.{RingTold}
+use Rattle.ring_search.specs.Front.{RingedTold}
 use Rattle.theory_ears.specs.KeptSite.{kept-site}
-use Rattle.theory_ears.specs.Present.{Ringed, Shows, sure, ringed-more}
+use Rattle.theory_ears.specs.Present.{Ringed, sure, ringed-more}
 use Rattle.value_doubtful.specs.declared.Verdict.{Verdict}
 use Rattle.value_doubtful.specs.declared.Verdict.the-variants.{Always, Perhaps, Never, Refused}
 use Rattle.value_doubtful.specs.Doubtful.{numberOf, doubtRefusal, doubtReasons}
@@ -77,30 +77,12 @@ module _ (m : ℕ) (ends marks : List ℕ) (i j : ℕ) where
 -- ---- the verdict
 
 module _ (n m : ℕ) (ends : List ℕ) (i j : ℕ) where
-  -- whether a ring of the links that count holds both
-  abbrev pub RingedTold : (ℕ → Bool) → Bool → Type 0
-  RingedTold ok told = Site n m ends → i < m → j < m →
-      (told ≡ true → Ringed ok m ends i j) × (told ≡ false → Ringed ok m ends i j → ⊥)
-
-  -- by the number of its units
-  pub ringed-told : (ok : ℕ → Bool) (ring₀ ring : List ℕ) (r : ℕ) → length ring₀ ≡ 256 →
-      RingTold ok n m ends i j ring₀ ring r → RingedTold ok (not (eqb r 0))
-  ringed-told ok ring₀ ring r long T site hi hj = go (T site hi hj long)
-    where
-      go : ((r ≡ 0) × (Ringed ok m ends i j → ⊥)) ⊎ (Shows ok m ends i j (take r ring) × (r ≡ length (take r ring)))
-          → (not (eqb r 0) ≡ true → Ringed ok m ends i j) × (not (eqb r 0) ≡ false → Ringed ok m ends i j → ⊥)
-      go (inl (z, h)) = (λ k. absurd (false≢true (rw (eq-eqb r 0 z) at k)), λ q. h)
-      go (inr (S, q)) = (
-        λ k. (take r ring, S .ring, S .first, S .second),
-        λ k. absurd (false≢true (sym (rw (ne-eqb r 0 (λ z. omega (arith, S .ring .three))) at k))),
-      )
-
-  module _ (marks : List ℕ) (x : Bool) (A : RingedTold (sure marks) x) where
+  module _ (marks : List ℕ) (x : Bool) (A : RingedTold n m ends i j (sure marks) x) where
     pub told-always : x ≡ true → VerdictTold n m ends marks i j Always
     told-always h site hi hj = says-always m ends marks i j (each m ends marks i j .1 (A site hi hj .0 h))
 
     module _ (z : x ≡ false) (all : List ℕ) (y : Bool) (counts : (k : ℕ) →
-        getD all k 0 ≡ 0) (B : RingedTold (sure all) y) where
+        getD all k 0 ≡ 0) (B : RingedTold n m ends i j (sure all) y) where
       none-each : Site n m ends → i < m → j < m → InEach m ends marks i j → ⊥
       none-each site hi hj h = A site hi hj .1 z (each m ends marks i j .0 h)
 

@@ -1,13 +1,11 @@
 // Whether a ring holds two links of a finished survey however many of the doubtful ones are absent (T-08), by value.
 ghost use mathlib.Core.Path.{_≡_};
 ghost use Rattle.survey.specs.View.{of};
-ghost use Rattle.theory_ears.specs.Present.{sure};
 ghost use Rattle.value_doubtful.specs.Doubtful.{answerOf, numberOf};
 ghost use Rattle.value_doubtful.specs.DoubtRight.{VerdictTold, DoubtRight};
-ghost use Rattle.value_doubtful.specs.DoubtRightProof.{RingedTold};
 use survey::Survey;
 
-// What the call replies: a ring holds both in each setting, in some but not each, in none; or the number of a refusal.
+// What the call replies: that every setting has a ring with both, that only some have one, that none has; or a refusal.
 pub enum Verdict {
     Always,
     Perhaps,
@@ -36,21 +34,6 @@ impl Answer {
     }
 }
 
-// Whether the links of a site that count by `marks` have a ring that holds both.
-fn ringed<'a>(
-    marks: &'a [u8],
-    units: u16,
-    links: u16,
-    ends: &'a [u16],
-    first: u16,
-    second: u16,
-) -> bool
-    ensures { λ r. ⌜ RingedTold units links (now (ends .entry)) first second (sure (now (marks .entry))) r ⌝ }
-{
-    let mut found = ring_tables::zeros();
-    ring_search::ring(marks, units, links, ends, first, second, &mut found) != 0
-}
-
 // A byte a link in `marks`, 0 for a sure one and any other for a doubtful one. Two questions are enough: whether the
 // sure links of a site have a ring that holds both, and whether all links have one.
 pub fn judged<'a>(
@@ -64,12 +47,12 @@ pub fn judged<'a>(
     ensures number { λ r. ⌜ numberOf r ≡ 0 ⌝ }
     ensures told { λ r. ⌜ VerdictTold units links (now (ends .entry)) (now (marks .entry)) first second r ⌝ }
 {
-    let sure = ringed(marks, units, links, ends, first, second);
+    let sure = ring_search::ringed(marks, units, links, ends, first, second);
     if sure {
         return Verdict::Always;
     }
     let none = ring_tables::unmarked();
-    let all = ringed(&none, units, links, ends, first, second);
+    let all = ring_search::ringed(&none, units, links, ends, first, second);
     if all {
         return Verdict::Perhaps;
     }

@@ -1,4 +1,4 @@
-// Whether a state is well formed (document 01: kept), told of its numbers and tables, lent one by one: no copy is made.
+// Whether a state is well formed (document 01: kept). Its numbers and tables are lent one by one, so no copy is made.
 use spec_state::Clock;
 use table_values::bounds;
 use table_values::bounds::Limit;
@@ -72,7 +72,7 @@ pub fn kept<'a>(
     let unit = bounds::names(units as u32);
     let ended = bounds::within(unit, ends);
     let colored = bounds::within(unit, color);
-    let named = table_values::both(colored, four_ok(unit, parent, classes, class, plan));
+    let named = base_choice::both(colored, four_ok(unit, parent, classes, class, plan));
     let arc = bounds::names(2 * (units as u32));
     let arcs = three_ok(arc, next, pred, jump);
     let labels = bounds::names_ok(links as u32, label);
@@ -82,15 +82,15 @@ pub fn kept<'a>(
     let ranges = four_ok(number, low, high, little, big);
     let joins = four_ok(number, least, greatest, parents, linked);
     let heard = table_levels::all_in_range(levels);
-    let names = table_values::both(
-        table_values::both(table_values::both(ended, named), arcs),
+    let names = base_choice::both(
+        base_choice::both(base_choice::both(ended, named), arcs),
         labels,
     );
-    let entries = table_values::both(
-        table_values::both(names, dists),
-        table_values::both(sums, table_values::both(ranges, joins)),
+    let entries = base_choice::both(
+        base_choice::both(names, dists),
+        base_choice::both(sums, base_choice::both(ranges, joins)),
     );
-    table_values::both(table_values::both(entries, heard), given <= 2048)
+    base_choice::both(base_choice::both(entries, heard), given <= 2048)
 }
 
 // Every entry of three tables passes.
@@ -98,9 +98,9 @@ fn three_ok<'a>(limit: Limit, a: &'a [u16], b: &'a [u16], c: &'a [u16]) -> bool
     ensures { λ r. ⌜ ((p : ℕ → Bool) → Tells (limit .more) (limit .most) p →
         r ≡ every (every p) (now (a .entry) ∷ now (b .entry) ∷ now (c .entry) ∷ [])) ⌝ }
 {
-    table_values::both(
+    base_choice::both(
         bounds::within(limit, a),
-        table_values::both(bounds::within(limit, b), bounds::within(limit, c)),
+        base_choice::both(bounds::within(limit, b), bounds::within(limit, c)),
     )
 }
 
@@ -109,5 +109,5 @@ fn four_ok<'a>(limit: Limit, a: &'a [u16], b: &'a [u16], c: &'a [u16], d: &'a [u
     ensures { λ r. ⌜ ((p : ℕ → Bool) → Tells (limit .more) (limit .most) p
         → r ≡ every (every p) (now (a .entry) ∷ now (b .entry) ∷ now (c .entry) ∷ now (d .entry) ∷ [])) ⌝ }
 {
-    table_values::both(bounds::within(limit, a), three_ok(limit, b, c, d))
+    base_choice::both(bounds::within(limit, a), three_ok(limit, b, c, d))
 }

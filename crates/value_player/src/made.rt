@@ -25,7 +25,7 @@ pub(crate) fn call(s: Survey, kind: u16, a: u16, b: u16, out: &mut [u8]) -> Answ
     }
 }
 
-// A report into so many places from a start on, as far as there are any.
+// A report into `places` places from `start` on, as far as the slice has them.
 fn report_into(s: Survey, start: u16, places: u16, out: &mut [u8]) -> Answer
     ensures answer { λ r. ⌜ answerOf r ≡ reportAnswer (length (part start places (now (out .entry)))) (of s) ⌝ }
     ensures bytes { λ _. ⌜ now (out .exit)

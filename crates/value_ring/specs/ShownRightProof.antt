@@ -6,9 +6,8 @@ use mathlib.Core.List.{List, [], _∷_, _++_}
 use Prim.Native.Nat.{ℕ, zero, suc, _≤_, _<_}
 use native.Mathlib.Omega.{arith}
 use lib.Dec.{ltb}
-use lib.ListN.{length, getD, take, drop, length-take}
+use lib.ListN.{length, getD, take, drop, take-append-drop}
 use borrow.Author.Tests.{eq-eqb, ltb-false}
-use Rattle.base_lists.specs.Tables.{over}
 use Rattle.table.specs.RefusalLaws.{first-cause, some-cause}
 use Rattle.table.specs.Table.{endA, endB}
 use Rattle.theory_graph.specs.Rings.{Ring, lastOf, OnRing}
@@ -20,9 +19,9 @@ use Rattle.spec_machine.specs.WellFormed.{wellFormed}
 use Rattle.report_write.specs.TwoLinks.{two-passed}
 use Rattle.theory_reach.specs.Site.{Link}
 use Rattle.theory_ears.specs.Closing.{shows-short}
-use Rattle.theory_ears.specs.Found.{RingTold}
 use Rattle.theory_ears.specs.KeptSite.{kept-site}
 use Rattle.theory_ears.specs.Present.{Present, Ringed, Shows, sure}
+use Rattle.ring_search.specs.Front.{RingFront}
 use Rattle.value_ring.specs.declared.Shown.the-variants.{NoRing, Refused}
 use Rattle.value_ring.specs.declared.Shown.the-variants as Replies
 use Rattle.value_ring.specs.Shown.{Answer, numberOf, shownRefusal, shownReasons}
@@ -34,62 +33,41 @@ ring-map : (E F : ℕ → ℕ → Type 0) → ((u v : ℕ) → E u v → F u v) 
 ring-map E F f r R = closed-ring r (R .three) (R .different)
     (walk-map E F (lastOf r) r (λ u v q e. f u v e) (ring-closed R))
 
--- the front of a table over a slice
-front-over : (r : ℕ) (t out : List ℕ) → r ≤ length t → r ≤ length out →
-    over r (λ (i : ℕ). getD t i 0) out ≡ take r t ++ drop r out
-front-over zero t out h g = refl
-front-over (suc r) [] out h g = absurd (omega arith)
-front-over (suc r) (x ∷ t) [] h g = absurd (omega arith)
-front-over (suc r) (x ∷ t) (y ∷ out) h g = ap (λ (l : List ℕ). x ∷ l) (front-over r t out (omega arith) (omega arith))
-
--- ---- the ring that is laid
-
--- places past it
-pub over-past : (r : ℕ) (ring out new : List ℕ) → new ≡ over r (λ (k : ℕ). getD ring k 0) out → drop r new ≡ drop r out
-over-past r ring out new e = ap (λ (l : List ℕ). drop r l) e ∙ go r (λ (k : ℕ). getD ring k 0) out
-  where
-    go : (r : ℕ) (f : ℕ → ℕ) (out : List ℕ) → drop r (over r f out) ≡ drop r out
-    go zero f out = refl
-    go (suc r) f [] = refl
-    go (suc r) f (x ∷ out) = go r (λ (k : ℕ). f (suc k)) out
-
-module _ (n m : ℕ) (ends : List ℕ) (i j : ℕ) (out marks ring₀ ring : List ℕ) (r : ℕ) (all : (k : ℕ) →
-    getD marks k 0 ≡ 0) (long : length ring₀ ≡ 256)
-    (T : RingTold (sure marks) n m ends i j ring₀ ring r) where
+module _ (n m : ℕ) (ends : List ℕ) (i j : ℕ) (out marks new : List ℕ) (r : ℕ) (all : (k : ℕ) → getD marks k 0 ≡ 0)
+    (T : RingFront (sure marks) n m ends i j out new r)
+    (past : drop r new ≡ drop r out) where
   link : (u v : ℕ) → Present (sure marks) m ends u v → Link m ends u v
   link u v (k, l, o, q) = (k, l, q)
 
   present : (u v : ℕ) → Link m ends u v → Present (sure marks) m ends u v
   present u v (k, l, q) = (k, l, eq-eqb (getD marks k 0) 0 (all k), q)
 
-  pub ring-laid : (new : List ℕ) → new ≡ over r (λ (k : ℕ). getD ring k 0) out → RingLaid n m ends i j out new r
-  ring-laid new w site hi hj room = go (T site hi hj long)
+  pub ring-laid : RingLaid n m ends i j out new r
+  ring-laid site hi hj room = go (T site hi hj room)
     where
       go : ((r ≡ 0) × (Ringed (sure marks) m ends i j → ⊥))
-          ⊎ (Shows (sure marks) m ends i j (take r ring) × (r ≡ length (take r ring)))
+          ⊎ (Shows (sure marks) m ends i j (take r new) × (r ≡ length (take r new)))
           → Laid n m ends i j out new r
       go (inl (z, h)) = inl (
         z,
         λ o. h (onRing-more (Link m ends) (Present (sure marks) m ends) present (endA ends i) (endB ends i)
             (endA ends j) (endB ends j) o),
-        w ∙ ap (λ (k : ℕ). over k (λ (v : ℕ). getD ring v 0) out) z,
+        rw z at past,
       )
-      go (inr (S, q)) =
-          let short : length (take r ring) ≤ n = shows-short site S in
-          inr (
-            take r ring,
-            q,
-            record {
-              ring = ring-map (Present (sure marks) m ends) (Link m ends) link (take r ring) (S .ring);
-              rest = S .rest;
-              starts = S .starts;
-              first = S .first;
-              second = S .second;
-              few = short;
-            },
-            w ∙ front-over r ring out (omega (arith, q, length-take r ring)) (omega (arith, q, short, room))
-                ∙ ap (λ (k : ℕ). take r ring ++ drop k out) q,
-          )
+      go (inr (S, q)) = inr (
+        take r new,
+        q,
+        record {
+          ring = ring-map (Present (sure marks) m ends) (Link m ends) link (take r new) (S .ring);
+          rest = S .rest;
+          starts = S .starts;
+          first = S .first;
+          second = S .second;
+          few = shows-short site S;
+        },
+        sym (take-append-drop r new)
+            ∙ (ap (λ (l : List ℕ). take r new ++ l) past ∙ ap (λ (k : ℕ). take r new ++ drop k out) q),
+      )
 
 -- ---- the call
 

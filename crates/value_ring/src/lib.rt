@@ -34,8 +34,8 @@ impl Answer {
     }
 }
 
-// The units of a ring of a site that holds both links at the front of `out`, the two ends of the first link before the
-// others, and how many they are; 0 where there is none. Words past so many stay, whatever the table is.
+// Writes the units of a ring that holds both links to the front of `out`, the two ends of the first link first, and
+// returns their number, 0 where there is no ring. Words past that number are not touched, whatever the table is.
 pub fn lay_ring<'a>(
     units: u16,
     links: u16,
@@ -49,13 +49,10 @@ pub fn lay_ring<'a>(
     ensures past { λ r. ⌜ drop r (now (out .exit)) ≡ drop r (now (out .entry)) ⌝ }
 {
     let marks = ring_tables::unmarked();
-    let mut found = ring_tables::zeros();
-    let count = ring_search::ring(&marks, units, links, ends, first, second, &mut found);
-    base_copies::lay_first(count, &found, out);
-    count
+    ring_search::ring(&marks, units, links, ends, first, second, out)
 }
 
-// The ring of a finished survey: 10, 12, 13, 14. Words past the ring stay, and all of them where there is none.
+// The ring of a finished survey: 10, 12, 13, 14. Words past the ring are not touched; without a ring, no word is.
 pub fn show(survey: Survey, first: u16, second: u16, out: &mut [u16]) -> Answer
     ensures { λ r. ⌜ ShownRight first second (of survey) (now (out .entry)) (answerOf r) (now (out .exit)) ⌝ }
 {

@@ -1,31 +1,38 @@
 // The calls on a state in words that the caller lends (words_layout/specs/Layout.antt). A number that comes back is
-// document 01's number of the refusal, 0 where the call was not refused; on a refusal nothing lent is altered.
+// document 01's number of the refusal, 0 where the call was not refused; on a refusal nothing lent is altered. What a
+// call leaves in the words is settled word for word (words_known/specs/Left.antt).
 mod file_calls;
 mod questions;
 
 use words_layout::STATE_WORDS;
 ghost use mathlib.Core.Path.{_≡_};
+ghost use mathlib.Core.Bool.{cond};
+ghost use lib.Dec.{eqb};
 ghost use lib.ListN.{length};
+ghost use Rattle.spec_machine.specs.Run.{ran};
 ghost use Rattle.spec_machine.specs.Calls.{numberOf, loadAnswer, storedLoadAnswer, plannedLoadAnswer, statusAnswer};
-ghost use Rattle.spec_machine.specs.Calls.{unitAnswer, linkAnswer, reportAnswer, reported};
+ghost use Rattle.spec_machine.specs.Calls.{roundRefusal, roundAnswer, runAnswer, unitAnswer, linkAnswer, reportAnswer};
+ghost use Rattle.spec_machine.specs.Calls.{reported};
 ghost use Rattle.words_layout.specs.Layout.{stateOf};
+ghost use Rattle.words_known.specs.Left.{Left};
 ghost use Rattle.words_calls.specs.Face.{said};
 pub use file_calls::read;
 pub use file_calls::write;
 pub use questions::refusal;
-pub use words_run::round;
-pub use words_run::run;
 
 // Load, of a fresh table: 4 to 6, 15, 16, 7 to 9, 22.
 pub fn load(state: &mut [u16; STATE_WORDS], units: u16, table: &[u16], levels: &[i16]) -> u32
     ensures number { λ r. ⌜ r ≡ numberOf
         (loadAnswer (record { units = units; words = now (table .entry); levels = now (levels .entry) })
         (stateOf (now (state .entry))) .reply) ⌝ }
-    ensures words { λ _. ⌜ stateOf (now (state .exit))
-        ≡ loadAnswer (record { units = units; words = now (table .entry); levels = now (levels .entry) })
-        (stateOf (now (state .entry))) .state ⌝ }
+    ensures left { λ _. ⌜ Left (now (state .entry)) (now (state .exit))
+        (loadAnswer (record { units = units; words = now (table .entry); levels = now (levels .entry) })
+        (stateOf (now (state .entry)))) ⌝ }
 {
-    words_load::load(units, table, levels, state) as u32
+    words_known::state(state);
+    let number = words_load::load(units, table, levels, state);
+    words_known::state(state);
+    number as u32
 }
 
 // Load of a stored table: 4 to 6, 15, 16, 7 to 9.
@@ -33,11 +40,14 @@ pub fn load_stored(state: &mut [u16; STATE_WORDS], units: u16, table: &[u16], le
     ensures number { λ r. ⌜ r ≡ numberOf
         (storedLoadAnswer (record { units = units; words = now (table .entry); levels = now (levels .entry) })
         (stateOf (now (state .entry))) .reply) ⌝ }
-    ensures words { λ _. ⌜ stateOf (now (state .exit))
-        ≡ storedLoadAnswer (record { units = units; words = now (table .entry); levels = now (levels .entry) })
-        (stateOf (now (state .entry))) .state ⌝ }
+    ensures left { λ _. ⌜ Left (now (state .entry)) (now (state .exit))
+        (storedLoadAnswer (record { units = units; words = now (table .entry); levels = now (levels .entry) })
+        (stateOf (now (state .entry)))) ⌝ }
 {
-    words_load::load_stored(units, table, levels, state) as u32
+    words_known::state(state);
+    let number = words_load::load_stored(units, table, levels, state);
+    words_known::state(state);
+    number as u32
 }
 
 // Load with a table of parents drawn by the planner: 4 to 6, 15, 16, 7 to 9, 17, 18, 22.
@@ -51,11 +61,40 @@ pub fn load_planned(
     ensures number { λ r. ⌜ r ≡ numberOf
         (plannedLoadAnswer (record { units = units; words = now (table .entry); levels = now (levels .entry) })
         (now (parents .entry)) (stateOf (now (state .entry))) .reply) ⌝ }
-    ensures words { λ _. ⌜ stateOf (now (state .exit))
-        ≡ plannedLoadAnswer (record { units = units; words = now (table .entry); levels = now (levels .entry) })
-        (now (parents .entry)) (stateOf (now (state .entry))) .state ⌝ }
+    ensures left { λ _. ⌜ Left (now (state .entry)) (now (state .exit))
+        (plannedLoadAnswer (record { units = units; words = now (table .entry); levels = now (levels .entry) })
+        (now (parents .entry)) (stateOf (now (state .entry)))) ⌝ }
 {
-    words_load::load_planned(units, table, levels, parents, state) as u32
+    words_known::state(state);
+    let number = words_load::load_planned(units, table, levels, parents, state);
+    words_known::state(state);
+    number as u32
+}
+
+// One round: 10, 11.
+pub fn round(state: &mut [u16; STATE_WORDS]) -> u32
+    ensures number { λ r. ⌜ r ≡ numberOf (roundAnswer (stateOf (now (state .entry))) .reply) ⌝ }
+    ensures left { λ _. ⌜ Left (now (state .entry)) (now (state .exit)) (roundAnswer (stateOf (now (state .entry)))) ⌝ }
+{
+    words_known::state(state);
+    let number = words_run::round(state);
+    words_known::state(state);
+    number
+}
+
+// At most `budget` rounds: 10, 11. The rounds made go to `made`.
+pub fn run(state: &mut [u16; STATE_WORDS], budget: u16, made: &mut u16) -> u32
+    ensures number { λ r. ⌜ r ≡ numberOf (runAnswer budget (stateOf (now (state .entry))) .reply) ⌝ }
+    ensures left { λ _. ⌜ Left (now (state .entry)) (now (state .exit))
+        (runAnswer budget (stateOf (now (state .entry)))) ⌝ }
+    ensures made { λ _. ⌜ now (made .exit)
+        ≡ cond (eqb (roundRefusal (stateOf (now (state .entry)))) 0) (ran budget 0 (stateOf (now (state .entry))) .1)
+        (now (made .entry)) ⌝ }
+{
+    words_known::state(state);
+    let number = words_run::run(state, budget, made);
+    words_known::state(state);
+    number
 }
 
 // Status: 10. The reply is stage, countdown, all rounds, requests.

@@ -14,16 +14,18 @@ use Rattle.spec_machine.specs.Calls.{roundRefusal, runAnswer, statusRefusal, st
 use Rattle.spec_machine.specs.Calls.{linkRefusal, linkAnswer, reportRefusal, reportAnswer}
 use Rattle.words_layout.specs.Layout.{stateOf}
 use Rattle.words_calls.specs.Face.{said}
-use Rattle.spec_claim.specs.Play.{round, run, status, unit, link, report}
+use Rattle.words_known.specs.Left.{Left}
+use Rattle.spec_claim.specs.Play.{round, run, status, unit, link, report, answerTo}
 use Rattle.spec_claim.specs.PlayLaws.{unmoved}
-use Rattle.words_claim.specs.Exchange.{numberTo, stateAfter, lentAfter, madeAfter, CallMade}
+use Rattle.words_claim.specs.Exchange.{numberTo, lentAfter, madeAfter, CallMade}
 
 -- ---- calls that change the words
 
 -- link_survey_round
-pub round-made : (before after : List ℕ) (r : ℕ) → r ≡ numberTo round before → stateOf after ≡ stateAfter round before
+pub round-made : (before after : List ℕ) (r : ℕ) → r ≡ numberTo round before →
+    Left before after (answerTo round (stateOf before))
     → CallMade (record { call = round; given = []; number = r; lent = [] }) before after
-round-made before after r n w = record { number = n; words = w; lent = refl }
+round-made before after r n w = record { number = n; words = w .state; lent = refl }
 
 -- a run's one word holds the values of its reply
 made-said : (budget : ℕ) (s : State) (given : ℕ)
@@ -38,10 +40,10 @@ made-said budget s given = go (either (eqb (roundRefusal s) 0))
 
 -- link_survey_run
 pub run-made : (budget : ℕ) (before after : List ℕ) (given r made : ℕ) → r ≡ numberTo (run budget) before
-    → stateOf after ≡ stateAfter (run budget) before → made ≡ madeAfter budget before given
+    → Left before after (answerTo (run budget) (stateOf before)) → made ≡ madeAfter budget before given
     → CallMade (record { call = run budget; given = given ∷ []; number = r; lent = made ∷ [] }) before after
 run-made budget before after given r made n w m =
-    record { number = n; words = w; lent = ap (λ (k : ℕ). k ∷ []) m ∙ made-said budget (stateOf before) given }
+    record { number = n; words = w .state; lent = ap (λ (k : ℕ). k ∷ []) m ∙ made-said budget (stateOf before) given }
 
 -- ---- calls that read the words
 

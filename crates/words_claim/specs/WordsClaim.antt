@@ -14,7 +14,8 @@ use Rattle.spec_machine.specs.Calls.{Answer, numberOf, loadAnswer, storedLoadAn
 use Rattle.words_layout.specs.Layout.{stateOf}
 use Rattle.spec_claim.specs.Play.{Call, round, run, status, unit, link, report}
 use Rattle.spec_claim.specs.Claim.{EndRight, Claim}
-use Rattle.words_claim.specs.Exchange.{Exchange, CallsMade, callsOf, usedOf}
+use Rattle.spec_claim.specs.Inside.{Inside}
+use Rattle.words_claim.specs.Exchange.{numberTo, lentAfter, Exchange, CallsMade, callsOf, usedOf}
 
 -- a call that answers so gave back 0 and left these words
 abbrev pub DoneOn : Answer → List ℕ → Type 0
@@ -50,12 +51,22 @@ ToldAtEnd input e u (link j) number lent = j < linksIn input →
 ToldAtEnd input e u (report out) number lent =
     reportLength (input .units) (linksIn input) ≤ length out → (number ≡ 0) × (lent ≡ reported e out)
 
--- INSIDE A LIST. Where the calls before x came to the end, x is answered from the very survey that the last words are,
--- and that one is right.
+-- the call x, made on the words `between`, which the calls in front left
+pub record ToldOnWords (input : Input) (first last between : List ℕ) (front : List Exchange) (x : Exchange)
+    (back : List Exchange) : Type 0 where
+  pub made : CallsMade front first between
+  -- what is said of a call by value, before the end and after it
+  pub inside : Inside input (stateOf first) (callsOf front) (x .call) (callsOf back) (stateOf between) (usedOf front)
+  -- and C has it: the number of the answer, and its values or bytes
+  pub number : x .number ≡ numberTo (x .call) between
+  pub lent : x .lent ≡ lentAfter (x .call) between (x .given)
+  -- written out, where the end was reached: x is answered from the very survey that the last words are
+  pub atEnd : usedOf front ≡ total (stateOf first) → EndRight input (stateOf last) (usedOf front)
+      × ToldAtEnd input (stateOf last) (usedOf front) (x .call) (x .number) (x .lent)
+
+-- INSIDE A LIST. For every table that a load accepts, every list of calls from the words that it left and each call.
 abbrev pub InsideOnWords : Type 0
 InsideOnWords =
     (input : Input) (first last : List ℕ) → LoadedWords input first
     → (front : List Exchange) (x : Exchange) (back : List Exchange) → CallsMade (front ++ x ∷ back) first last
-    → usedOf front ≡ total (stateOf first)
-    → EndRight input (stateOf last) (usedOf front)
-    × ToldAtEnd input (stateOf last) (usedOf front) (x .call) (x .number) (x .lent)
+    → (between : List ℕ) × ToldOnWords input first last between front x back

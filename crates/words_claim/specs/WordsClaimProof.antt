@@ -13,7 +13,7 @@ use Rattle.spec_state.specs.declared.reply.Reply.the-variants.{Done, Status}
 use Rattle.spec_machine.specs.State.{State, FINISHED}
 use Rattle.spec_machine.specs.Load.{Input, loadRefusal, storedLoadRefusal, loaded, plannedLoadRefusal, plannedLoaded}
 use Rattle.spec_machine.specs.Step.{steps, countdown}
-use Rattle.spec_machine.specs.RunLaws.{steps-add, steps-finished}
+use Rattle.spec_machine.specs.RunLaws.{total, steps-add, steps-finished}
 use Rattle.spec_machine.specs.Calls.{Answer, roundRefusal, runAnswer, loadAnswer, storedLoadAnswer, plannedLoadAnswer}
 use Rattle.spec_machine.specs.Calls.{statusAnswer}
 use Rattle.spec_machine.specs.AnswerLaws.{answered-number}
@@ -22,6 +22,7 @@ use Rattle.spec_claim.specs.Play.{Call, round, run, status, unit, link, report,
 use Rattle.spec_claim.specs.Claim as by-value
 use Rattle.spec_claim.specs.Claim.{Loaded, EndRight, Claim}
 use Rattle.spec_claim.specs.ClaimProof.{claim}
+use Rattle.spec_claim.specs.InsideProof.{answers-inside}
 use Rattle.words_claim.specs.Exchange.{numberTo, lentAfter, Exchange, CallMade, CallsMade, callsOf, usedIn}
 use Rattle.words_claim.specs.Exchange.{usedOf}
 use Rattle.words_claim.specs.WordsClaim as on-words
@@ -131,10 +132,13 @@ module _ (input : Input) (e : State) (u : ℕ) (right : EndRight input e u)
       go (link j) number lent given n l = λ h. rw (n, l, same, right .linkAnswered j h) (refl, refl)
       go (report out) number lent given n l = λ h. rw (n, l, same, right .reportAnswered out h) (refl, refl)
 
-pub inside-on-words : InsideOnWords
+ended-on-words : (input : Input) (first last between : List ℕ) → LoadedWords input first
+    → (front : List Exchange) (x : Exchange) (back : List Exchange) → CallsMade (front ++ x ∷ back) first last
+    → CallsMade front first between → CallsMade (x ∷ back) between last → usedOf front ≡ total (stateOf first)
+    → EndRight input (stateOf last) (usedOf front)
+    × ToldAtEnd input (stateOf last) (usedOf front) (x .call) (x .number) (x .lent)
 unfolding shownAt
-inside-on-words input first last l front x back made over =
-    let (between, before, after) = parted front (x ∷ back) first last made in
+ended-on-words input first last between l front x back made before after over =
     let c : Claim input (stateOf first) (callsOf front) (stateOf between) (usedOf front) =
     claim-on-words input first between l front before in
     let d : Claim input (stateOf first) (callsOf (front ++ x ∷ back)) (stateOf last) (usedOf (front ++ x ∷ back)) =
@@ -150,3 +154,18 @@ inside-on-words input first last l front x back made over =
     let shown : statusAnswer (stateOf last) ≡ shownAt (stateOf last) (usedOf front) FINISHED =
     rw (← same) (c .status ∙ ap (shownAt (stateOf between) (usedOf front)) ended) in
     (right, at-end input (stateOf last) (usedOf front) right shown x between (after .0) same (after .1))
+
+pub inside-on-words : InsideOnWords
+inside-on-words input first last l front x back made =
+    let (between, before, after) = parted front (x ∷ back) first last made in
+    let (state, rounds) = played front first between before in (
+      between,
+      record {
+        made = before;
+        inside = rw (state, rounds) (answers-inside input (stateOf first) (loaded-words input first l) (callsOf front)
+            (x .call) (callsOf back));
+        number = after .1 .number;
+        lent = after .1 .lent;
+        atEnd = ended-on-words input first last between l front x back made before after;
+      },
+    )

@@ -1,5 +1,5 @@
-// Whether words are a well-formed state (document 01: kept), told where they lie: tables of one kind that stand in a
-// row are judged together.
+// Whether words are a well-formed state (document 01: kept). The words are judged where they lie; tables of one kind
+// that stand in a row are judged together.
 use super::layout;
 use super::layout::STATE_WORDS;
 use super::take;
@@ -44,21 +44,21 @@ fn entries_ok(units: u16, links: u16, words: &[u16; STATE_WORDS]) -> bool
     let numbers = within(number, layout::SUM, layout::NUMBERS, words);
     let given = within(number, layout::GIVEN, 1, words);
     let levels = within(bounds::levels(), layout::LEVELS, 1024, words);
-    let named = table_values::both(
+    let named = base_choice::both(
         ends,
-        table_values::both(table_values::both(trees, classes), drawn),
+        base_choice::both(base_choice::both(trees, classes), drawn),
     );
-    let entries = table_values::both(
-        table_values::both(
-            table_values::both(
-                table_values::both(table_values::both(named, arcs), labels),
+    let entries = base_choice::both(
+        base_choice::both(
+            base_choice::both(
+                base_choice::both(base_choice::both(named, arcs), labels),
                 dists,
             ),
             numbers,
         ),
         levels,
     );
-    table_values::both(entries, given)
+    base_choice::both(entries, given)
 }
 
 // Every one of n words from a place on passes.

@@ -51,7 +51,7 @@ pub fn lift<'a>(state: &'a [u16; STATE_WORDS], pairs: &'a [u16], out: &mut [u16]
     lifting_order::write(table.units, table.links, &table.ends, pairs, out) as u32
 }
 
-// Why a call that names two of so many links is refused: 10, 12, 13, then `number` where the call's own test holds.
+// Why a call that names two links is refused: 10, 12, 13, then `number` where the call's own test holds.
 fn two_links(
     state: &[u16; STATE_WORDS],
     links: u16,

@@ -11,11 +11,14 @@ ghost use Rattle.base_lists.specs.Folds.{some};
 ghost use Rattle.words_layout.specs.Layout.{stateOf};
 ghost use Rattle.spec_channel.specs.Office.{empty, waiting, spoilt};
 
-// Whether it has no survey.
+// Whether nothing was loaded: no unit and no stage.
 fn empty(seat: &[u16; STATE_WORDS]) -> bool
     ensures { λ r. ⌜ r ≡ empty (stateOf (now (seat .entry))) ⌝ }
 {
-    seat[0] == 0
+    if seat[0] != 0 {
+        return false;
+    }
+    words_layout::clock_at(seat).stage == 0
 }
 
 // Whether its survey is unfinished.

@@ -13,20 +13,22 @@ use Rattle.base_lists.specs.Folds.{some}
 use Rattle.base_lists.specs.Some.{some-exact, some-none}
 use Rattle.base_lists.specs.Tests.{either, and-right}
 use Rattle.spec_machine.specs.State.{State, finished}
-use Rattle.spec_machine.specs.Load.{Input, loadRefusal, loaded}
 use Rattle.spec_machine.specs.WellFormed.{wellFormed}
 use Rattle.spec_machine.specs.Step.{step}
 use Rattle.spec_machine.specs.Calls.{numberOf, roundRefusal, roundAnswer}
 use Rattle.words_layout.specs.Layout.{stateOf}
+use Rattle.words_known.specs.Known.{SeatWords}
 use Rattle.spec_channel.specs.Turns.{picked}
 use Rattle.spec_channel.specs.TurnLaws.{picked-same}
 use Rattle.spec_channel.specs.Office.{Office, seat, waits, waiting, spoilt, tickRefusal, tick, served, given}
-use Rattle.spec_channel.specs.Office.{seatRefusal, loadSeat}
+use Rattle.spec_channel.specs.Office.{Loading, ownRefusal, surveyOf, seatRefusal, loadSeat}
 use Rattle.spec_channel.specs.OfficeLaws.{waiting-parts, tick-made, load-refused, load-made, seat-missing, seat-there}
 use Rattle.spec_channel.specs.TickLaws.{tick-stays, tick-high, tick-spoilt, tick-over, tick-unkept, tick-given}
 use Rattle.spec_channel.specs.TickLaws.{served-waits}
 use Rattle.words_seats.specs.Lent.{officeOf}
 use Rattle.words_seats.specs.LentLaws.{seat-words, words-set}
+use Rattle.words_seats.specs.SeatsLeft.{TickedWords, LoadedSeat}
+use Rattle.words_seats.specs.SameSeats.{ticked-words, loaded-seat}
 
 -- ---- a round of a survey, by whether it is kept
 
@@ -171,34 +173,57 @@ module _ (last : ℕ) (words : List (List ℕ)) where
                       ∙ (ap (λ (i : ℕ). given i o) (known .is) ∙ sym (tick-made o e)),
                 )
 
+-- the same with every word
+pub ticks-words : (last k after : ℕ) (words new : List (List ℕ)) → SeatWords words → SeatWords new →
+    Told last words k after new
+    → (k ≡ tickRefusal (officeOf last words)) × (officeOf after new ≡ tick (officeOf last words))
+    × TickedWords last after words new
+ticks-words last k after words new O N t = (t .0, t .1, ticked-words words new O N last after (t .1))
+
 -- ---- a load of a seat
 
-module _ (words : List (List ℕ)) (i : ℕ) (input : Input) where
-  pub load-high : 7 < i → (23 ≡ seatRefusal i input)
-      × ((last : ℕ) → officeOf last words ≡ loadSeat i input (officeOf last words))
+module _ (words : List (List ℕ)) (i : ℕ) (load : Loading) where
+  load-high : 7 < i → (23 ≡ seatRefusal i load)
+      × ((last : ℕ) → officeOf last words ≡ loadSeat i load (officeOf last words))
   load-high h =
-      let e : seatRefusal i input ≡ 23 = seat-missing i input h in (
+      let e : seatRefusal i load ≡ 23 = seat-missing i load h in (
         sym e,
-        λ last. sym (load-refused i input (officeOf last words) (λ z. let q : _≡_ {A = ℕ} 23 0 = sym e
+        λ last. sym (load-refused i load (officeOf last words) (λ z. let q : _≡_ {A = ℕ} 23 0 = sym e
             ∙ z in omega arith)),
       )
 
-  pub load-there : i ≤ 7 → (number : ℕ) (new : List ℕ) → number ≡ loadRefusal input
-      → stateOf new ≡ cond (eqb (loadRefusal input) 0) (loaded input) (stateOf (getD words i []))
-      → (number ≡ seatRefusal i input) × ((last : ℕ) →
-      officeOf last (set words i new) ≡ loadSeat i input (officeOf last words))
-  load-there h number new said left = (said ∙ sym own, λ last. go last (either (eqb (loadRefusal input) 0)))
+  load-there : i ≤ 7 → (number : ℕ) (new : List ℕ) → number ≡ ownRefusal load
+      → stateOf new ≡ cond (eqb (ownRefusal load) 0) (surveyOf load) (stateOf (getD words i []))
+      → (number ≡ seatRefusal i load) × ((last : ℕ) →
+      officeOf last (set words i new) ≡ loadSeat i load (officeOf last words))
+  load-there h number new said left = (said ∙ sym own, λ last. go last (either (eqb (ownRefusal load) 0)))
     where
-      own : seatRefusal i input ≡ loadRefusal input
-      own = seat-there i input (omega arith)
+      own : seatRefusal i load ≡ ownRefusal load
+      own = seat-there i load (omega arith)
 
-      go : (last : ℕ) → (eqb (loadRefusal input) 0 ≡ true) ⊎ (eqb (loadRefusal input) 0 ≡ false)
-          → officeOf last (set words i new) ≡ loadSeat i input (officeOf last words)
+      go : (last : ℕ) → (eqb (ownRefusal load) 0 ≡ true) ⊎ (eqb (ownRefusal load) 0 ≡ false)
+          → officeOf last (set words i new) ≡ loadSeat i load (officeOf last words)
       go last (inl e) =
-          let z : seatRefusal i input ≡ 0 = own ∙ eqb-true (loadRefusal input) 0 e in
-          let l : stateOf new ≡ loaded input = rw e at left in
-          office-laid last words i new (loaded input) l ∙ sym (load-made i input (officeOf last words) z)
+          let z : seatRefusal i load ≡ 0 = own ∙ eqb-true (ownRefusal load) 0 e in
+          let l : stateOf new ≡ surveyOf load = rw e at left in
+          office-laid last words i new (surveyOf load) l ∙ sym (load-made i load (officeOf last words) z)
       go last (inr e) =
           let l : stateOf new ≡ stateOf (getD words i []) = rw e at left in
           same-office last words i new l
-          ∙ sym (load-refused i input (officeOf last words) (λ z. eqb-false (loadRefusal input) 0 e (sym own ∙ z)))
+          ∙ sym (load-refused i load (officeOf last words) (λ z. eqb-false (ownRefusal load) 0 e (sym own ∙ z)))
+
+  -- a number, and the words that are left
+  abbrev Loads : ℕ → List (List ℕ) → Type 0
+  Loads number new = (number ≡ seatRefusal i load) × (((last : ℕ) →
+      officeOf last new ≡ loadSeat i load (officeOf last words)) × LoadedSeat i load words new)
+
+  pub loads-none : SeatWords words → 7 < i → Loads 23 words
+  loads-none O h = let t = load-high h in (t .0, (t .1, loaded-seat words words O O i load (t .1)))
+
+  pub loads-one : SeatWords words → i ≤ 7 → (number : ℕ) (new : List ℕ) → SeatWords (set words i new) →
+      number ≡ ownRefusal load
+      → stateOf new ≡ cond (eqb (ownRefusal load) 0) (surveyOf load) (stateOf (getD words i []))
+      → Loads number (set words i new)
+  loads-one O h number new N said left =
+      let t = load-there h number new said left in
+      (t .0, (t .1, loaded-seat words (set words i new) O N i load (t .1)))

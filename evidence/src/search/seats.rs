@@ -5,10 +5,10 @@ use super::calls::{LEVEL_MARGIN, WORD_MARGIN, agree};
 use super::cases::found;
 use super::lent::Lent;
 use crate::Survey;
-use crate::damage::{spoil_site, spoil_words};
+use crate::damage::{spoil_parents, spoil_site, spoil_words};
 use crate::random::Random;
-use crate::seats::{FIRST_TURN, SEATS, Seats};
-use crate::sites::any_site;
+use crate::seats::{FIRST_TURN, SEATS, SeatCalls, Seats};
+use crate::sites::{any_parents, any_site};
 use crate::states::{any_kept, reached};
 use crate::words::{PLAIN, State};
 
@@ -61,18 +61,30 @@ impl Search {
         let seat = if random.once_in(8) { random.word() } else { random.below(SEATS + 1) as u16 };
         let mut table = Lent::new(&site.table, WORD_MARGIN);
         let mut levels = Lent::new(&site.levels, LEVEL_MARGIN);
+        let mut parents = any_parents(random, site.units, &site.table);
+        if random.once_in(3) {
+            spoil_parents(random, &mut parents);
+        }
+        let mut parents = Lent::new(&parents, WORD_MARGIN);
+        let name = random.pick(&["seat_load", "seat_load_stored", "seat_load_planned"]);
+        let load = |calls: &SeatCalls, seats: &mut Seats, table: &[u16], levels: &[i16], parents: &[u16]| match name {
+            "seat_load" => (calls.load)(seats, seat, site.units, table, levels),
+            "seat_load_stored" => (calls.load_stored)(seats, seat, site.units, table, levels),
+            _ => (calls.load_planned)(seats, seat, site.units, table, levels, parents),
+        };
         let proved =
-            (self.library.seats.load)(seats_of(seats.proved()), seat, site.units, table.proved(), levels.proved());
-        let plain = (PLAIN.seats.load)(seats_of(seats.plain()), seat, site.units, table.plain(), levels.plain());
+            load(&self.library.seats, seats_of(seats.proved()), table.proved(), levels.proved(), parents.proved());
+        let plain = load(&PLAIN.seats, seats_of(seats.plain()), table.plain(), levels.plain(), parents.plain());
         let all = agree(proved, plain).and_then(|number| {
             table.difference("table")?;
             levels.difference("levels")?;
+            parents.difference("parents")?;
             seats.difference("seats")?;
             Ok(number)
         });
         let number =
-            all.map_err(|difference| found(&format!("load of seat {seat}"), &format!("{site:?}"), &difference))?;
-        self.tally.number("seat_load", number);
+            all.map_err(|difference| found(&format!("{name}, seat {seat}"), &format!("{site:?}"), &difference))?;
+        self.tally.number(name, number);
         seats.go_on();
         Ok(())
     }

@@ -4,7 +4,7 @@ use std::collections::BTreeMap;
 
 /// Each call of the header, without its `link_survey_`, with the numbers of its refusals. 14 of a report of a file
 /// stands for no room.
-pub const REFUSALS: [(&str, &[u32]); 23] = [
+pub const REFUSALS: [(&str, &[u32]); 25] = [
     ("report", &[1, 2, 3, 6, 16, 4, 7, 8, 9, 14]),
     ("read", &[1, 2, 3, 6, 16, 14]),
     ("write", &[4, 5, 6, 15, 16, 7, 8, 9, 22, 14]),
@@ -27,6 +27,8 @@ pub const REFUSALS: [(&str, &[u32]); 23] = [
     ("live_add", &[4, 6, 16, 7, 8, 9, 10]),
     ("live_withdraw", &[4, 6, 16, 7, 8, 9, 10, 21]),
     ("seat_load", &[23, 4, 5, 6, 15, 16, 7, 8, 9, 22]),
+    ("seat_load_stored", &[23, 4, 5, 6, 15, 16, 7, 8, 9]),
+    ("seat_load_planned", &[23, 4, 5, 6, 15, 16, 7, 8, 9, 17, 18, 22]),
     ("tick", &[10, 11]),
 ];
 

@@ -77,7 +77,7 @@ impl Survey {
         false
     }
 
-    /// Round two: each link's label is the least position in its class. Links of absent class form one class.
+    /// Round two: the label of a link is the least position in its class. Links of absent class form one class.
     pub(super) fn label_round(&mut self) -> bool {
         let m = self.m();
         let bucket = |class: u16| usize::from(class).min(256);

@@ -82,8 +82,8 @@ impl Rules<'_> {
         })
     }
 
-    /// Document 02, T-02: of the neighbours visited in the round before, the one with the highest level, ties to the
-    /// least number.
+    /// Document 02, T-02: "of the neighbours visited in the round before, the one with the highest level, ties to the
+    /// least number".
     fn chosen_parent(&self, v: u32) -> u32 {
         let before = |w| at(&self.s.dist, w) == self.made - 1;
         let neighbour = |j| match self.ends(j) {

@@ -71,8 +71,8 @@ groups-requires : tie.Need-groups-requires
 groups-requires c κs = search needs
 
 -- src/main.rt:199:21
-less-requires : tie.Need-less-requires
-less-requires c κs = search needs
+difference-requires : tie.Need-less-requires
+difference-requires c κs = search needs
 
 -- src/main.rt:199:68
 slice-aggregate-more-2 : tie.Need-slice-aggregate-more-2
@@ -120,7 +120,7 @@ told-spec =
     slice-aggregate-more
     more-requires
     groups-requires
-    less-requires
+    difference-requires
     slice-aggregate-more-2
     more-requires-2
     slice-aggregate-byte

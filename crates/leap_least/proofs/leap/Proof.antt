@@ -1,6 +1,6 @@
 -- A leap that the budget and the ceiling cover.
-use mathlib.Core.Path.{_≡_, sym, ap, _∙_}
-use mathlib.Core.Bool.{true, false≢true, _&&_}
+use mathlib.Core.Path.{_≡_, refl, sym, ap, _∙_}
+use mathlib.Core.Bool.{true, false≢true, true≢false, _&&_}
 use Prim.Native.Nat.{_+_}
 use native.Mathlib.Omega.{arith}
 use borrow.Author.Tests.{not-false}
@@ -19,7 +19,7 @@ covers-requires : tie.Need-covers-requires
 covers-requires c κs = c .rounds-in .ensures .1
 
 returns : tie.Need-returns
-returns c = λ e. absurd (false≢true e)
+returns c = (λ e. absurd (false≢true e), λ _. (refl, refl, refl))
 
 passed-requires : tie.Need-passed-requires
 passed-requires c κs =
@@ -48,16 +48,18 @@ returns-2 c =
     let t = v .covers .ensures (and-right (v .before .before .found .result .right) (v .covers .result) (sure e)) in
     let r = v .before in
     let f = r .before in
-    let a = f .before .before .before .args in
-    λ _.
-    record {
-      rounds = f .found .result .rounds;
-      found = f .found .ensures .0 (and-left (f .found .result .right) (v .covers .result) (sure e));
-      covered = rw (r .rounds-in .ensures .0) at (t .1);
-      below = rw (r .rounds-in .ensures .0) at (t .2);
-      ticked = c .passed .ensures ∙ ap (λ r. passed r (a .clock)) (r .rounds-in .ensures .0);
-      counted = ap (λ r. a .made + r) (r .rounds-in .ensures .0);
-    }
+    let a = f .before .before .before .args in (
+      λ _.
+          record {
+            rounds = f .found .result .rounds;
+            found = f .found .ensures .0 (and-left (f .found .result .right) (v .covers .result) (sure e));
+            covered = rw (r .rounds-in .ensures .0) at (t .1);
+            below = rw (r .rounds-in .ensures .0) at (t .2);
+            ticked = c .passed .ensures ∙ ap (λ r. passed r (a .clock)) (r .rounds-in .ensures .0);
+            counted = ap (λ r. a .made + r) (r .rounds-in .ensures .0);
+          },
+      λ e. absurd (true≢false e),
+    )
 
 pub leap-spec : {M : Type 1} → statement M
 leap-spec =

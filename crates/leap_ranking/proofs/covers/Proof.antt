@@ -19,7 +19,7 @@ returns-3 c =
     let l = c .before in
     let f = l .before in
     let a = f .before .before .before .before .args in
-    let most : l .lg .result ≡ lg (2 * a .units - 2) = rw (f .less .ensures) at (l .lg .ensures) in
+    let most : l .lg .result ≡ lg (2 * a .units - 2) = rw (f .difference .ensures) at (l .lg .ensures) in
     λ e.
     let below = leb-true (a .clock .made + (a .rounds + 1)) (l .lg .result + 1) e in
     (search needs, search needs, rw most at below)
@@ -31,7 +31,7 @@ covers-spec =
     returns
     returns-2
     (λ c. search needs)  -- mul-less
-    (λ c κs. search needs)  -- less-requires
+    (λ c κs. search needs)  -- difference-requires
     (λ c κs. search needs)  -- lg-requires
     (λ c. search needs)  -- cast-most
     (λ c. search needs)  -- add-most

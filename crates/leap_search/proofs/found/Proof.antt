@@ -6,7 +6,7 @@ use Rattle.leap_search.proofs.found.Statement.{statement}
 use Rattle.leap_search.proofs.found.Tie as tie
 
 returns : tie.Need-returns
-returns c = (λ t. absurd (false≢true t), λ _. refl)
+returns c = (λ t. absurd (false≢true t), λ _. (refl, refl))
 
 pub found-spec : {M : Type 1} → statement M
 found-spec =

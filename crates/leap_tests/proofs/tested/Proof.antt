@@ -34,7 +34,7 @@ fine c =
     }
 
 returns : tie.Need-returns
-returns c = (λ t. absurd (false≢true t), λ _. refl)
+returns c = (λ t. absurd (false≢true t), λ _. (refl, refl))
 
 furthest-requires : tie.Need-furthest-requires
 furthest-requires c κs = fine c .units
@@ -48,7 +48,7 @@ units-right-requires c κs =
     (f .units, f .pairs, f .few)
 
 returns-2 : tie.Need-returns-2
-returns-2 c = (λ t. absurd (false≢true t), λ _. refl)
+returns-2 c = (λ t. absurd (false≢true t), λ _. (refl, refl))
 
 end-requires : tie.Need-end-requires
 end-requires c κs = fine (c .before .before .before .before .before .before .before .before) .units

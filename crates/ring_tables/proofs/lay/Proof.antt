@@ -34,7 +34,7 @@ loop-again c =
           (u .at .ensures) (rw (
             c .choose3 .ensures,
             c .before .before .bounded-sum .ensures,
-            c .before .less .ensures,
+            c .before .difference .ensures,
           ) refl),
     )
 
@@ -57,7 +57,7 @@ lay-spec =
     (λ c κs. search needs)  -- store-requires
     (λ c κs. search needs)  -- at-requires
     (λ c κs. search needs)  -- bounded-sum-requires
-    (λ c κs. search needs)  -- less-requires
+    (λ c κs. search needs)  -- difference-requires
     (λ c κs. search needs)  -- choose-requires-3
     (λ c. search needs)  -- sub-left
     (λ c. search needs)  -- loop-less

@@ -16,7 +16,7 @@ abbrev μ-loop : tie.MeasureT-loop
 loop-again : tie.Need-loop-again Inv-loop μ-loop
 loop-again c =
     let s = c .before .before in
-    (search needs, row-turn _ _ _ _ _ _ (s .loop .inv .1) (c .before .loop-test .taken) (c .taken .ensures))
+    (search needs, row-turn _ _ _ _ _ _ (s .loop .inv .1) (search needs) (c .taken .ensures))
 
 returns : tie.Need-returns Inv-loop μ-loop
 returns c = sym (c .before .loop .inv .1 ∙ row-done _ _ _ _ (c .loop-test .left))

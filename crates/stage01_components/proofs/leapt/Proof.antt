@@ -40,7 +40,7 @@ returns-2 c =
     leapt-run ran (on (a .units) (a .links) (a .ends .now)) (one (a .units) (a .links) (a .ends .now)) (a .units)
     (a .links) 1 (a .ends .now) (numbers (a .units)) Any
     (spreads (a .units) (a .links) (a .ends .now) (go e .fit)) (a .budget) (a .color) (a .clock) 0 _ _ _
-    (rw (m .greatest-of .ensures, d .said .ensures) at (c .leap .ensures right)) (λ x. x) (go e .inside)
+    (rw (m .greatest-of .ensures, d .said .ensures) at (c .leap .ensures .0 right)) (λ x. x) (go e .inside)
     ∙ ap (λ (b : ℕ). stageRun (on (a .units) (a .links) (a .ends .now)) (one (a .units) (a .links) (a .ends .now)) b
     (ran (a .color) (a .clock) 0)) all
 

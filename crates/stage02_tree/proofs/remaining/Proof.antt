@@ -22,30 +22,30 @@ found c = c .before .before .before .before
 record Fine (c : tie.Else1) : Type 0 where
   pub right : found c .leap .result .right ≡ true
   pub none : start c .args .given ≡ 0
-  pub covered : c .before .before .before .less .result < start c .args .left
+  pub covered : c .before .before .before .difference .result < start c .args .left
 
 fine : (c : tie.Else1) → Fine c
 fine c =
     let r = found c .leap .result .right in
     let g = eqb (start c .args .given) 0 in
-    let l = ltb (c .before .before .before .less .result) (start c .args .left) in
+    let l = ltb (c .before .before .before .difference .result) (start c .args .left) in
     let all : (r && (g && l)) ≡ true = sym (rw (c .before .before .both .ensures) at (c .before .both2 .ensures))
     ∙ not-false _ (c .if1 .left) in
     let covered = and-right r (g && l) all in
     record {
       right = and-left r (g && l) all;
       none = eqb-true (start c .args .given) 0 (and-left g l covered);
-      covered = ltb-true (c .before .before .before .less .result) (start c .args .left) (and-right g l covered);
+      covered = ltb-true (c .before .before .before .difference .result) (start c .args .left) (and-right g l covered);
     }
 
 ready : (c : tie.Start) → Ready (c .args .units) (c .args .clock)
 ready c = may (c .args .units) 2 (c .args .clock) (omega arith) (c .pre .1)
 
 -- few rounds are left
-few : (c : tie.Else1) → c .before .before .before .less .result < 257
+few : (c : tie.Else1) → c .before .before .before .difference .result < 257
 few c =
-    let l = found c .leap .ensures (fine c .right) in
-    omega (arith, c .before .before .before .less .ensures, l .room, l .goal .few)
+    let l = found c .leap .ensures .0 (fine c .right) in
+    omega (arith, c .before .before .before .difference .ensures, l .room, l .goal .few)
 
 returns : tie.Need-returns
 returns c = λ t. absurd (false≢true t)
@@ -75,11 +75,11 @@ returns-2 c =
     let e = c .before .before .before .before in
     let s = start e in
     let a = s .args in
-    let l = found e .leap .ensures (fine e .right) in
+    let l = found e .leap .ensures .0 (fine e .right) in
     λ t. leapt-run (a .units) (a .links) (a .left) (a .given) (found e .leap .result .last) _ _ (a .plan .now)
     (a .ends .now) (a .levels .now) (a .color .now)
     (record { parent = a .parent; dist = a .dist; clock = a .clock; made = a .made }) _ _ (fine e .none) (s .pre .0)
-    (s .pre .1) l (e .before .before .before .less .ensures) (fine e .covered)
+    (s .pre .1) l (e .before .before .before .difference .ensures) (fine e .covered)
     (c .least-of .ensures)
 
 pub remaining-spec : {M : Type 1} → statement M
@@ -87,7 +87,7 @@ remaining-spec =
     tie.close
     (tie.spec
     (λ c κs. search needs)  -- leap-requires
-    (λ c κs. search needs)  -- less-requires
+    (λ c κs. search needs)  -- difference-requires
     (λ c κs. search needs)  -- both-requires
     (λ c κs. search needs)  -- both-requires-2
     returns

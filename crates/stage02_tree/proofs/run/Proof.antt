@@ -89,8 +89,8 @@ run-spec =
     Inv-loop
     μ-loop
     (λ c κs. search needs)  -- links-fit-requires
-    (λ c κs. search needs)  -- less-requires
-    (λ c κs. search needs)  -- less-requires-2
+    (λ c κs. search needs)  -- difference-requires
+    (λ c κs. search needs)  -- difference-requires-2
     (λ c κs. search needs)  -- choose-requires
     loop-holds
     (λ c κs. search needs)  -- goes-on-requires

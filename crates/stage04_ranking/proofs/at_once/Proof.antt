@@ -16,7 +16,7 @@ returns-2 c =
     let a = s .args in
     leapt-run ran (on (a .units)) (one (a .units)) (a .units) 4 unnumbered (ranks (a .units)) (a .budget) [] (a .jump)
     (a .sum) (a .clock) _ _ _ _
-    (l .leap .ensures (not-false _ (e .if1 .left))) (s .pre)
+    (l .leap .ensures .0 (not-false _ (e .if1 .left))) (s .pre)
 
 pub at-once-spec : {M : Type 1} → statement M
 at-once-spec =

@@ -4,8 +4,8 @@ use Prim.Native.Nat.{_-_}
 use native.Mathlib.Omega.{arith}
 use borrow.Author.Needs.{needs}
 use borrow.Author.Tests.{le-leb}
-use Rattle.base_lists.specs.Tests.{and-true, cond-true}
-use Rattle.spec_rules.specs.Fits.{linksFit}
+use Rattle.base_lists.specs.Tests.{cond-true}
+use Rattle.spec_rules.specs.Fits.{linksFit, fit-within}
 use Rattle.spec_rules.specs.Range.{rangeEnds}
 use Rattle.spec_machine.specs.InStage.{Goes, goes}
 use Rattle.spec_machine.specs.StageRun.{Turning, turns-begin, turns-on, turns-over}
@@ -53,6 +53,11 @@ go : (c : tie.Then1 Inv-loop μ-loop)
 go c = goes _ _ _ _ _ _ (rw (c .before .before .before .before .links-fit .ensures) at
     (sym (c .before .goes-on .ensures) ∙ c .if1 .taken))
 
+begin-requires : tie.Need-begin-requires Inv-loop μ-loop
+begin-requires c κs =
+    let t = c .before .before .before .before .before .before .before .before .before .before in
+    (go t .few, fit-within _ _ _ (t .before .before .before .before .before .links-fit-arg .given .0) (go t .fit))
+
 loop-holds : tie.Need-loop-holds Inv-loop μ-loop
 loop-holds c = turns-begin _ _ _ _
 
@@ -76,13 +81,10 @@ loop-again c =
     let at-lg = at-loop .before in
     let g = go i in
     let made = c .begin .ensures in
-    let fit = and-true _ _ (le-leb _ _ (g .few)) (g .fit) in
     let clock = rw (g .inside, at-lg .lg .ensures) at (at-ticked .ticked .ensures) in
     turns-on _ _ _ _ _ _ _ (at-loop .loop .inv) (g .test)
-    (begun _ _ _ _ _ _ _ _ _ _ _ _ _ _ (at-if2 .if2 .taken) (made .0 ∙ cond-true _ _ _ fit) (made .1 .0
-    ∙ cond-true _ _ _ fit) (made .1 .1 .0 ∙ cond-true _ _ _ fit)
-    (made .1 .1 .1 .0 ∙ cond-true _ _ _ fit) (made .1 .1 .1 .1 .0 ∙ cond-true _ _ _ fit) (made .1 .1 .1 .1 .1
-    ∙ cond-true _ _ _ fit) clock)
+    (begun _ _ _ _ _ _ _ _ _ _ _ _ _ _ (at-if2 .if2 .taken) (made .0) (made .1 .0) (made .1 .1 .0)
+    (made .1 .1 .1 .0) (made .1 .1 .1 .1 .0) (made .1 .1 .1 .1 .1) clock)
 
 add-made-2 : tie.Need-add-made-2 Inv-loop μ-loop
 add-made-2 c =
@@ -127,7 +129,7 @@ run-spec =
     loop-holds
     (λ c κs. search needs)  -- goes-on-requires
     (λ c κs. search needs)  -- ticked-requires
-    (λ c κs. search needs)  -- begin-requires
+    begin-requires
     add-made
     loop-less
     loop-again

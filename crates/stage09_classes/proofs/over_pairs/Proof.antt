@@ -51,7 +51,7 @@ returns c =
     (spreads (a .units) (a .links) (a .ends .now) (a .parent .now) (a .linked .now) (a .parents .now)
     (j .joins .result) _ (rw (units, links) at (j .joins .ensures .0)) (s .pre .1)) (a .budget) (a .color)
     (a .clock) 0 _ _ _
-    (rw (m .greatest-of .ensures, m .before .less .ensures, says) at (c .leap .ensures right)) fine (s .pre .2)
+    (rw (m .greatest-of .ensures, m .before .difference .ensures, says) at (c .leap .ensures .0 right)) fine (s .pre .2)
     ∙ ap (λ (b : ℕ). stageRun (on (a .units) (a .links) (a .ends .now) (a .parent .now))
     (one (a .units) (a .links) (a .ends .now) (a .parent .now) (a .linked .now) (a .parents .now)) b
     (ran (a .color) (a .clock) 0)) all
@@ -63,7 +63,7 @@ over-pairs-spec =
     (λ c κs. search needs)  -- joins-requires
     (λ c κs. search needs)  -- said-requires
     (λ c κs. search needs)  -- without-roots-requires
-    (λ c κs. search needs)  -- less-requires
+    (λ c κs. search needs)  -- difference-requires
     (λ c κs. search needs)  -- greatest-of-requires
     (λ c. search needs)  -- slice-aggregate-leap
     (λ c κs. search needs)  -- leap-requires

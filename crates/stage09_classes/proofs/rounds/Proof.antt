@@ -12,7 +12,7 @@ use Rattle.spec_rules.specs.Bounds.{nameOk}
 use Rattle.spec_rules.specs.Fits.{linksFit, fit-few, fit-within}
 use Rattle.spec_machine.specs.InStage.{Goes, goes}
 use Rattle.spec_machine.specs.StageRun.{Turning, turns-begin, turns-on, turns-over}
-use Rattle.stage09_heads.specs.Heads.{Heads}
+use Rattle.stage09_aux.specs.Heads.{Heads}
 use Rattle.stage09_classes.specs.HeadLaws.{heads-exist}
 use Rattle.stage09_classes.specs.Rounds.{fits, on, one}
 use borrow.Author.Needs.{needs}

@@ -26,23 +26,22 @@ loop-holds c = (c .before .before .before .good .1 .0 .1, omega arith, refl, ref
 
 loop-again : tie.Need-loop-again Inv-loop μ-loop
 loop-again c =
-    let at-call = c .before .before .before .before .before .before .before in
-    let at-word3 = at-call .before .before in
-    let at-word2 = at-word3 .before in
-    let at-word = at-word2 .before in
-    let at-loop-test = at-word .before in
-    let at-loop = at-loop-test .before in
-    let start = at-loop .before .before .before .before in
-    let a = start .args in
-    let w = at-loop .loop in
-    let going = at-loop-test .loop-test .taken in
+    let l = c .before .before .before .before .before .before .before .before .before .before .before .before .before in
+    let a = c .before .before .before .before .before .before .before .before .before .before .before
+    .before .before .before .before .before .before .args in
+    let w = l .loop in
+    let going = c .before .before .before .before .before .before .before .before .before .before .before
+    .before .loop-test .taken in
     let next = next-call (a .calls .now) (w .i) (of (w .s)) (w .replies) (w .out) (omega (arith, going)) in
-    let m = at-call .call in
+    let m = c .before .before .before .before .before .before .before .call in
     let t = c .before .before .store in
     let made =
     call-made (drop (3 * (w .i + 1)) (a .calls .now)) (w .i) _ _ _ (of (w .s)) (w .replies) (w .out) _ _ _
-    (answerOf (m .result)) _ _ (at-word .word .ensures) (at-word2 .word2 .ensures) (at-word3 .word3 .ensures)
-    (m .ensures .0) (t .ensures) (m .ensures .1) in
+    (answerOf (m .result)) _ _ (c .before .before .before .before .before .before .before .before
+    .before .before .before .word .ensures) (c .before .before .before .before .before
+    .before .before .before .before .before .word2 .ensures) (c .before .before
+    .before .before .before .before .before .before
+    .before .word3 .ensures) (m .ensures .0) (t .ensures) (m .ensures .1) in
     (w .inv .0, search needs, search needs, search needs, w .inv .4 ∙ next ∙ made)
 
 returns : tie.Need-returns Inv-loop μ-loop

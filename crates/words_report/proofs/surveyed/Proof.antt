@@ -40,7 +40,7 @@ fits-in c =
 -- the words after the run are the survey
 ended : (r : tie.After-run) → stateOf (r .run .last .0) ≡ surveyed (taken (r .before .before .before .before))
 ended r = survey-left (taken (r .before .before .before .before)) (accepted (r .before .before .before)) _ _ _
-    (r .before .before .before .before .load-stored .ensures .1) (r .run .ensures .1 .0)
+    (r .before .before .before .before .load-stored .ensures .1 .state) (r .run .ensures .1 .0 .state)
 
 -- and their report is laid down
 laid : (r : tie.After-report) → r .report .last .1 .0

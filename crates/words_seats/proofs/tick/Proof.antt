@@ -45,6 +45,7 @@ use denote.Triple.Walked.{walk-meets}
 use denote.Signature.{Slot, plain}
 use Rattle.spec_channel.specs.Office as office
 use Rattle.words_seats.specs.Lent.{officeOf}
+use Rattle.words_seats.specs.SeatsLeft.{TickedWords}
 use Rattle.channel_turns.specs.declared.Turn.{Turn}
 use Rattle.words_seats.specs.declared.Served.{Served}
 use Rattle.channel_turns.proofs.Turn as T
@@ -78,7 +79,7 @@ Serve 𝓤 H A mem run = tripleOf 𝓤 H A serve.signature (serve.spec 𝓤 H A 
 -- what `serve` ensures, with the last words of the seats
 abbrev Told : ℕ → List (List ℕ) → Served → List (List ℕ) → Type 0
 Told n ys r zs = (r .number ≡ office.tickRefusal (officeOf n ys))
-    × (officeOf (r .last) zs ≡ office.tick (officeOf n ys))
+    × (officeOf (r .last) zs ≡ office.tick (officeOf n ys)) × TickedWords n (r .last) ys zs
 
 module _ {M : Type 1} (𝓤 : URA M) (H : Heap 𝓤) (A : Atoms 𝓤) (W : Given 𝓤 H A) (at-mem : Memory →
     SProp 𝓤) (run : Routine → Fun 𝓤) (κ κ′ : Lft) (bounds : AllOutlive 2 (tick.signature .outlives) (κ, (κ′, tt)))

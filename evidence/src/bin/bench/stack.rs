@@ -102,6 +102,8 @@ const CALLS: [&str; 23] = [
     "live_add",
     "live_withdraw",
     "seat_load",
+    "seat_load_stored",
+    "seat_load_planned",
     "tick",
 ];
 
@@ -158,6 +160,8 @@ fn depths(meter: &mut Meter, calls: &Calls, site: &Site) -> [usize; CALLS.len()]
 
     let mut seats = empty_seats();
     let seat_load = meter.done(|| (calls.seats.load)(&mut seats, 7, units, table, levels));
+    let seat_load_stored = meter.done(|| (calls.seats.load_stored)(&mut seats, 7, units, table, levels));
+    let seat_load_planned = meter.done(|| (calls.seats.load_planned)(&mut seats, 7, units, table, levels, &parents));
     seats.fill(*first);
     let (mut tick, mut round) = (0, 0);
     state.copy_from_slice(&first[..]);
@@ -199,6 +203,8 @@ fn depths(meter: &mut Meter, calls: &Calls, site: &Site) -> [usize; CALLS.len()]
         live_add,
         live_withdraw,
         seat_load,
+        seat_load_stored,
+        seat_load_planned,
         tick,
     ]
 }
@@ -208,7 +214,7 @@ pub fn print() {
         "Deepest stack in bytes, to the next 16, over the largest sites and, for a round and a tick, over all \
          their rounds.\n"
     );
-    println!("{:14}{:>10}{:>20}", "call", "proved", "plain on words");
+    println!("{:18}{:>10}{:>20}", "call", "proved", "plain on words");
     let mut meter = Meter::new();
     let mut most = [[0; CALLS.len()]; 2];
     for shape in LARGEST {
@@ -220,6 +226,6 @@ pub fn print() {
         }
     }
     for (i, call) in CALLS.iter().enumerate() {
-        println!("{call:14}{:>10}{:>20}", most[0][i], most[1][i]);
+        println!("{call:18}{:>10}{:>20}", most[0][i], most[1][i]);
     }
 }

@@ -12,7 +12,6 @@ use Rattle.file_frames.specs.Frame.{byteAt, wordAt}
 use Rattle.file_frames.specs.Kinds.{BARE-LINK, LINK}
 use Rattle.file_spec.specs.File.{linesOf, faultyLine, inOrder, linkFrames, statedCount, levelsIn}
 use Rattle.file_spec.specs.ReadLaws.{laterRefusal, refused-1, refused-2, refused-3, counted}
-use Rattle.file_judge.specs.FrameOrder.{nextOrder}
 use Rattle.file_read.specs.Walk.{LineAt, Walked, told-line, line-fits, pastAt, walk-start, walk-fault, walk-link}
 use Rattle.file_read.specs.Walk.{walk-bare, walk-other, walk-sound, walk-broken, walk-kept, walk-levels}
 use Rattle.file_read.specs.Walk.{walk-count, walk-last, walk-stated}

@@ -48,8 +48,8 @@ loop-again c =
     let put = at-put .put in
     let new =
     walk-store (a .mark) (a .t .now) (at-loop .loop .x) (put .last .0) (at-loop .loop .c - 1) (at-other .other .result)
-    (at-word2 .word2 .result) (at-word3 .word3 .result) (at-less .less .result) (at-choose .choose .result)
-    (at-other .other .ensures) (at-word2 .word2 .ensures) (at-word3 .word3 .ensures) (at-less .less .ensures)
+    (at-word2 .word2 .result) (at-word3 .word3 .result) (at-less .difference .result) (at-choose .choose .result)
+    (at-other .other .ensures) (at-word2 .word2 .ensures) (at-word3 .word3 .ensures) (at-less .difference .ensures)
     (at-choose .choose .ensures) (put .ensures) in (
       search needs,
       along-turn (a .t .now) (a .v) (acts (a .t .now) (does (a .mark))) (a .last .now) (a .next .now) (start .pre .1)
@@ -80,7 +80,7 @@ walk-spec =
     (λ c. search needs)  -- cast-w
     (λ c κs. search needs)  -- word-requires-3
     (λ c. search needs)  -- cast-less
-    (λ c κs. search needs)  -- less-requires
+    (λ c κs. search needs)  -- difference-requires
     (λ c κs. search needs)  -- choose-requires
     (λ c κs. search needs)  -- put-requires
     (λ c κs. search needs)  -- word-requires-4

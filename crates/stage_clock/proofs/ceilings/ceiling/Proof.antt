@@ -28,7 +28,7 @@ returns-5 : tie.Need-returns-5
 returns-5 c = rw (c .match .keys5) refl
 
 returns-6 : tie.Need-returns-6
-returns-6 c = rw (c .before .before .match .keys6, c .greatest-of2 .ensures, c .before .less .ensures) refl
+returns-6 c = rw (c .before .before .match .keys6, c .greatest-of2 .ensures, c .before .difference .ensures) refl
 
 returns-7 : tie.Need-returns-7
 returns-7 c =
@@ -46,7 +46,7 @@ ceiling-spec =
     (λ c κs. search needs)  -- ranking-ceiling-requires
     (λ c κs. search needs)  -- lg-requires
     add-result-2
-    (λ c κs. search needs)  -- less-requires
+    (λ c κs. search needs)  -- difference-requires
     (λ c κs. search needs)  -- greatest-of-requires-2
     returns
     returns-2

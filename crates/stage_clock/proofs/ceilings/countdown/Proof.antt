@@ -59,5 +59,5 @@ countdown-spec =
     (λ c. search needs)  -- add-k
     (λ c. search needs)  -- loop-less
     loop-again
-    (λ c κs. search needs)  -- less-requires
+    (λ c κs. search needs)  -- difference-requires
     returns)

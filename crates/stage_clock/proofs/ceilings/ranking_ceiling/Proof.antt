@@ -6,17 +6,17 @@ use Rattle.stage_clock.proofs.ceilings.ranking_ceiling.Statement.{state
 use Rattle.stage_clock.proofs.ceilings.ranking_ceiling.Tie as tie
 
 add-result : tie.Need-add-result
-add-result c = omega (arith, lg-least (c .before .less .result) 9 (omega arith))
+add-result c = omega (arith, lg-least (c .before .difference .result) 9 (omega arith))
 
 returns : tie.Need-returns
-returns c = rw (c .lg .ensures, c .before .less .ensures)
+returns c = rw (c .lg .ensures, c .before .difference .ensures)
 
 pub ranking-ceiling-spec : {M : Type 1} → statement M
 ranking-ceiling-spec =
     tie.close
     (tie.spec
     (λ c. search needs)  -- mul-less
-    (λ c κs. search needs)  -- less-requires
+    (λ c κs. search needs)  -- difference-requires
     (λ c κs. search needs)  -- lg-requires
     add-result
     returns)

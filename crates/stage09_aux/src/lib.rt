@@ -1,0 +1,3 @@
+// Stage 9's edges: the joins of the auxiliary graph as pairs of units, and the head of each unit.
+pub mod heads;
+pub mod pairs;
