@@ -1,7 +1,7 @@
 """Tests of the front door, its reports and its program: python3 tools/test_survey.py
 
-What the program is made to run on is skipped, and said so, where target/bin/link_survey is not built; most tests lend it
-a report instead.
+What the program is made to run on is skipped, and said so, where target/bin/link_survey is not built; most tests
+lend it a report instead.
 """
 import importlib.util
 import os

@@ -1,7 +1,7 @@
 """What the tests of the front door share: the vectors, sites and tables, and the door run within the test.
 
-The vectors stand in crates/check_vectors/data, or where LINK_SURVEY_VECTORS says: NAME.in is a survey file, NAME.out what
-the survey prints.
+The vectors stand in crates/check_vectors/data, or where LINK_SURVEY_VECTORS says: NAME.in is a survey file, NAME.out
+what the survey prints.
 """
 import contextlib
 import glob
