@@ -425,7 +425,8 @@ static int live_table(void)
 static int seats_by_turns(void)
 {
 #ifndef LINK_SURVEY_SELF_TEST_ONE_SEAT
-    uint16_t last = LINK_SURVEY_FIRST_TURN, status[LINK_SURVEY_STATUS_WORDS];
+    struct link_survey_turn turn = LINK_SURVEY_FIRST_TURN;
+    uint16_t status[LINK_SURVEY_STATUS_WORDS];
 
     for (unsigned i = 0; i < SEATS; i++)
         seats[i][0] = 0;
@@ -433,9 +434,9 @@ static int seats_by_turns(void)
         || link_survey_seat_load(seats, 3, 2, case_c->table, 2, levels, 1) != LINK_SURVEY_DONE)
         return 0;
     for (unsigned tick = 1; tick <= 47; tick++)
-        if (link_survey_tick(&last, seats) != LINK_SURVEY_DONE || last != (tick <= 40 && tick % 2 == 0 ? 3 : 0))
+        if (link_survey_tick(&turn, seats) != LINK_SURVEY_DONE || turn.last != (tick <= 40 && tick % 2 == 0 ? 3 : 0))
             return 0;
-    return link_survey_tick(&last, seats) == LINK_SURVEY_AT_END && last == 0
+    return link_survey_tick(&turn, seats) == LINK_SURVEY_AT_END && turn.last == 0
            && link_survey_status(seats[3], status) == LINK_SURVEY_DONE && status[LINK_SURVEY_STATUS_ROUNDS] == 20;
 #else
     (void)case_c;

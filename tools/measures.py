@@ -6,7 +6,7 @@ import subprocess
 import counts
 from counts import Unknown, number, table
 
-CARGO = ["cargo", "run", "--offline", "--quiet", "--release", "--features", "record", "--bin"]
+CARGO = ["cargo", "run", "--offline", "--quiet", "--release", "--features", "face", "--bin"]
 
 
 def printed(*command):

@@ -6,7 +6,7 @@ each link brings the known bound down by one (Eswaran and Tarjan 1976; Hsu and R
 """
 import itertools
 
-from joins import NOTHING, Tree
+from joins import NOTHING
 from losses import neighbours_of
 
 

@@ -137,7 +137,7 @@ class Check(Tree):
         self.assertEqual(groups["differences"], ("skipped", "no archive of survey_c from these sources"))
 
     def test_each_failure(self):
-        self.check("archive", "seats_archive")
+        self.check("archive")
         for said, group in (
             ({"BAD_FORMAT": "1"}, "format"),
             ({"BAD_FIGURES": "1"}, "figures"),
@@ -157,7 +157,7 @@ class Check(Tree):
 
     def test_a_test_that_did_not_run(self):
         """A feature that is missing leaves a test out, and cargo says nothing."""
-        status, groups, _ = self.check("archive", "seats_archive", "repeated_link", UNSEEN="1")
+        status, groups, _ = self.check("archive", "repeated_link", UNSEEN="1")
         self.assertEqual(status, 1)
         self.assertEqual(groups["repeated_link"][0], "failed")
         self.assertIn("0 tests; there are 1", groups["repeated_link"][1])
@@ -272,8 +272,7 @@ class Gate(Tree):
     def test_the_toolchain_alone(self):
         status, groups, lines = self.gate()
         self.assertEqual((status, lines[-1]), (0, "7 passed, 0 failed"))
-        self.assertEqual({name for name, (said, _) in groups.items() if said == "passed"},
-                         {"format", "archive", "seats_archive"})
+        self.assertEqual({name for name, (said, _) in groups.items() if said == "passed"}, {"format", "archive"})
         for name in "test_quick", "test_slow", "header", "figures", "plain_version", "differences":
             self.assertEqual(groups[name][0], "skipped")
 

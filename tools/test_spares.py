@@ -13,10 +13,10 @@ import plain_text
 from joins import Tree
 from limits import Limits, limits_of, near_pairs, pairs_in
 from losses import Losses
-from proposals import proposed, with_links, with_spare
+from proposals import proposed, with_links
 from spares import Plan, best_pair, bound_of, hops_of
 from survey_text import Fault, Site
-from test_survey import PROGRAM, Door, components, contents, example, text_of, weak_by_removal
+from testing import PROGRAM, Door, components, contents, example, text_of, weak_by_removal
 
 ANY = lambda u, v: True
 
