@@ -1,6 +1,6 @@
--- What T-12 asks. Of one load or tick of any eight seats and any turn: `AnyOffice`. Of any list of loads of seats, by any
--- of the three loads, and of ticks, refused ones included, from eight empty seats and a turn that no tick has moved:
--- `OneChannel`. ChannelProof.antt proves both.
+-- What T-12 asks. Of one load or tick of any eight seats and any turn: `AnyOffice`. Of any list of loads of seats, by
+-- any of the three loads, and of ticks, refused ones included, from eight empty seats and a turn that no tick has
+-- moved: `OneChannel`. ChannelProof.antt proves both.
 use mathlib.Core.Path.{_≡_}
 use mathlib.Core.Bool.{true, false}
 use mathlib.Core.Logic.{_↔_}

@@ -1,5 +1,5 @@
-// Several sites over one channel (T-12) for callers in C: eight states in words that the caller lends, and whose turn it
-// is, a record that the caller lends too. What a call leaves in the seats is settled word for word
+// Several sites over one channel (T-12) for callers in C: eight states in words that the caller lends, and whose turn
+// it is, a record that the caller lends too. What a call leaves in the seats is settled word for word
 // (words_seats/specs/SeatsLeft.antt).
 use channel_turns::Turn;
 use words_layout::STATE_WORDS;

@@ -20,7 +20,8 @@ returns-2 c =
     let k = e .before in
     let a = k .before .before .before .before .args in
     let input : Input = record { units = a .units; words = a .table .now; levels = a .levels .now } in
-    loads-one (a .seats .now) (a .seat) (planned input (a .parents .now)) (k .seats .ensures) (e .if1 .left) (l .load-planned .result) _
+    loads-one (a .seats .now) (a .seat) (planned input (a .parents .now)) (k .seats .ensures) (e .if1 .left)
+    (l .load-planned .result) _
     (c .seats2 .ensures) (l .load-planned .ensures .0) (l .load-planned .ensures .1)
 
 pub load-planned-spec : {M : Type 1} → statement M

@@ -54,7 +54,8 @@ returns-4 c =
     let e3 = r .before .before in
     let k = entry (e3 .before .before) in
     let a = begin k .args in
-    ticks-words (a .last) (r .round .result) (a .last) (a .seats .now) _ (k .seats .ensures) (c .before .seats2 .ensures)
+    ticks-words (a .last) (r .round .result) (a .last) (a .seats .now) _ (k .seats .ensures)
+    (c .before .seats2 .ensures)
     (told-refused _ _ _ _ (judged (e3 .before .before)) (e3 .before .if2 .left) (e3 .if3 .left) (r .round .result) _
     (r .round .ensures .0) (r .round .ensures .1) (c .if4 .taken))
 
