@@ -1,7 +1,7 @@
 """Where spares go, in words: the units that must hear each, what it cures and what stays, and the fewest links for
 all."""
 from losses import changes, counted, named, units_of
-from words import LISTED, held_names, in_short, links_of
+from words import LISTED, held_names, in_short
 
 PLAN = 24  # so many links of a plan are told one by one
 
@@ -29,7 +29,9 @@ class Told:
     """The lines for what is proposed."""
 
     def __init__(self, found, names, proved):
-        self.found, self.names = found, held_names(names)
+        first, many = found.losses.site.units, len(found.steps) if found.spares else 0
+        spares = {first + k: f"spare {k + 1}" for k in range(many)}
+        self.found, self.names = found, held_names({**(names or {}), **spares})
         self.again = "surveyed again" if proved else "worked out again, not by the proved program"
         self.thing = "spare" if found.spares else "link"
         self.weak = len(found.losses.weak())
@@ -55,6 +57,8 @@ class Told:
         if self.weak or len(self.found.losses.pieces()) > 1:
             limits = "within the limits " if self.found.limited else ""
             yield f"where spares go: {limits}no pair of units cures anything"
+        elif self.found.left_out and not self.found.losses.site.links:
+            yield "where spares go: no unit hears another yet: switch them on first"
         else:
             yield "no spare is needed: no weak place"
 
@@ -83,22 +87,21 @@ class Told:
         found = self.found
         if not self.weak and len(found.losses.groups) == 1:
             return
-        if found.losses.site.units == 2:
+        if found.losses.site.units == 2 or [len(part) for part in found.losses.pieces()] == [2]:
             yield "two units have but one link, which stays lone: only a spare that both hear cures it"
-            return
-        if self.weak or len(found.losses.pieces()) > 1:
+        elif self.weak or len(found.losses.pieces()) > 1:
             apart = len(found.losses.pieces()) > 1
             yield from self.remedy(found.remedy, "join the groups and cure all" if apart else "cure all")
-        if found.whole:
+        if found.whole and found.losses.site.units > 2:
             units = units_of(found.left_out, self.names)
             yield from self.remedy(found.whole, f"cure all and join {units} too")
 
     def remedy(self, remedy, does):
         links = [f"{u}-{v}" for u, v in remedy.links]
-        told = links_of(links[:PLAN]) + (f" and {len(links) - PLAN} more" if len(links) > PLAN else "")
-        fewest = f"the fewest links that could {does}: {remedy.fewest}"
+        told = ", ".join(links[:PLAN]) + (f" and {len(links) - PLAN} more" if len(links) > PLAN else "")
+        fewest = f"the fewest links or spares that could {does}: {remedy.fewest}"
         if not links:
-            yield f"{fewest}; within the limits no link helps" if self.found.limited else fewest
+            yield f"{fewest}; within the limits none helps" if self.found.limited else fewest
             return
         if remedy.losses is None:
             yield f"{fewest}; a plan of {len(links)}: {told} (not surveyed: the table has no room for them)"

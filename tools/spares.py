@@ -6,7 +6,7 @@ each link brings the known bound down by one (Eswaran and Tarjan 1976; Hsu and R
 """
 import itertools
 
-from joins import NOTHING, Tree
+from joins import NOTHING
 from losses import neighbours_of
 
 
@@ -144,7 +144,7 @@ class Plan:
     def across(self, pieces, leaves):
         """A link between the two largest pieces, from leaf to leaf."""
         pieces.sort(key=lambda part: (-len(part), min(part)))
-        return tuple(min(leaves.keys() & set(part) or part) for part in pieces[:2])
+        return tuple(sorted(min(leaves.keys() & set(part) or part) for part in pieces[:2]))
 
     def within(self, bound, leaves):
         """A link between two leaves that brings the bound down: the one that cures the most if it does, else the

@@ -9,7 +9,7 @@ import judge
 import plain_text
 import survey
 from survey_text import REFUSALS, Fault, Site
-from test_survey import Door, contents, example, line, text_of
+from testing import Door, contents, example, line, text_of
 
 CASE_B = [(0, 1), (1, 2), (0, 2), (2, 3)]
 

@@ -16,7 +16,9 @@ import tempfile
 import unittest
 
 import page
+from limits import Limits
 from losses import Losses
+from proposals import proposed
 from survey_text import Site, read_site
 
 ROOT = os.path.dirname(os.path.dirname(os.path.abspath(__file__)))
@@ -165,6 +167,24 @@ class Written(unittest.TestCase):
         self.assertEqual(len(parsed.scripts), 2)
         self.assertEqual(json.loads(parsed.scripts[0])["names"], {"2": "</script><b>&\"'", "3": "N3"})
         self.assertEqual(written.count("</script>"), 2)
+
+    def test_spares(self):
+        """Where spares go stands in words, and on a drawing of its own on which nothing is tapped."""
+        losses = road()
+        found = proposed(losses, 2, Limits(), Losses)
+        written = page.html_of(losses, {0: "head <N1>"}, None, found)
+        self.assertEqual([a["id"] for _, a in Elements(written).found if a.get("class") == "sheet"], ["whole", "spared"])
+        spared = written[written.index('id="spared"') : written.index("<aside")]
+        self.assertNotRegex(spared, r"data-(unit|link)=")
+        self.assertIn(">S1</text>", spared)
+        told = html.unescape(re.sub(r"<[^>]+>", " ", written[written.index('<div id="spares">') :]))
+        for k, step in enumerate(found.steps, 1):
+            self.assertRegex(told, rf"spare {k}, heard by units {step.heard_by[0]}\b.* and {step.heard_by[1]}\b")
+        self.assertNotIn('id="spare', page.html_of(losses))
+
+    def test_not_by_the_proved_program(self):
+        self.assertIn("NOT BY THE PROVED PROGRAM", page.html_of(road(), proved=False))
+        self.assertNotIn("PROVED", page.html_of(road()))
 
     def test_the_same_each_time(self):
         self.assertEqual(page.html_of(road()), page.html_of(road()))

@@ -13,10 +13,10 @@ import plain_text
 from joins import Tree
 from limits import Limits, limits_of, near_pairs, pairs_in
 from losses import Losses
-from proposals import proposed, with_links, with_spare
+from proposals import proposed, with_links
 from spares import Plan, best_pair, bound_of, hops_of
 from survey_text import Fault, Site
-from test_survey import PROGRAM, Door, components, contents, example, text_of, weak_by_removal
+from testing import PROGRAM, Door, components, contents, example, text_of, weak_by_removal
 
 ANY = lambda u, v: True
 
@@ -274,8 +274,8 @@ class AtTheDoor(Door):
             "not by the proved program: 1 weak place left",
             "heard by unit 5 (head S1) too",
             "unit 8 (lorry exit) hears nobody and is left out of these",
-            "the fewest links that could cure all: 2; a plan of as many: links 0-7, 3-5;",
-            "the fewest links that could cure all and join unit 8 (lorry exit) too: 3;",
+            "the fewest links or spares that could cure all: 2; a plan of as many: 0-7, 3-5;",
+            "the fewest links or spares that could cure all and join unit 8 (lorry exit) too: 3;",
         ]:
             self.assertIn(words, said)
         self.assertNotIn("spare 2", said)
@@ -283,15 +283,18 @@ class AtTheDoor(Door):
     def test_near(self):
         said = self.spares(text_of(5, [(v, v + 1) for v in range(4)]), "2", "--near", "0-2,2-4")
         self.assertIn("spare 1, heard by units 0 and 2:", said)
-        self.assertIn(
-            "the fewest links that could cure all: 1; within the limits none does: 2 leave some: links 0-2, 2-4;", said
-        )
+        told = "the fewest links or spares that could cure all: 1; within the limits none does: 2 leave some: 0-2, 2-4;"
+        self.assertIn(told, said)
         self.fails(self.run_door(example("case-b.txt"), "--near", "0-1"), "--near limits what --spares proposes")
         self.fails(self.run_door(example("case-b.txt"), "--spares", "0"), "no number of spares from 1 to 256")
 
     def test_nothing_to_cure(self):
         self.assertIn("no spare is needed: no weak place\n", self.spares(text_of(3, [(0, 1), (1, 2), (0, 2)])))
-        self.assertIn("only a spare that both hear cures it", self.spares(text_of(2, [(0, 1)])))
+        for units in 2, 3:
+            said = self.spares(text_of(units, [(0, 1)]))
+            self.assertIn("only a spare that both hear cures it", said)
+            self.assertNotIn("could cure all: 0", said)
+        self.assertIn("no unit hears another yet", self.spares(text_of(3, [])))
 
     @unittest.skipUnless(os.path.exists(PROGRAM), "target/bin/link_survey is not built (rt check link_survey)")
     def test_by_the_program(self):
