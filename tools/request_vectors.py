@@ -1,7 +1,6 @@
 """The vectors of document 02's requests through the calls from C, for tools/test_examples.py: from the numbers of a
-stream to the lines that the check programs of T-04, T-07, T-08, T-09, T-11 and T-12 print for it (crates/check_*/stdout,
-from an independent model). Whatever a call must leave is judged here.
-"""
+stream to the lines that the check programs of T-04, T-07, T-08, T-09, T-11 and T-12 print for it
+(crates/check_*/stdout, from an independent model). Whatever a call must leave is judged here."""
 from ctypes import Structure, byref, c_int16, c_uint16, c_uint64, c_uint8
 
 STATE_WORDS, LIVE_WORDS, SEATS = 12295, 3330, 8

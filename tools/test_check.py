@@ -106,7 +106,7 @@ class Tree(unittest.TestCase):
         """The exit status of a command, the outcome and the words of each group, and all lines."""
         given = {"PATH": self.path, "CALLS": self.calls, "HOME": self.root, **said}
         words = [os.path.join(self.root, command[0]), *command[1:]]
-        done = subprocess.run(words, env=given, capture_output=True, text=True, timeout=120, check=False)
+        done = subprocess.run(words, env=given, capture_output=True, text=True, timeout=600, check=False)
         groups = re.findall(r"(?m)^(passed|failed|skipped) +(\S+) +\d+ s  (.*)$", done.stdout)
         return done.returncode, {name: (outcome, why) for outcome, name, why in groups}, done.stdout.splitlines()
 

@@ -173,7 +173,8 @@ class Written(unittest.TestCase):
         losses = road()
         found = proposed(losses, 2, Limits(), Losses)
         written = page.html_of(losses, {0: "head <N1>"}, None, found)
-        self.assertEqual([a["id"] for _, a in Elements(written).found if a.get("class") == "sheet"], ["whole", "spared"])
+        sheets = [a["id"] for _, a in Elements(written).found if a.get("class") == "sheet"]
+        self.assertEqual(sheets, ["whole", "spared"])
         spared = written[written.index('id="spared"') : written.index("<aside")]
         self.assertNotRegex(spared, r"data-(unit|link)=")
         self.assertIn(">S1</text>", spared)

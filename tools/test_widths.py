@@ -10,40 +10,6 @@ import unittest
 ROOT = os.path.dirname(os.path.dirname(os.path.abspath(__file__)))
 COLUMNS = 120
 KINDS = {".rt", ".antt", ".md", ".py", ".c", ".h", ".rs", ".sh"}
-# files that are still wider, and in how many lines: a number here may only fall
-WIDER = {
-    "docs/ARCHITECTURE.md": 2,
-    "docs/DECISIONS.md": 1,
-    "docs/MANUAL.md": 17,
-    "docs/PROOFS.md": 5,
-    "docs/THEOREMS.md": 1,
-    "docs/requests/T-02.md": 1,
-    "docs/requests/T-05.md": 1,
-    "docs/requests/T-07.md": 1,
-    "docs/requests/T-09.md": 2,
-    "docs/requests/T-11.md": 1,
-    "docs/requests/T-13.md": 2,
-    "evidence/tests/header.rs": 1,
-    "include/link_survey.h": 10,
-    "tools/block_drawing.py": 16,
-    "tools/blocks.py": 2,
-    "tools/captions.py": 2,
-    "tools/drawing.py": 13,
-    "tools/ink.py": 3,
-    "tools/layout.py": 7,
-    "tools/losses.py": 7,
-    "tools/page.py": 10,
-    "tools/plain_text.py": 5,
-    "tools/request_vectors.py": 5,
-    "tools/routes.py": 3,
-    "tools/survey.py": 9,
-    "tools/survey_text.py": 8,
-    "tools/test_drawing.py": 23,
-    "tools/test_examples.py": 10,
-    "tools/test_page.py": 15,
-    "tools/test_survey.py": 47,
-    "tools/words.py": 9,
-}
 
 
 def held(path):
@@ -84,7 +50,7 @@ class Widths(unittest.TestCase):
             seen += 1
             name = os.path.relpath(path, ROOT).replace(os.sep, "/")
             found = wide(path)
-            if len(found) > WIDER.get(name, 0):
+            if found:
                 with self.subTest(name):
                     self.fail(f"lines of more than {COLUMNS} columns: " + ", ".join(map(str, found)))
         self.assertGreater(seen, 0)

@@ -3,7 +3,7 @@
 //! every call.
 
 use plain::search::Search;
-use plain::seats::{SEATS, SeatCalls, load_seat, tick};
+use plain::seats::{SEATS, load_seat, tick};
 use plain::words::{self, Calls, PLAIN, State};
 use plain::{ABSENT, LIVE_WORDS, Live, LiveWords, Survey, check_fresh, level_of_word};
 
@@ -896,7 +896,7 @@ fn questions_and_lines() {
 /// The plain version beside itself: no difference, and nothing that never came up.
 #[test]
 fn no_fault() {
-    let mut search = Search::new(Calls { seats: SeatCalls { load: load_seat, tick }, ..PLAIN });
+    let mut search = Search::new(PLAIN);
     assert_eq!(search.first_found(1, CASES), None);
     assert_eq!(search.missing(), Vec::<String>::new());
 }

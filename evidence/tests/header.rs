@@ -22,8 +22,8 @@ fn numbers(text: &str) -> BTreeSet<u32> {
     bare.split_whitespace().map(|digits| digits.parse().unwrap()).collect()
 }
 
-/// Each function with the numbers of its "returns"; a report, which returns a number of bytes, lists its refusals in brackets.
-/// The version is no call of the survey, and is refused nothing.
+/// Each function with the numbers of its "returns"; a report, which returns a number of bytes, lists its refusals in
+/// brackets. The version is no call of the survey, and is refused nothing.
 #[test]
 fn functions_and_their_numbers() {
     let header = header();

@@ -40,9 +40,9 @@ abbrev pub answered : ℕ → State → State → Reply → Answer
 answered k s after reply = cond (eqb k 0) (record { state = after; reply = reply })
     (record { state = s; reply = Refused k })
 
--- the values of a reply, in document 01's order
+-- the values of a reply, in document 01's order; a refusal has none but its number
 abbrev pub valuesOf : Reply → List ℕ
-valuesOf (Refused k) = k ∷ []
+valuesOf (Refused k) = []
 valuesOf Done = []
 valuesOf (Made k) = k ∷ []
 valuesOf (Status stage countdown rounds requests) = stage ∷ countdown ∷ rounds ∷ requests ∷ []

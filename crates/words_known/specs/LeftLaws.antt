@@ -55,9 +55,9 @@ module _ (before after : List ℕ) (old : StateWords before) (new : StateWords a
   left-stored input e = by-answer (answered (storedLoadRefusal input) (stateOf before) (loaded input) Done) e
       (unmoved (storedLoadRefusal input) (stateOf before) (loaded input) Done refl)
 
-  pub left-planned : (input : Input) (ps : List ℕ) →
-      stateOf after ≡ plannedLoadAnswer input ps (stateOf before) .state →
-      Left before after (plannedLoadAnswer input ps (stateOf before))
+  pub left-planned : (input : Input) (ps : List ℕ)
+      → stateOf after ≡ plannedLoadAnswer input ps (stateOf before) .state
+      → Left before after (plannedLoadAnswer input ps (stateOf before))
   unfolding plannedLoadAnswer
   left-planned input ps e =
       by-answer (answered (plannedLoadRefusal input ps) (stateOf before) (plannedLoaded input ps) Done) e

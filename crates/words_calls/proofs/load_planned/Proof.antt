@@ -17,13 +17,12 @@ returns c =
     let k = l .before .before in
     let a = k .before .before .before .before .args in
     let input : Input = record { units = a .units; words = a .table .now; levels = a .levels .now } in
-    let s = stateOf (a .state .now) in (
-      l .load-planned .ensures .0 ∙ sym (answered-number (plannedLoadRefusal input (a .parents .now)) s
-          (plannedLoaded input (a .parents .now)) Done refl),
+    let s = stateOf (a .state .now) in
+    let refused = plannedLoadRefusal input (a .parents .now) in
+    let made = plannedLoaded input (a .parents .now) in (
+      l .load-planned .ensures .0 ∙ sym (answered-number refused s made Done refl),
       left-planned (a .state .now) _ (k .state .ensures) (c .state2 .ensures) input (a .parents .now)
-          (l .load-planned .ensures .1 ∙ sym
-          (answered-state (plannedLoadRefusal input (a .parents .now)) s
-          (plannedLoaded input (a .parents .now)) Done)),
+          (l .load-planned .ensures .1 ∙ sym (answered-state refused s made Done)),
     )
 
 pub load-planned-spec : {M : Type 1} → statement M

@@ -79,7 +79,7 @@ impl Meter {
     }
 }
 
-const CALLS: [&str; 23] = [
+const CALLS: [&str; 25] = [
     "report",
     "read",
     "write",
