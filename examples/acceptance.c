@@ -15,7 +15,7 @@ enum { KIND = 0x22, MOST_UNITS = 5, MOST_LINKS = 10 };
 
 static uint16_t state[LINK_SURVEY_STATE_WORDS];
 
-/* The links of a number: the pairs of units, by the lower and then the higher, are its bits from the lowest bit up. */
+/* The links of a number: bit 0 is the first pair of units, in the order 0-1, 0-2, .., 1-2, and so on. */
 static uint16_t links_of(uint16_t units, uint16_t number, uint16_t table[2 * MOST_LINKS])
 {
     uint16_t links = 0, bit = 0;

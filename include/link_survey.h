@@ -291,7 +291,7 @@ uint32_t link_survey_load_stored(uint16_t state[LINK_SURVEY_STATE_WORDS], uint16
 
 /*
  * Load a fresh table with a tree drawn by the planner, which takes the place of the survey's own: stage 2 takes it over
- * in one round. Labels, lone links and single points are those of the same table without it.
+ * in one round. It changes no label, no lone link and no single point.
  *
  * parents  the parent of each unit, 65535 for none: as many words as there are units. A unit that is the least of those
  *          linked up with it has none; any other's is a neighbour, and its parents lead up to that least unit.
@@ -393,9 +393,9 @@ uint32_t link_survey_ring(const uint16_t state[LINK_SURVEY_STATE_WORDS], uint16_
                           link_survey_length out_len, uint16_t *count);
 
 /*
- * The order in which the units of the finished survey can be lifted one by one: every unit still standing is linked up
- * with unit 0 through standing units, and unit 0 goes last. Read from its end it takes each time the least-numbered
- * unit that may stand next. The links are read, and no label.
+ * The order in which the units of the finished survey can be lifted one by one, so that what still stands keeps its way
+ * to unit 0, which is lifted last. Read from its end it takes each time the least-numbered unit that may stand next.
+ * The links are read, and no label.
  *
  * pairs    two words a pair, "this unit before that one"; at most LINK_SURVEY_MAX_PAIRS pairs.
  * out      altered: the units, a word each, the one to be lifted first in front. It has as many places as the site has
@@ -501,8 +501,8 @@ uint32_t link_survey_seat_load(uint16_t seats[LINK_SURVEY_SEATS][LINK_SURVEY_STA
  * returns  23, 4, 5, 6, 15, 16, 7, 8, 9, or 0.
  */
 uint32_t link_survey_seat_load_stored(uint16_t seats[LINK_SURVEY_SEATS][LINK_SURVEY_STATE_WORDS], uint16_t seat,
-                                      uint16_t units, const uint16_t *table, size_t table_len, const int16_t *levels,
-                                      size_t levels_len);
+                                      uint16_t units, const uint16_t *table, link_survey_length table_len,
+                                      const int16_t *levels, link_survey_length levels_len);
 
 /*
  * The same as link_survey_load_planned loads a state.
@@ -510,11 +510,13 @@ uint32_t link_survey_seat_load_stored(uint16_t seats[LINK_SURVEY_SEATS][LINK_SUR
  * returns  23, 4, 5, 6, 15, 16, 7, 8, 9, 17, 18, 22, or 0.
  */
 uint32_t link_survey_seat_load_planned(uint16_t seats[LINK_SURVEY_SEATS][LINK_SURVEY_STATE_WORDS], uint16_t seat,
-                                       uint16_t units, const uint16_t *table, size_t table_len, const int16_t *levels,
-                                       size_t levels_len, const uint16_t *parents, size_t parents_len);
+                                       uint16_t units, const uint16_t *table, link_survey_length table_len,
+                                       const int16_t *levels, link_survey_length levels_len, const uint16_t *parents,
+                                       link_survey_length parents_len);
 
 /*
- * Give one round to the next unfinished seat after the one last served, going round. An empty seat counts as finished.
+ * Give one round to the seat whose turn it is: going round from the one last served, the first that waits. An empty
+ * seat counts as finished.
  *
  * turn     altered: the seat that was served.
  * seats    altered: the words of that seat, one round on. The other seven stay.

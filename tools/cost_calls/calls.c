@@ -16,7 +16,8 @@ static uint16_t live[LINK_SURVEY_LIVE_WORDS];
 static uint16_t table[2 * LINKS], read_table[2 * LINKS], parents[UNITS], pairs[2 * PAIRS], out[UNITS];
 static int16_t levels[LINKS], read_levels[LINKS];
 static uint8_t file[LINK_SURVEY_MAX_FILE_BYTES], report[LINK_SURVEY_MAX_REPORT_BYTES], marks[LINKS];
-static uint16_t links, reply[8], word, other_word, last;
+static uint16_t links, reply[8], word, other_word;
+static struct link_survey_turn turn;
 static uint32_t refused;
 static int failed;
 
@@ -135,7 +136,7 @@ static void do_live_open(void) { refused = link_survey_live_open(live, UNITS, ta
 static void do_live_add(void) { refused = link_survey_live_add(live, table[0], table[1], -1); }
 static void do_live_withdraw(void) { refused = link_survey_live_withdraw(live, table[0], table[1]); }
 static void do_seat_load(void) { refused = link_survey_seat_load(seats, 7, UNITS, table, 2u * links, levels, links); }
-static void do_tick(void) { refused = link_survey_tick(&last, seats); }
+static void do_tick(void) { refused = link_survey_tick(&turn, seats); }
 static void do_nothing(void) { refused = 0; }
 
 /* Where a call stands in `costs`, in the order in which `measured` makes them. */
@@ -195,8 +196,10 @@ static void take_away(void)
 /* Seat 0, whose turn it is, as begun. */
 static void first_turn(void)
 {
+    const struct link_survey_turn first = LINK_SURVEY_FIRST_TURN;
+
     copy_begun();
-    last = LINK_SURVEY_FIRST_TURN;
+    turn = first;
 }
 
 static void other_seats(int empty)
