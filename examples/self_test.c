@@ -421,6 +421,24 @@ static int live_table(void)
            && same_words(live + LINK_SURVEY_LIVE_ENDS, ends, 9) && live[LINK_SURVEY_LIVE_LEVELS + 3] == (uint16_t)-70;
 }
 
+/* A seat by the other two loads: a stored table with a unit without a link, and case C with its tree drawn. */
+static int seats_otherwise_loaded(void)
+{
+#ifndef LINK_SURVEY_SELF_TEST_ONE_SEAT
+    static const uint16_t one_link[2] = {0, 1}, parents[2] = {LINK_SURVEY_ABSENT, 0};
+    uint16_t status[LINK_SURVEY_STATUS_WORDS];
+
+    return link_survey_seat_load(seats, 5, 3, one_link, 2, levels, 1) == LINK_SURVEY_UNLINKED_UNIT
+           && link_survey_seat_load_stored(seats, 5, 3, one_link, 2, levels, 1) == LINK_SURVEY_DONE
+           && link_survey_status(seats[5], status) == LINK_SURVEY_DONE
+           && link_survey_seat_load_planned(seats, 6, 2, one_link, 2, levels, 1, parents, 1) == LINK_SURVEY_PLAN_LENGTH
+           && link_survey_seat_load_planned(seats, 6, 2, one_link, 2, levels, 1, parents, 2) == LINK_SURVEY_DONE
+           && link_survey_status(seats[6], status) == LINK_SURVEY_DONE;
+#else
+    return 1;
+#endif
+}
+
 /* Cases B and C, 27 and 20 rounds, by turns from seat 0 on: C ends with tick 40, B with tick 20 + 27. */
 static int seats_by_turns(void)
 {
@@ -447,7 +465,8 @@ static int seats_by_turns(void)
 static uint32_t first_failed_of_requests(void)
 {
     static int (*const tests[])(void) = {
-        report, file_and_back, lines, plan, ring, order, doubtful, one_way, live_table, seats_by_turns
+        report, file_and_back, lines, plan, ring, order, doubtful, one_way, live_table, seats_by_turns,
+        seats_otherwise_loaded
     };
 
     for (uint32_t i = 0; i < sizeof tests / sizeof tests[0]; i++)

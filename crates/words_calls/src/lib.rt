@@ -104,7 +104,7 @@ pub fn status(state: &[u16; STATE_WORDS], reply: &mut [u16; 4]) -> u32
         ≡ said (statusAnswer (stateOf (now (state .entry))) .reply) (now (reply .entry)) ⌝ }
 {
     if !words_layout::kept(state) {
-        return table_refusals::NOT_KEPT as u32;
+        return questions::NOT_KEPT;
     }
     *reply = questions::status_values(state);
     0

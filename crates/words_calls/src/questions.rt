@@ -10,21 +10,24 @@ ghost use Rattle.spec_machine.specs.Report.{flag, unitColor, unitParent, unitPl
 ghost use Rattle.spec_machine.specs.Calls.{questionRefusal};
 ghost use Rattle.words_layout.specs.Layout.{stateOf};
 
+// The refusals of questions, as C has them.
+pub(crate) const NOT_KEPT: u32 = table_refusals::NOT_KEPT as u32;
+
+const BEFORE_END: u32 = table_refusals::BEFORE_END as u32;
+
+const NO_SUCH_NAME: u32 = table_refusals::NO_SUCH_NAME as u32;
+
 // The number of the first cause among 10, 12, 13, given whether the unit or position exists.
 pub fn refusal(state: &[u16; STATE_WORDS], exists: bool) -> u32
     ensures { λ r. ⌜ r ≡ questionRefusal (stateOf (now (state .entry))) exists ⌝ }
 {
     if !words_layout::kept(state) {
-        return table_refusals::NOT_KEPT as u32;
+        return NOT_KEPT;
     }
     if words_layout::clock_at(state).stage != Clock::FINISHED {
-        return table_refusals::BEFORE_END as u32;
+        return BEFORE_END;
     }
-    if exists {
-        table_refusals::DONE as u32
-    } else {
-        table_refusals::NO_SUCH_NAME as u32
-    }
+    if exists { 0 } else { NO_SUCH_NAME }
 }
 
 // Stage, countdown, all rounds, requests.

@@ -73,7 +73,7 @@ pub fn serve(last: u16, seats: &mut [[u16; STATE_WORDS]; 8]) -> Served
         return Served { number, last };
     }
     Served {
-        number: table_refusals::DONE as u32,
+        number: 0,
         last: next,
     }
 }
