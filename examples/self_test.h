@@ -26,6 +26,7 @@ enum link_survey_self_test_case {
     LINK_SURVEY_SELF_TEST_ONE_WAY = 208,  /* the groups of one-way links */
     LINK_SURVEY_SELF_TEST_LIVE = 209,     /* a live table opened, added to, withdrawn from */
     LINK_SURVEY_SELF_TEST_SEATS = 210,    /* two seats that take turns */
+    LINK_SURVEY_SELF_TEST_SEAT_LOADS = 211, /* a seat by the other two loads */
     LINK_SURVEY_SELF_TEST_VERSION = 301   /* the archive is for another header */
 };
 
