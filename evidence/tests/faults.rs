@@ -440,7 +440,7 @@ const LIVE: [Fault; 13] = [
     }),
 ];
 
-const SEAT: [Fault; 7] = [
+const SEAT: [Fault; 9] = [
     ("the turn moves though every seat is finished", |calls| {
         calls.seats.tick = |last, seats| {
             let number = tick(last, seats);
@@ -477,6 +477,21 @@ const SEAT: [Fault; 7] = [
             }
         }
     }),
+    ("a loaded seat without units counts as empty", |calls| {
+        calls.seats.tick = |last, seats| {
+            let mut judged = *seats;
+            judged.iter_mut().filter(|seat| seat[0] == 0).for_each(|seat| seat[2050] = 0);
+            let mut turn = *last;
+            match tick(&mut turn, &mut judged) {
+                0 => {
+                    *last = turn;
+                    words::round(&mut seats[usize::from(turn)])
+                }
+                number => number,
+            }
+        }
+    }),
+    ("a stored table is loaded in a seat as a fresh one", |calls| calls.seats.load_stored = load_seat),
     ("a seat last served above 7 is taken by its last bits", |calls| {
         calls.seats.tick = |last, seats| {
             let mut turn = *last % 8;
@@ -679,7 +694,7 @@ fn plans() {
 /// The plain version beside itself: no difference, and nothing that never came up.
 #[test]
 fn no_fault() {
-    let mut search = Search::new(Calls { seats: SeatCalls { load: load_seat, tick }, ..PLAIN });
+    let mut search = Search::new(Calls { seats: SeatCalls { load: load_seat, tick, ..PLAIN.seats }, ..PLAIN });
     assert_eq!(search.first_found(1, CASES), None);
     assert_eq!(search.missing(), Vec::<String>::new());
 }
