@@ -457,7 +457,7 @@ const LIVE: [Fault; 13] = [
     }),
 ];
 
-const SEAT: [Fault; 7] = [
+const SEAT: [Fault; 9] = [
     ("the turn moves though every seat is finished", |calls| {
         calls.seats.tick = |last, seats| {
             let number = tick(last, seats);
@@ -494,6 +494,21 @@ const SEAT: [Fault; 7] = [
             }
         }
     }),
+    ("a loaded seat without units counts as empty", |calls| {
+        calls.seats.tick = |last, seats| {
+            let mut judged = *seats;
+            judged.iter_mut().filter(|seat| seat[0] == 0).for_each(|seat| seat[2050] = 0);
+            let mut turn = *last;
+            match tick(&mut turn, &mut judged) {
+                0 => {
+                    *last = turn;
+                    words::round(&mut seats[usize::from(turn)])
+                }
+                number => number,
+            }
+        }
+    }),
+    ("a stored table is loaded in a seat as a fresh one", |calls| calls.seats.load_stored = load_seat),
     ("a seat last served above 7 is taken by its last bits", |calls| {
         calls.seats.tick = |last, seats| {
             let mut turn = *last % 8;

@@ -18,7 +18,8 @@ use Rattle.spec_claim.specs.Claim.{Claim}
 use Rattle.words_claim.specs.Exchange.{CallMade, callsOf, usedOf}
 use Rattle.words_claim.specs.WordsClaim.{LoadedWords, fresh}
 use Rattle.words_claim.specs.WordsClaimProof.{claim-on-words}
-use Rattle.words_player.specs.Played.{callOf, outAfter, callsIn, OneMade, AllMade, Claimed, ClaimedFrom}
+use Rattle.words_player.specs.Played.{callOf, outAfter, callsIn, outIn, OneMade, AllMade, Claimed}
+use Rattle.words_player.specs.Played.{ClaimedFrom}
 
 pub claimed : (calls : List Call) (before after : List ℕ) → AllMade calls before after → Claimed calls before after
 claimed calls before after m input l =
@@ -44,6 +45,12 @@ claimed-from input given first last ws out n w all =
     let (xs, are, made, c) = all input l in
     (xs, rw e at are, rw e at c)
 
+pub bytes-from : (input : Input) (given first ws out left : List ℕ)
+    → 0 ≡ numberOf (loadAnswer input (stateOf given) .reply) → Left given first (loadAnswer input (stateOf given))
+    → left ≡ outIn ws (stateOf first) out → left ≡ outIn ws (loaded input) out
+bytes-from input given first ws out left n w e = e ∙ ap (λ (s : State). outIn ws s out)
+    (from-load input given first n w .1)
+
 -- ---- the list, from its words
 
 first-call : (ws : List ℕ) (s : State) (out : List ℕ) → 2 ≤ length ws
@@ -54,6 +61,14 @@ first-call [] s out l = absurd (omega arith)
 first-call (k ∷ []) s out l = absurd (omega arith)
 first-call (k ∷ a ∷ ws) s out l = refl
 
+two-on : (ws : List ℕ) (i : ℕ) → drop 2 (drop (2 * i) ws) ≡ drop (2 * (i + 1)) ws
+two-on ws i =
+    let sum : 2 * i + 2 ≡ 2 * (i + 1) = omega arith in
+    rw (drop-drop 2 (2 * i) ws) (ap (λ (k : ℕ). drop k ws) sum)
+
+kind-of : (ws : List ℕ) (i : ℕ) → getD (drop (2 * i) ws) 0 0 ≡ getD ws (2 * i) 0
+kind-of ws i = rw (getD-drop (2 * i) ws 0 0) (ap (λ (k : ℕ). getD ws k 0) (add-zero (2 * i)))
+
 -- call number i
 next-call : (ws : List ℕ) (i : ℕ) (s : State) (out : List ℕ) → 2 * i + 2 ≤ length ws
     → callsIn (drop (2 * i) ws) s out ≡ callOf (getD ws (2 * i) 0) (getD ws (2 * i + 1) 0) out
@@ -61,12 +76,29 @@ next-call : (ws : List ℕ) (i : ℕ) (s : State) (out : List ℕ) → 2 * i + 2
     (outAfter (getD ws (2 * i) 0) out s)
 next-call ws i s out l =
     let here : 2 ≤ length (drop (2 * i) ws) = omega (arith, length-drop (2 * i) ws) in
-    let sum : 2 * i + 2 ≡ 2 * (i + 1) = omega arith in
-    let rest : drop 2 (drop (2 * i) ws) ≡ drop (2 * (i + 1)) ws =
-    rw (drop-drop 2 (2 * i) ws) (ap (λ (k : ℕ). drop k ws) sum) in
-    let kind : getD (drop (2 * i) ws) 0 0 ≡ getD ws (2 * i) 0 =
-    rw (getD-drop (2 * i) ws 0 0) (ap (λ (k : ℕ). getD ws k 0) (add-zero (2 * i))) in
-    rw (first-call (drop (2 * i) ws) s out here, rest, kind, getD-drop (2 * i) ws 1 0) refl
+    rw (first-call (drop (2 * i) ws) s out here, two-on ws i, kind-of ws i, getD-drop (2 * i) ws 1 0) refl
+
+first-out : (ws : List ℕ) (s : State) (out : List ℕ) → 2 ≤ length ws
+    → outIn ws s out ≡ outIn (drop 2 ws) (answerTo (callOf (getD ws 0 0) (getD ws 1 0) out) s .state)
+    (outAfter (getD ws 0 0) out s)
+unfolding outIn
+first-out [] s out l = absurd (omega arith)
+first-out (k ∷ []) s out l = absurd (omega arith)
+first-out (k ∷ a ∷ ws) s out l = refl
+
+next-out : (ws : List ℕ) (i : ℕ) (s : State) (out : List ℕ) → 2 * i + 2 ≤ length ws
+    → outIn (drop (2 * i) ws) s out
+    ≡ outIn (drop (2 * (i + 1)) ws) (answerTo (callOf (getD ws (2 * i) 0) (getD ws (2 * i + 1) 0) out) s .state)
+    (outAfter (getD ws (2 * i) 0) out s)
+next-out ws i s out l =
+    let here : 2 ≤ length (drop (2 * i) ws) = omega (arith, length-drop (2 * i) ws) in
+    rw (first-out (drop (2 * i) ws) s out here, two-on ws i, kind-of ws i, getD-drop (2 * i) ws 1 0) refl
+
+no-out : (ws : List ℕ) (s : State) (out : List ℕ) → length ws < 2 → outIn ws s out ≡ out
+unfolding outIn
+no-out [] s out l = refl
+no-out (k ∷ []) s out l = refl
+no-out (k ∷ a ∷ ws) s out l = absurd (omega arith)
 
 -- words that make no whole call
 no-call : (ws : List ℕ) (s : State) (out : List ℕ) → length ws < 2 → callsIn ws s out ≡ []
@@ -90,9 +122,10 @@ more call calls before between after o m =
 pub record SoFar (ws before given now out : List ℕ) (i : ℕ) : Type 0 where
   pub rest : (last : List ℕ) → AllMade (callsIn (drop (2 * i) ws) (stateOf now) out) now last →
       AllMade (callsIn ws (stateOf before) given) before last
+  pub bytes : outIn (drop (2 * i) ws) (stateOf now) out ≡ outIn ws (stateOf before) given
 
 pub none-yet : (ws before out : List ℕ) → SoFar ws before out before out 0
-none-yet ws before out = record { rest = λ last m. m }
+none-yet ws before out = record { rest = λ last m. m; bytes = refl }
 
 state-after : (call : Call) (before after : List ℕ) → OneMade call before after →
     stateOf after ≡ answerTo call (stateOf before) .state
@@ -102,8 +135,16 @@ module _ (ws before given : List ℕ) (i : ℕ) (now out : List ℕ) (s : SoFar 
   pub one-more : 2 * i + 2 ≤ length ws → (k a : ℕ) → k ≡ getD ws (2 * i) 0 → a ≡ getD ws (2 * i + 1) 0
       → (next left : List ℕ) → OneMade (callOf k a out) now next → left ≡ outAfter k out (stateOf now)
       → SoFar ws before given next left (i + 1)
-  one-more l k a p q next left o e = record { rest = λ last m. s .rest last (go last m) }
+  one-more l k a p q next left o e = record { rest = λ last m. s .rest last (go last m); bytes = bytes }
     where
+      bytes : outIn (drop (2 * (i + 1)) ws) (stateOf next) left ≡ outIn ws (stateOf before) given
+      bytes =
+          let here : outIn (drop (2 * i) ws) (stateOf now) out
+          ≡ outIn (drop (2 * (i + 1)) ws) (answerTo (callOf k a out) (stateOf now) .state)
+          (outAfter k out (stateOf now)) = rw (p, q) (next-out ws i (stateOf now) out l) in
+          ap₂ (λ (t : State) (left : List ℕ). outIn (drop (2 * (i + 1)) ws) t left)
+          (state-after (callOf k a out) now next o) e ∙ sym here ∙ s .bytes
+
       go : (last : List ℕ) → AllMade (callsIn (drop (2 * (i + 1)) ws) (stateOf next) left) next last →
           AllMade (callsIn (drop (2 * i) ws) (stateOf now) out) now last
       go last m =
@@ -118,3 +159,7 @@ module _ (ws before given : List ℕ) (i : ℕ) (now out : List ℕ) (s : SoFar 
       let e : callsIn (drop (2 * i) ws) (stateOf now) out ≡ [] =
       no-call (drop (2 * i) ws) (stateOf now) out (omega (arith, length-drop (2 * i) ws)) in
       s .rest now (record { exchanges = []; are = sym e; made = refl })
+
+  pub all-bytes : length ws < 2 * i + 2 → out ≡ outIn ws (stateOf before) given
+  all-bytes l =
+      sym (no-out (drop (2 * i) ws) (stateOf now) out (omega (arith, length-drop (2 * i) ws))) ∙ s .bytes

@@ -29,6 +29,12 @@ callsIn [] s out = []
 callsIn (k ∷ []) s out = []
 callsIn (k ∷ a ∷ ws) s out = callOf k a out ∷ callsIn ws (answerTo (callOf k a out) s .state) (outAfter k out s)
 
+-- the slice after them
+unfoldable pub outIn : List ℕ → State → List ℕ → List ℕ
+outIn [] s out = out
+outIn (k ∷ []) s out = out
+outIn (k ∷ a ∷ ws) s out = outIn ws (answerTo (callOf k a out) s .state) (outAfter k out s)
+
 -- one call, with all that came back
 pub record OneMade (call : Call) (before after : List ℕ) : Type 0 where
   pub exchange : Exchange

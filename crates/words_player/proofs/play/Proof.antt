@@ -3,7 +3,7 @@ use mathlib.Core.Path.{_≡_, refl}
 use Prim.Native.Nat.{_*_, _-_, _/_, _^_, _≤_, _<_}
 use native.Mathlib.Omega.{arith}
 use lib.ListN.{length}
-use Rattle.words_player.specs.PlayLaws.{SoFar, none-yet, one-more, all-made, claimed}
+use Rattle.words_player.specs.PlayLaws.{SoFar, none-yet, one-more, all-made, all-bytes, claimed}
 use borrow.Author.Needs.{needs}
 use Rattle.words_player.proofs.play.Statement.{statement}
 use Rattle.words_player.proofs.play.Tie as tie
@@ -48,7 +48,9 @@ returns c =
     let a = c .before .before .before .before .args in
     let m =
     all-made (a .calls .now) (a .state .now) (a .out .now) (w .i) (w .state) (w .out) (w .inv .3) (search needs) in
-    (m, claimed _ _ _ m)
+    let bytes =
+    all-bytes (a .calls .now) (a .state .now) (a .out .now) (w .i) (w .state) (w .out) (w .inv .3) (search needs) in
+    (m, (claimed _ _ _ m, bytes))
 
 pub play-spec : {M : Type 1} → statement M
 play-spec =
