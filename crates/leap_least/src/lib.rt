@@ -24,8 +24,8 @@ pub fn leap(
     clock: Clock,
     made: u16,
 ) -> Landed
-    ensures leapt { λ r. ⌜ (r .right ≡ true → Leapt units pairs (now (ends .entry)) most budget value clock made (r .value)
-        (r .clock) (r .made)) ⌝ }
+    ensures leapt { λ r. ⌜ (r .right ≡ true →
+        Leapt units pairs (now (ends .entry)) most budget value clock made (r .value) (r .clock) (r .made)) ⌝ }
     ensures stays { λ r. ⌜ (r .right ≡ false → (r .value ≡ value) × (r .clock ≡ clock) × (r .made ≡ made)) ⌝ }
 {
     let mut new = value;

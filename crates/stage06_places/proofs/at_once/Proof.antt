@@ -23,7 +23,8 @@ returns-2 c =
     rw (c .number .ensures)
     (leapt-run ran (on (a .units)) (one (a .units) (a .color .now) (a .parent .now)) (a .units) 6
     (preRound (a .units) (a .color .now) (a .parent .now)) (ranks (a .units) (a .color .now) (a .parent .now))
-    (a .budget) (a .pre) (a .jump) (a .sum) (a .clock) _ _ _ _ (l .leap .ensures .0 (not-false _ (e .if1 .left))) (s .pre))
+    (a .budget) (a .pre) (a .jump) (a .sum) (a .clock) _ _ _ _
+    (l .leap .ensures .0 (not-false _ (e .if1 .left))) (s .pre))
 
 pub at-once-spec : {M : Type 1} → statement M
 at-once-spec =
