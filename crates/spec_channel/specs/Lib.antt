@@ -8,3 +8,4 @@ pub mod Fairness
 pub mod TickCauses
 pub mod Channel
 pub mod ChannelProof
+pub mod Vacant
