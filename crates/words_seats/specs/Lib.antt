@@ -4,3 +4,4 @@ pub mod SeatsLeft
 pub mod SameSeats
 pub mod ServeLaws
 pub mod Cleared
+pub mod SeatExchange
