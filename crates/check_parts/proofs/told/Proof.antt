@@ -12,7 +12,7 @@ use Rattle.check_parts.proofs.parts.Reads as parts-reads
 use Rattle.check_parts.proofs.say.Reads as say-reads
 use Rattle.base_streams.proofs.text.byte.Reads as byte-reads
 use Rattle.base_streams.proofs.text.number.Reads as number-reads
-use Rattle.table_values.proofs.less.Reads as less-reads
+use Rattle.base_choice.proofs.difference.Reads as difference-reads
 
 -- src/main.rt:192:20
 buffer-requires : tie.Need-buffer-requires
@@ -71,7 +71,7 @@ groups-requires : tie.Need-groups-requires
 groups-requires c κs = search needs
 
 -- src/main.rt:199:21
-difference-requires : tie.Need-less-requires
+difference-requires : tie.Need-difference-requires
 difference-requires c κs = search needs
 
 -- src/main.rt:199:68
