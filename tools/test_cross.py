@@ -129,7 +129,7 @@ class Hosted(OnTarget):
     def test_vectors_of_requests(self):
         program = self.built("call_server", os.path.join("..", "tools", "call_server.c"))
         served = Served([*self.target.emulator, program])
-        test_examples.play_requests(self, served)
+        test_examples.play_requests(self, served, ("rings", "lifting", "doubtful", "one_way", "live"))
         self.assertEqual(served.close(), 0)
 
 
