@@ -128,6 +128,7 @@ class Made(unittest.TestCase):
         """Every function of the header is a call, with its contract and the manual's numbers in order."""
         header = "".join(map(open_text, sorted(glob.glob(os.path.join(ROOT, "include", "*.h")))))
         declared = set(re.findall(r"(?m)^\w[\w ]*\b(link_survey_\w+)\(", header))
+        declared.remove("link_survey_version")  # it takes nothing and refuses nothing
         told = {call["cname"]: call for call in self.data["calls"]}
         self.assertEqual(set(told), declared)
         wanted = refusals()
@@ -341,7 +342,7 @@ const ask = async (text) => {{
   await wait();
   return document.getElementById("view").textContent;
 }};
-const asked = [await ask({json.dumps(name)}), await ask({json.dumps(said)}), await ask("no such words")];
+const asked = [await ask({json.dumps(name)}), await ask({json.dumps(said)}), await ask("zzqx zzqy")];
 done({{ name: asked[0], words: asked[1], none: asked[2] }});""")
         self.assertNotIn("fault", found)
         self.assertIn(name, found["name"])
