@@ -7,7 +7,7 @@ fn main() {
     if std::env::var_os("CARGO_FEATURE_FACE").is_none() {
         return;
     }
-    let folder = Path::new(env!("CARGO_MANIFEST_DIR")).join("../target/staticlib");
+    let folder = Path::new(env!("CARGO_MANIFEST_DIR")).join("../crates/survey_c/out");
     println!("cargo::rustc-link-search=native={}", folder.display());
     link(&folder, "survey_c");
 }
@@ -17,7 +17,7 @@ fn link(folder: &Path, name: &str) {
     println!("cargo::rerun-if-changed={}", archive.display());
     if !archive.exists() {
         println!(
-            "cargo::error={} is missing: make it by `rt staticlib {name}` at the root of the repository",
+            "cargo::error={} is missing: make it by `rt lib` in the folder crates/{name}",
             archive.display()
         );
         return;

@@ -5,11 +5,11 @@
  * single point (a unit whose loss parts the site) and every lone link (one that no ring backs up). "Document 01" is
  * the customer's paper, "document 02" the list of changes to it.
  *
- * Link with libsurvey_c.a, made by `rt staticlib survey_c` (x86-64) or by `tools/cross TARGET` (Arm, RISC-V).
+ * Link with libsurvey_c.a, made by `rt lib` in crates/survey_c (x86-64) or by `tools/cross TARGET` (Arm, RISC-V).
  *
  * - Re-entrance: the library has no variables of its own, so calls that share no lent memory may run at the same time.
  * - Stack: allow 80 KiB; the deepest call, link_survey_report, was measured at 62 KiB on x86-64 and at 65 KiB on 64-bit
- *   Arm, link_survey_lifting_order at 36 KiB, link_survey_run at 35 KiB, all others below 31 KiB.
+ *   Arm, link_survey_lifting_order at 36 KiB, link_survey_run at 35 KiB, all others below 31 KiB (by an older kit).
  * - Freestanding use: no heap, no files, no start-up code; of the C library only memcpy and memset are needed.
  * - Processors: a length has 64 bits on every one. Words, levels and bytes are read and written as such, so that no
  *   call depends on the order of bytes in memory; the bytes of a stored state have the order of the processor.

@@ -5,9 +5,10 @@ import re
 
 from rooms import ROOT, contents
 
-# the words of a public function, from its name up to the brace that stands alone before its body
-FUNCTION = re.compile(r"(?ms)^( *)pub (?:extern \"C\" )?fn (\w+)(.*?)^ *\{$")
-USE = re.compile(r"(?s)ghost use Rattle·(\w+)(?:·specs)?\.specs\.([\w.]+)\.\{(.*?)\};")
+# the words of a public function, from its name up to the brace before its body: alone on its line, or after the
+# signature of one that promises nothing
+FUNCTION = re.compile(r"(?ms)^( *)pub (?:extern \"C\" )?fn (\w+)(.*?)(?:^ *\{|\)(?: -> [^\n]*)? \{)$")
+USE = re.compile(r"(?s)ghost use Rattle\.(\w+)\.specs\.([\w.]+)\.\{(.*?)\};")
 
 
 def names(text):
@@ -46,8 +47,8 @@ def promises(crate):
         known = names(text)
         for match in FUNCTION.finditer(text):
             within = module(crate, path) + (owner(text, match.start()) if match[1] else "")
-            promise = match[3][match[3].find("ensures"):]
-            words = re.findall(r"[^\s(){}\[\];,.⌜⌝]+", promise)
+            promise = match[3].partition("ensures")[2]
+            words = re.findall(r"[^\s(){}\[\];,.]+", promise)
             named = [known[word] for word in dict.fromkeys(words) if word in known]
             found.append((within + match[2], named))
     return found

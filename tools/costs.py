@@ -1,8 +1,8 @@
 """What the library costs on each processor: python3 tools/costs.py [sizes|stacks|instructions]
 
 Prints the tables of docs/EVIDENCE.md: the bytes of code and of constants of each archive; the bytes of stack of each
-call; the instructions of each call's dearest run on an Arm Cortex-M4. The archives are those of `rt staticlib survey_c`
-and `tools/cross all`. What is not installed here is left out, and said so.
+call; the instructions of each call's dearest run on an Arm Cortex-M4. The archives are those of `rt lib` in
+crates/survey_c and of `tools/cross all`. What is not installed here is left out, and said so.
 """
 import functools
 import os

@@ -6,7 +6,7 @@ import re
 import struct
 
 ROOT = os.path.dirname(os.path.dirname(os.path.abspath(__file__)))
-ARCHIVE = os.path.join(ROOT, "target", "staticlib", "libsurvey_c.a")
+ARCHIVE = os.path.join(ROOT, "crates", "survey_c", "out", "libsurvey_c.a")
 
 
 class Unknown(Exception):
@@ -32,9 +32,10 @@ def found(*pattern):
 
 
 def crates():
-    """The crates of crates.txt, each with what it stands on."""
+    """The crates of crates.txt, each with what it stands on; a word behind a name says what kind of crate it is."""
     lines = contents(os.path.join(ROOT, "crates.txt")).splitlines()
-    return {name: words.split() for name, words in (line.split(":", 1) for line in lines if line and line[0] != "#")}
+    halves = [line.split(":", 1) for line in lines if line and line[0] != "#"]
+    return {name.split()[0]: words.split() for name, words in halves}
 
 
 def edges():
@@ -99,9 +100,12 @@ def report_vectors():
 
 def last_change():
     """When a file under crates/ was last written."""
-    folders = [folder for folder, _, _ in os.walk(os.path.join(ROOT, "crates"))]
-    entries = [entry for folder in folders for entry in os.scandir(folder) if entry.is_file()]
-    return max(entry.stat().st_mtime for entry in entries)
+    times = []
+    for folder, inner, names in os.walk(os.path.join(ROOT, "crates")):
+        # what rt makes
+        inner[:] = [name for name in inner if name != "out"]
+        times += [os.stat(os.path.join(folder, name)).st_mtime for name in names]
+    return max(times)
 
 
 def archive_sizes(path=ARCHIVE):

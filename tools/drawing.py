@@ -10,8 +10,8 @@ import labels
 import layout
 import routes
 from captions import deaf_units, footer, header, linked_groups
-from ink import COLORS, FONT, HALO, INK, LINES, PAGE, PALE, WEAK, Line, cured, disc, escape, letters, lone, opened, path
-from ink import spare_line, spare_mark, styled, text, under
+from ink import COLORS, CURED, FONT, HALO, INK, LINES, PAGE, PALE, WEAK, Line, bold, cured, disc, escape, letters, lone
+from ink import opened, path, spare_line, spare_mark, styled, text, under
 from legend import legend, name_rows
 from losses import neighbours_of, parts
 from survey_text import LOWEST_LEVEL, Site
@@ -92,12 +92,15 @@ def tag_of(losses, j, tags):
 class Sheet:
     """A drawing of every unit and link: of a site as it is, or with the spares that are proposed for it."""
 
-    def __init__(self, losses, names, before, found):
+    def __init__(self, losses, names, before, found, marks=None):
         self.was = losses
         self.losses = losses
         if found and found.steps:
             self.losses, before = found.steps[-1].losses, before or losses
         self.site, self.names, self.found = self.losses.site, names or {}, found
+        self.marks = marks
+        self.ring = ring_links(marks.ring if marks else ())
+        self.turn = {v: k for k, v in enumerate(marks.order if marks else (), 1)}
         self.fresh_links = len(losses.site.links)
         self.plan = plan_of(self.losses, before, bool(names))
         self.styles, self.tags = styles_of(self.losses), letters_of(self.losses)
@@ -143,8 +146,15 @@ class Sheet:
             style = self.styles[label]
             said = f"backed up, set {self.tags[label]}" if self.tags[label] else "backed up"
             ink = styled(d, style._replace(wide=max(0.8, style.wide * thin), core=style.core * thin))
+        if frozenset((a, b)) in self.ring:
+            kind, said, ink = f"ring {kind}", f"{said}, on the ring", bold(d) + ink
+        if self.is_doubtful(j):
+            kind, said = f"doubtful {kind}", f"{said}, doubtful"
         hit = path(d, "transparent", 18, None, ' class="hit"')
         return f'<g class="{kind}" data-link="{j}"><title>link {j} ({a}-{b}){level}: {said}</title>{hit}{ink}</g>'
+
+    def is_doubtful(self, j):
+        return self.marks is not None and j in self.marks.doubtful
 
     def links(self):
         """The links, those that are lone last and on white."""
@@ -159,7 +169,7 @@ class Sheet:
         for j in range(self.fresh_links):
             if self.is_lone(j) != weak or not (weak or len(self.site.links) <= NUMBERED):
                 continue
-            said = tag_of(self.losses, j, self.tags)
+            said = tag_of(self.losses, j, self.tags) + (" ?" if self.is_doubtful(j) else "")
             at = labels.number_place(self.room, self.ways[j], said, weak, weak)
             if at:
                 look = f'font-weight="bold" fill="{WEAK}"' if weak else f'fill="{PALE}"'
@@ -167,7 +177,8 @@ class Sheet:
         return out
 
     def words_beside(self):
-        """What stands beside units, by unit: tags of groups and names; and the names that find no room."""
+        """What stands beside units, by unit: tags of groups, turns of a lifting order and names; and the turns and
+        names that find no room."""
         deaf = set(deaf_units(self.losses))
         loud = {v: tag for tag, part in self.grouped for v in part}
         loud.update({v: "hears nobody" for v in deaf if not self.plan.deaf})
@@ -176,13 +187,19 @@ class Sheet:
             placed = labels.name_place(self.room, *self.plan.places[v], said)
             if placed:
                 out[v] = written(placed, f'fill="{WEAK}" font-weight="bold"')
+        for v, k in self.turn.items():
+            placed = labels.name_place(self.room, *self.plan.places[v], f"{k}.")
+            if placed:
+                out[v] = out.get(v, "") + written(placed, f'class="turn" fill="{CURED}" font-weight="bold"')
+            else:
+                left[v] = f"lifted as {k}."
         for v in self.in_turn():
             name = self.names[v]
             placed = labels.name_place(self.room, *self.plan.places[v], name)
             if placed:
                 out[v] = out.get(v, "") + written(placed, f'class="name" fill="{INK}"')
             else:
-                left[v] = name
+                left[v] = f"{name}, {left[v]}" if v in left else name
         return out, left
 
     def in_turn(self):
@@ -230,14 +247,22 @@ class Sheet:
         numbers = self.numbers(False)
         head, top = header(self.was, self.left, self.above, self.wide, proved) if not bare else ([], self.above - 8)
         room = PAGE[1] - self.under + top - 30
-        rows = legend(self.losses, self.was, self.styles, self.tags, self.wide, room, self.grouped, self.found)
+        rows = legend(
+            self.losses, self.was, self.styles, self.tags, self.wide, room, self.grouped, self.found, self.marks
+        )
         foot, bottom = footer(rows, self.left, self.under + 8)
-        listed_names, bottom = name_rows(left_over, self.left, bottom, self.wide)
+        what = "names and turns:" if self.turn else "names:"
+        listed_names, bottom = name_rows(left_over, self.left, bottom, self.wide, what)
         title = f"{self.was.site.units} units, {len(self.was.site.links)} links"
         out = opened(self.left, top, self.wide, bottom - top + 6, title)
         out += head + frames_of(self.plan, self.was.site.units) + others + numbers + weak + units + weak_numbers
         out += singles + foot + listed_names
         return "\n".join(out + ["</svg>"]) + "\n"
+
+
+def ring_links(ring):
+    """The links that a ring holds, by their units."""
+    return {frozenset((v, ring[k - 1])) for k, v in enumerate(ring)}
 
 
 def written(placed, look):
@@ -271,9 +296,9 @@ def plan_of(losses, before, named=False):
     return plan if before is None else layout.kept(plan, neighbours_of(losses.site), losses.groups, named)
 
 
-def full_svg(losses, names=None, before=None, bare=False, found=None, proved=True):
+def full_svg(losses, names=None, before=None, bare=False, found=None, proved=True, marks=None):
     """Every unit and link; bare, without the lines over them."""
-    return Sheet(losses, names, before, found).svg(bare, proved)
+    return Sheet(losses, names, before, found, marks).svg(bare, proved)
 
 
 def is_full(losses, named=False):
@@ -287,8 +312,9 @@ def is_full(losses, named=False):
     return layout.crossings(plan_of(losses, None, named).places, losses.site.links) <= CROSSED * len(losses.site.links)
 
 
-def svg_of(losses, names=None, before=None, full=False, found=None, proved=True):
-    """The drawing of a site. With the site before, units that were there keep their places."""
-    if full or is_full(losses, bool(names)):
-        return full_svg(losses, names, before, False, found, proved)
+def svg_of(losses, names=None, before=None, full=False, found=None, proved=True, marks=None):
+    """The drawing of a site. With the site before, units that were there keep their places. What is marked, a ring, a
+    lifting order or doubtful links, needs every unit and link."""
+    if full or (marks and any(marks)) or is_full(losses, bool(names)):
+        return full_svg(losses, names, before, False, found, proved, marks)
     return block_drawing.svg_of(losses, names, False, found, proved)

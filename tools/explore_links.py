@@ -32,9 +32,9 @@ class Links:
             return ["e/" + token]
         if token in self.tree.needs:
             return ["k/" + token]
-        file = re.fullmatch(r"crates/(\w+)/(specs|src)/([\w/]+)\.(?:antt|rt)", token)
+        file = re.fullmatch(r"crates/(\w+)/(specs|proofs|src)/([\w/]+)\.(?:antt|rt)", token)
         if file:
-            return [("m/" if file[2] == "specs" else "o/") + f"{file[1]}/{file[3]}"]
+            return [("o/" if file[2] == "src" else "m/") + f"{file[1]}/{file[3]}"]
         if token in self.records:
             return [target("d", *self.records[token][0])]
         if re.fullmatch(r"\w+(?:::\w+)+(?:\(.*\))?|link_survey_\w+", token):

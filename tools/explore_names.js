@@ -25,7 +25,7 @@ function divided(address) {
 function usesOf(file) {
   if (file.uses) return file.uses;
   file.uses = { names: new Map(), modules: new Map(), code: new Map() };
-  const line = /^(?:ghost )?use Rattle·(\w+?)(?:·specs)?\.specs\.([\w.]+?)(?:\.\{(.*)\})?(?: as ([\w-]+))?;?$/gm;
+  const line = /^(?:ghost )?use Rattle\.(\w+?)\.specs\.([\w.]+?)(?:\.\{(.*)\})?(?: as ([\w-]+))?;?$/gm;
   for (const [, crate, path, names, alias] of file.t.matchAll(line)) {
     const module = `${crate}/${path.replace(/\./g, "/")}`;
     if (names === undefined) {
@@ -91,7 +91,7 @@ function wayTo(word, kind, key, file, call) {
 
 // a line of code with its words linked; a word after a point is a field, and stays
 function linkedLine(code, kind, key, file) {
-  const word = /[\p{L}_][\p{L}\p{N}_′?]*(?:(?:-|::|\.(?=\p{L}))[\p{L}\p{N}_′?]+)*/gu;
+  const word = /[\p{L}_][\p{L}\p{N}_'?]*(?:(?:-|::|\.(?=\p{L}))[\p{L}\p{N}_'?]+)*/gu;
   let shown = "";
   let last = 0;
   for (const found of code.matchAll(word)) {

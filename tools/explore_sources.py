@@ -7,12 +7,12 @@ import os
 import re
 from dataclasses import dataclass, field
 
-WORD = r"[^\W\d][\w′?₀-₉]*(?:-[\w′?₀-₉]+)*"  # a name of the logic
-SIGNATURE = re.compile(rf"(abbrev |unfoldable )?(pub )?({WORD}|_\S+_)(?: \{{[^}}]*\}})*\s+:(?=\s|$)")
+WORD = r"[^\W\d][\w'?₀-₉]*(?:-[\w'?₀-₉]+)*"  # a name of the logic
+SIGNATURE = re.compile(rf"(abbrev |unfoldable )?(pub )?({WORD}|◌\S+◌)(?: \{{[^}}]*\}})*\s+:(?=\s|$)")
 PLAIN = re.compile(r"(?:→|:) (?:ℕ|ℤ|Bool|List .*|Option .*|Type 0)$")  # what a definition gives
 GROUP = re.compile(rf"(pub )?(record|data) ({WORD})")
 MEMBER = re.compile(rf"\s*(?:pub )?({WORD})\s+:(?=\s|$)")
-USE = re.compile(r"(?:ghost )?use Rattle·(\w+?)(?:·specs)?\.specs\.([\w.]+?)(?:\.\{(.*)\})?(?: as ([\w-]+))?;?$")
+USE = re.compile(r"(?:ghost )?use Rattle\.(\w+?)\.(?:specs|proofs)\.([\w.]+?)(?:\.\{(.*)\})?(?: as ([\w-]+))?;?$")
 FUNCTION = re.compile(r'(\s*)(pub )?(?:pub\(crate\) )?(extern "C" )?fn (\w+)')
 TYPE = re.compile(r"(pub )?(?:pub\(crate\) )?(struct|enum|const) (\w+)")
 CODE_USE = re.compile(r"(?:pub(?:\(crate\))? )?use ([\w:]+)::(\w+);$")
@@ -230,7 +230,7 @@ class Tree:
         self.root = root
         self.needs = {}
         for line in contents(os.path.join(root, "crates.txt")).split("\n"):
-            found = re.match(r"(\w+):(.*)", line)
+            found = re.match(r"(\w+)[^:#]*:(.*)", line)
             if found:
                 self.needs[found[1]] = found[2].split()
         self.needs = {name: [d for d in needs if d in self.needs] for name, needs in self.needs.items()}
@@ -249,6 +249,12 @@ class Tree:
                 name = os.path.relpath(path, base)[: -len(ending)].replace(os.sep, "/")
                 file = made(crate, name, path, os.path.relpath(path, self.root))
                 kept[file.key] = file
+        # theorems of their own; a folder of proofs/ is a function's
+        for path in sorted(glob.glob(os.path.join(home, "proofs", "[A-Z]*.antt"))):
+            name = os.path.basename(path)[: -len(".antt")]
+            if name != "Lib":
+                file = module_of(crate, name, path, os.path.relpath(path, self.root))
+                self.modules[file.key] = file
         for path in sorted(glob.glob(os.path.join(home, "must-fail", "*.edit"))):
             edit = edit_of(path, crate, self.root)
             self.edits[edit.key] = edit

@@ -34,11 +34,11 @@ def within(path, reader, data):
         raise Fault(f"{path}: {fault}", fault.number) from None
 
 
-def read_given(path):
+def read_given(path, one_way=False):
     data = read(path)
     if not is_text(data):
         return Given(path, data)
-    text = within(path, read_all, data)
+    text = within(path, lambda data: read_all(data, one_way), data)
     return Given(path, write_site(text.site), text.names, text.places, text.reach)
 
 

@@ -84,6 +84,11 @@ def under(d):
     return path(d, "white", LONE_WIDE + 4, None, ' class="under"')
 
 
+def bold(d):
+    """Beneath a link that a ring holds: dark on both sides of its line."""
+    return path(d, INK, 13, None, ' class="bold"')
+
+
 def cured(d):
     """The path of a link that is lone no more."""
     return path(d, CURED, 3.5, CURED_DASH)

@@ -5,11 +5,12 @@ import subprocess
 from files import Given, within
 from losses import Losses, contradictions, units_of
 from mends import causes
+from reports import OWN, along
 from survey_text import REFUSALS, Fault, read_report, read_site, write_site
 from words import LOUD
 
 ROOT = os.path.dirname(os.path.dirname(os.path.abspath(__file__)))
-PROGRAM = os.path.join(ROOT, "target", "bin", "link_survey")
+PROGRAM = os.path.join(ROOT, "crates", "link_survey", "out", "link_survey")
 PROGRAM_VARIABLE = "LINK_SURVEY_PROGRAM"
 SECONDS = 60  # the largest site takes a fraction of one
 TOLD = 20  # so many contradictions are told one by one
@@ -17,11 +18,17 @@ TOLD = 20  # so many contradictions are told one by one
 
 def program_at(given):
     """The path of the program, or None where none was named and none is built."""
-    named = given or os.environ.get(PROGRAM_VARIABLE)
-    path = named or PROGRAM
+    return path_of(given, PROGRAM_VARIABLE, PROGRAM, "link_survey")
+
+
+def path_of(given, variable, built, crate):
+    """The path of a program: as given, as a variable says, or as it is built; None where it was not named and is not
+    there."""
+    named = given or os.environ.get(variable)
+    path = named or built
     if not os.path.exists(path):
         if named:
-            raise Fault(f"the program {path} is not there: `rt check link_survey` in {ROOT} builds it (README.md)")
+            raise Fault(f"the program {path} is not there: `rt run` in {ROOT}/crates/{crate} builds it (README.md)")
         return None
     return os.path.abspath(path)
 
@@ -39,11 +46,11 @@ def run_program(path, data):
     return done.stdout
 
 
-def site_of(given):
+def site_of(given, one_way=False):
     """The site of a survey file. Where it is none, the cause that lies in the file as a whole comes first, and last
     a word on what may have been meant."""
     try:
-        return read_site(given.data)
+        return read_site(given.data, one_way)
     except Fault as fault:
         said, more = str(fault), ""
         found = list(causes(given.data)) if fault.number == 1 else []
@@ -77,8 +84,9 @@ def refusal(number, given):
     return Fault(f"{told}\n{LOUD}but nothing is wrong with {given.path}")
 
 
-def judged(given, source, data):
-    """What the losses of a table do and its report, which the links of the table must bear out."""
+def judged(given, source, data, own=False):
+    """What the losses of a table do and its report, which the links of the table must bear out; and so must a survey
+    replayed from the table, along the report's tree, the survey's own where that is wanted."""
     report = within(source, read_report, data)
     if isinstance(report, int):
         raise refusal(report, given)
@@ -88,12 +96,21 @@ def judged(given, source, data):
             words = f"it has {len(of_report)} {what}, the table {of_site}"
             raise Fault(f"{source} does not belong to {given.path}: {words}")
     losses = Losses(site)
+    judged_report(losses, source, report, given.path, own)
+    return losses, report
+
+
+def judged_report(losses, source, report, table="the table", own=False):
+    """A report must say what the links of the table do."""
     wrong = list(contradictions(losses, report))
+    if not wrong:
+        tree, wrong = along(losses, report)
+        if own and not wrong and tree != OWN:
+            wrong = [f"the report is along {tree}"]
     if wrong:
         more = [f"and {len(wrong) - TOLD} more"] if len(wrong) > TOLD else []
-        first = f"{LOUD}{source} contradicts {given.path}: do not rely on it"
+        first = f"{LOUD}{source} contradicts {table}: do not rely on it"
         raise Fault("\n".join([first, *wrong[:TOLD], *more]))
-    return losses, report
 
 
 def surveyed(program, given):
@@ -101,9 +118,15 @@ def surveyed(program, given):
     report."""
     if program is None:
         return Losses(site_of(given)), None
-    return judged(given, "the report", run_program(program, given.data))
+    return judged(given, "the report", run_program(program, given.data), own=True)
 
 
 def surveyed_again(program, site):
     """The losses of a table that is proposed."""
     return surveyed(program, Given("the table with the spares", write_site(site)))[0]
+
+
+def tree_of(losses, report):
+    """The tree of a report where it is not the survey's own, in words."""
+    tree = OWN if report is None else along(losses, report)[0]
+    return "" if tree == OWN else tree

@@ -1,7 +1,8 @@
 """The rows under a drawing of every unit and link: what its marks mean, and the names that found no room beside
 their units."""
 from captions import deaf_units
-from ink import FONT, INK, WEAK, cured, disc, lone, spare_line, spare_mark, straight, styled, text, width_of, wrapped
+from ink import CURED, FONT, INK, WEAK, bold, cured, disc, lone, path, spare_line, spare_mark, straight, styled, text
+from ink import width_of, wrapped
 from losses import listed
 
 NAMED = 6  # so many sets of links stand in the legend, and more where the page has room
@@ -66,7 +67,23 @@ def spare_rows(rows, found):
         rows.add(sample, f"{what} {k}, {heard} units {step.heard_by[0]} and {step.heard_by[1]}: {left}")
 
 
-def legend(losses, before, styles, tags, wide, room, grouped, found):
+def marked_rows(rows, losses, marks):
+    """The ring, the lifting order and the doubtful links that were asked for."""
+    if marks.ring:
+        sample = bold(straight(-22, 0, 22, 0)) + path(straight(-22, 0, 22, 0), "white", 3)
+        walk = " - ".join(map(str, (*marks.ring, marks.ring[0])))
+        rows.add(sample, f"ring: {walk}", f"ring of {len(marks.ring)} units")
+    if marks.order:
+        sample = text(0, 5, "1.", f'text-anchor="middle" font-weight="bold" fill="{CURED}"')
+        first = ", ".join(map(str, marks.order))
+        rows.add(sample, f"lifting order: {first}", f"lifting order, unit {marks.order[0]} first")
+    if marks.doubtful:
+        links = ", ".join(f"{j} ({losses.site.links[j][0]}-{losses.site.links[j][1]})" for j in marks.doubtful)
+        sample = text(0, 5, "?", f'text-anchor="middle" font-weight="bold" fill="{INK}"')
+        rows.add(sample, f"doubtful link{plural(marks.doubtful)}: {links}", f"{len(marks.doubtful)} doubtful links")
+
+
+def legend(losses, before, styles, tags, wide, room, grouped, found, marks=None):
     rows = Rows(wide)
     deaf = deaf_units(losses)
     if deaf:
@@ -76,6 +93,8 @@ def legend(losses, before, styles, tags, wide, room, grouped, found):
         rows.add(sample, f"separate group: {listed(part)}", f"separate group of {len(part)} units")
     weak_rows(rows, losses, before)
     spare_rows(rows, found)
+    if marks:
+        marked_rows(rows, losses, marks)
     backed = [[j for j in links if j < len(before.site.links)] for links in losses.backed()]
     backed = [links for links in backed if links]
     most = max(NAMED, int((room - rows.high()) / 40))
@@ -95,7 +114,7 @@ def legend(losses, before, styles, tags, wide, room, grouped, found):
     return rows.rows or [("", 24, ["no links"])]
 
 
-def name_rows(names, left, top, wide):
+def name_rows(names, left, top, wide, what="names:"):
     """Names in columns under the numbers of their units, and where they end."""
     if not names:
         return [], top
@@ -103,7 +122,7 @@ def name_rows(names, left, top, wide):
     column = number + max(map(width_of, names.values())) + APART
     columns = max(1, min(len(names), int((wide - 40 + APART) / column)))
     high = -(-len(names) // columns)
-    out = [text(left + 20, top + 18, "names:", f'font-weight="bold" fill="{INK}"')]
+    out = [text(left + 20, top + 18, what, f'font-weight="bold" fill="{INK}"')]
     for i, (v, name) in enumerate(sorted(names.items())):
         x, y = left + 20 + column * (i // high), top + 18 + ROW * (1 + i % high)
         bold = f'font-weight="bold" fill="{INK}" text-anchor="end"'

@@ -40,7 +40,8 @@ CONTRACTS_HEAD = """\
 
 Written by `python3 tools/lists.py --write`; do not edit it. For each public function the definitions that its `ensures`
 names; the promise itself stands above the function's body, in `src` of its crate. None has a `requires`. A function
-without a definition here says its promise by lists and arithmetic alone.
+without a definition here says its promise by lists and arithmetic alone; of `base_io`, whose functions reach files and
+the terminal, some promise nothing, since no contract can say what the system gives or takes.
 
 """
 

@@ -2,7 +2,7 @@
 loss cuts off.
 
 `html_of` gives one file that asks nothing of a network. What each loss cuts off stands in the page as data; the
-script only shows it.
+script only shows it. Rings and doubtful links are worked out in the page, from the links alone.
 """
 import json
 import re
@@ -13,13 +13,15 @@ import drawing
 from captions import UNPROVED, deaf_units, pieces
 from folds import Fold, Folding, most_cut
 from losses import counted, listed
+from page_rings import RINGS
 from page_script import SCRIPT
 from page_style import STYLE
 from spare_words import spare_words
 from words import fold_name
 
 FIRST = (
-    "Tap a unit or a link: what its loss cuts off turns grey. By key: Tab to the drawing, arrows, Enter. "
+    "Tap a unit or a link: what its loss cuts off turns grey. Press “a ring” or “doubtful links” to ask about links. "
+    "By key: Tab to the drawing, arrows, Enter. "
     "The list: what cuts off the most comes first."
 )
 
@@ -116,6 +118,15 @@ def spares_of(found, names, proved):
     return f'<div id="spares"><h2>Spares</h2>{"".join(told)}</div>\n'
 
 
+def asked_of(lines):
+    """What was asked, and the answers, in words."""
+    if not lines:
+        return ""
+    told = [line.replace("\u00a0", " ") for line in lines]
+    rows = [f'<p class="{"more" if line.startswith(" ") else "one"}">{escape(line.strip())}</p>' for line in told]
+    return f'<div id="asked"><h2>Asked</h2>{"".join(rows)}</div>\n'
+
+
 def inline(svg):
     """A drawing to stand within the page, which knows how wide it is."""
     end = svg.index(">")
@@ -123,13 +134,14 @@ def inline(svg):
     return re.sub(r' (?:xmlns|width|height)="[^"]*"', "", svg[:end]) + f' style="--wide: {wide}"' + svg[end:]
 
 
-def sheets_of(losses, names, before, found):
+def sheets_of(losses, names, before, found, marks=None):
     """The drawings of a page: the name of each, what its button says, and its text; the first is shown first."""
-    whole = "whole", "all units and links", drawing.full_svg(losses, names, before, bare=True)
+    whole = "whole", "all units and links", drawing.full_svg(losses, names, before, bare=True, marks=marks)
     sheets = [whole]
     if losses.site.units > drawing.SMALL:
         tree = "blocks", "weak places", block_drawing.svg_of(losses, names, bare=True)
-        sheets = [whole, tree] if drawing.is_full(losses, bool(names)) else [tree, whole]
+        first = (marks and any(marks)) or drawing.is_full(losses, bool(names))
+        sheets = [whole, tree] if first else [tree, whole]
     if found and found.steps:
         spared = drawing.full_svg(losses, names, before, True, found)
         sheets.append(("spared", "with the spares", re.sub(r' data-(?:unit|link|of)="\d+"', "", spared)))
@@ -142,6 +154,8 @@ def section_of(sheets):
         f'<button data-zoom="{by}">{said}</button>' for by, said in ((1.4, "+"), (0.714, "−"), (0, "whole"))
     )
     tools += '<button data-key="">clear</button>'
+    for mode, said in ("loss", "a loss"), ("ring", "a ring"), ("doubtful", "doubtful links"):
+        tools += f'<button data-mode-of="{mode}" aria-pressed="{"true" if mode == "loss" else "false"}">{said}</button>'
     out = ""
     for k, (sheet, said, svg) in enumerate(sheets):
         if len(sheets) > 1:
@@ -154,8 +168,9 @@ def section_of(sheets):
     return f'<section id="drawing"><div class="tools">{tools}</div>\n{out}</section>'
 
 
-def html_of(losses, names=None, before=None, found=None, proved=True):
-    """The page of a site."""
+def html_of(losses, names=None, before=None, found=None, proved=True, marks=None, answers=()):
+    """The page of a site. What is marked, a ring, a lifting order or doubtful links, stands in its drawing, and the
+    lines of the answers over its list."""
     site = losses.site
     title = (
         f"{counted(site.units, 'unit')}, {counted(len(site.links), 'link')}: "
@@ -176,16 +191,16 @@ def html_of(losses, names=None, before=None, found=None, proved=True):
 <body style="--loud: {len(told)}">
 <header><h1>{escape(title)}</h1>{loud}</header>
 <main>
-{section_of(sheets_of(losses, names, before, found))}
+{section_of(sheets_of(losses, names, before, found, marks))}
 <aside id="list">
 <p id="said" aria-live="polite">{FIRST}</p>
-{spares_of(found, names, proved)}<ol>
+{asked_of(answers)}{spares_of(found, names, proved)}<ol>
 {rows_of(losses, names)}
 </ol>
 </aside>
 </main>
 <script type="application/json" id="site">{data}</script>
-<script>{SCRIPT}</script>
+<script>{RINGS}{SCRIPT}</script>
 </body>
 </html>
 """

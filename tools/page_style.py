@@ -28,10 +28,10 @@ svg [tabindex]:focus-visible > path:not(.hit) { stroke: #0b57d0; stroke-width: 8
 ol { list-style: none; margin: 0; padding: 0; }
 summary { padding: 8px 12px; margin: 0 0 4px; border: 1px solid #888; border-radius: 6px; cursor: pointer; }
 details ol { margin-left: 12px; }
-#spares { margin: 0 0 10px; padding: 2px 10px; border-left: 6px solid #00694d; background: #f6f6f6; }
-#spares h2 { font-size: 1rem; margin: 6px 0; }
-#spares p { margin: 4px 0; overflow-wrap: anywhere; }
-#spares p.more { margin-left: 1.2em; }
+#spares, #asked { margin: 0 0 10px; padding: 2px 10px; border-left: 6px solid #00694d; background: #f6f6f6; }
+#spares h2, #asked h2 { font-size: 1rem; margin: 6px 0; }
+#spares p, #asked p { margin: 4px 0; overflow-wrap: anywhere; }
+#spares p.more, #asked p.more { margin-left: 1.2em; }
 li button { display: block; width: 100%; margin: 0 0 4px; overflow-wrap: anywhere; }
 li.chosen button { outline: 4px solid #b5121b; }
 li b { display: inline-block; min-width: 2.2em; }
@@ -40,6 +40,12 @@ svg .cut, svg .gone { opacity: 0.22; }
 svg .some { opacity: 0.6; }
 svg .lost > circle, svg .lost > rect { stroke: #1a1a1a; stroke-width: 7; }
 svg .lost > path:not(.hit) { stroke: #1a1a1a; stroke-width: 9; }
+svg .onring > circle { stroke: #1a1a1a; stroke-width: 6; }
+svg .onring > path:not(.hit) { stroke: #1a1a1a; stroke-width: 9; stroke-dasharray: none; }
+svg .picked > path.hit { stroke: #0b57d0; stroke-opacity: 0.3; }
+svg .doubted > path:not(.hit) { stroke-dasharray: 2 7; stroke: #1a1a1a; stroke-width: 5; }
+svg .perhaps > circle { stroke: #b5121b; stroke-width: 6; stroke-dasharray: 5 4; }
+svg .perhaps > path.hit { stroke: #b5121b; stroke-opacity: 0.35; }
 @media (max-width: 760px) {
   main { display: block; }
   #list { max-height: none; position: static; }
@@ -57,7 +63,7 @@ svg .lost > path:not(.hit) { stroke: #1a1a1a; stroke-width: 9; }
   .sheet svg { max-height: calc(248mm - var(--loud, 0) * 14mm); }
   svg .cut, svg .gone, svg .some { opacity: 1; }
   #list { max-height: none; overflow: visible; position: static; padding: 3mm 0; }
-  li, #spares p { break-inside: avoid; }
+  li, #spares p, #asked p { break-inside: avoid; }
   li button, summary { border: 0; border-top: 1px solid #888; border-radius: 0; padding: 1.5mm 0; margin: 0; }
 }
 """

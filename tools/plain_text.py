@@ -82,10 +82,11 @@ def without_remark(line):
 class Reader:
     """The site so far; each line adds to it or is a fault."""
 
-    def __init__(self):
+    def __init__(self, one_way=False):
         self.units = self.reach = None
+        self.one_way = one_way  # links from the first unit to the second: one each way is no repetition
         self.links, self.levels, self.kinds, self.names, self.places = [], [], [], {}, {}
-        self.joined = {}  # two units, the lesser first: the line that links them
+        self.joined = {}  # two units, the lesser first unless links are one-way: the line that links them
 
     def unit(self, digits):
         v = number_of(digits)
@@ -127,7 +128,7 @@ class Reader:
         a, b = self.unit(match[1]), self.unit(match[2])
         if a == b:
             raise Fault(f"the link joins unit {a} to itself")
-        first = self.joined.setdefault((min(a, b), max(a, b)), number)
+        first = self.joined.setdefault((a, b) if self.one_way else (min(a, b), max(a, b)), number)
         if first != number:
             raise Fault(f"units {a} and {b} have a link already, in line {first}")
         if len(self.links) == MAX_LINKS:
@@ -184,9 +185,9 @@ def decoded(data):
         raise Fault(f"line {line}: a character is not in UTF-8: save the file as plain text in UTF-8") from None
 
 
-def read_all(data):
+def read_all(data, one_way=False):
     """All that a text holds."""
-    reader = Reader()
+    reader = Reader(one_way)
     for number, line in enumerate(decoded(data).split("\n"), 1):
         try:
             line = without_remark(line)

@@ -1,12 +1,12 @@
-"""The proved module: what `rt staticlib survey_c` hands to the kit's compiler, kept for other processors.
+"""The proved module: what `rt lib` of survey_c hands to the kit's compiler, kept for other processors.
 
 rt proves the crate, lowers it to one LLVM module and has the kit's clang compile that for x86-64. No command hands the
-module out. So rt is run over a view of the kit: symbolic links to all of it, and a `clang` of its own that keeps a copy
-of the module and of the words that it was called with, and is then the kit's clang.
+module out. So rt is run from a view of the kit: symbolic links to all of it but for rt itself, which is copied since it
+looks for the kit from where it stands, and a `clang` of its own that keeps a copy of the module and of the words that
+it was called with, and is then the kit's clang.
 """
 import hashlib
 import os
-import platform
 import shutil
 import subprocess
 import sys
@@ -16,7 +16,9 @@ import elf
 
 ROOT = os.path.dirname(os.path.dirname(os.path.abspath(__file__)))
 KEPT = os.path.join(ROOT, "target", "cross")
-ARCHIVE = os.path.join(ROOT, "target", "staticlib", "libsurvey_c.a")
+CRATE = os.path.join(ROOT, "crates", "survey_c")
+ARCHIVE = os.path.join(CRATE, "out", "libsurvey_c.a")
+MAKER = "rt lib"  # in the crate's folder
 MODULE = "module.bc"
 
 KEEPER = """#!/bin/sh
@@ -35,40 +37,45 @@ class Failed(Exception):
 
 
 class Kit:
-    """The toolchain: RATTLE_HOME, or the folder that the command rt stands in."""
+    """The toolchain: the folder above the one that the command rt stands in."""
+
+    TOOLS = os.path.join("toolchain", "bin")
+    COPIED = "rt", "rtlib.py"
 
     def __init__(self):
         rt = shutil.which("rt")
-        home = os.environ.get("RATTLE_HOME") or (rt and os.path.dirname(os.path.dirname(os.path.realpath(rt))))
-        if not rt or not home:
+        if not rt:
             raise Failed("there is no rt: the proved module comes from the Rattle toolchain alone")
-        self.home = os.path.realpath(home)
-        self.own = os.path.join("on", platform.machine())
-        self.tools = os.path.join(self.own, "toolchain", "bin")
-        self.clang, self.ar = (os.path.join(self.home, self.tools, name) for name in ("clang", "llvm-ar"))
-        for path in self.clang, self.ar, os.path.join(self.home, "KIT-ID"):
+        self.home = os.path.dirname(os.path.dirname(os.path.realpath(rt)))
+        self.clang, self.ar = (os.path.join(self.home, self.TOOLS, name) for name in ("clang", "llvm-ar"))
+        copied = [os.path.join(self.home, "bin", name) for name in self.COPIED]
+        for path in self.clang, self.ar, *copied, os.path.join(self.home, "KIT-ID"):
             if not os.path.exists(path):
                 raise self.changed(f"it has no {os.path.relpath(path, self.home)}")
         with open(os.path.join(self.home, "KIT-ID"), encoding="utf-8") as file:
             self.identity = file.read().strip()
 
     def changed(self, how):
-        return Failed(f"this way to other processors does not fit the toolchain: {how}. It is written for rt's kit 5b, "
-                      "whose rt runs on/MACHINE/toolchain/bin/clang on one module; see tools/proved_module.py")
+        return Failed(f"this way to other processors does not fit the toolchain: {how}. It is written for rt's kit 13f,"
+                      " whose rt runs toolchain/bin/clang on one module; see tools/proved_module.py")
 
     def view(self, folder):
-        """Links to all of the kit but for its clang; the folders on the way to it are real ones."""
-        parts = self.tools.split(os.sep)
-        for depth in range(len(parts) + 1):
-            inside, left_out = os.path.join(*parts[:depth], ""), parts[depth] if depth < len(parts) else "clang"
-            os.makedirs(os.path.join(folder, inside), exist_ok=True)
+        """Links to all of the kit but for its rt and clang; the folders on the way to these are real ones. The path of
+        the view, which stands in a folder of its own, since rt keeps things beside its kit."""
+        view = os.path.join(folder, "kit")
+        left_out = {"": ["bin", "toolchain"], "bin": self.COPIED, "toolchain": ["bin"], self.TOOLS: ["clang"]}
+        for inside, names in left_out.items():
+            os.makedirs(os.path.join(view, inside), exist_ok=True)
             for name in os.listdir(os.path.join(self.home, inside)):
-                if name != left_out:
-                    os.symlink(os.path.join(self.home, inside, name), os.path.join(folder, inside, name))
-        keeper = os.path.join(folder, self.tools, "clang")
+                if name not in names:
+                    os.symlink(os.path.join(self.home, inside, name), os.path.join(view, inside, name))
+        for name in self.COPIED:
+            shutil.copy(os.path.join(self.home, "bin", name), os.path.join(view, "bin", name))
+        keeper = os.path.join(view, self.TOOLS, "clang")
         with open(keeper, "w", encoding="utf-8") as file:
             file.write(KEEPER.format(module=MODULE, folder=folder, clang=self.clang))
         os.chmod(keeper, 0o755)
+        return view
 
 
 def sources(kit):
@@ -94,9 +101,9 @@ def run(command, what, **more):
 
 def prove(kit, folder):
     """Has rt prove the library and write the archive for x86-64; the module and the words are then in the folder."""
-    kit.view(folder)
-    command = [os.path.join(ROOT, "tools", "in_memory"), "rt", "staticlib", "survey_c"]
-    run(command, "rt staticlib survey_c", cwd=ROOT, env={**os.environ, "RATTLE_HOME": folder})
+    # first by the kit itself, which takes from what it keeps; then all is proved, and only lowered once more
+    for rt in "rt", os.path.join(kit.view(folder), "bin", "rt"):
+        run([rt, "lib"], "rt lib of survey_c", cwd=CRATE)
     if not os.path.exists(os.path.join(folder, MODULE)):
         raise kit.changed(f"rt handed its clang no {MODULE}")
 
@@ -127,7 +134,7 @@ def kept(kit):
         with open(stamp, encoding="utf-8") as file:
             if file.read() == now:
                 return KEPT
-    print("proving the library: rt staticlib survey_c", file=sys.stderr, flush=True)
+    print("proving the library: rt lib in crates/survey_c", file=sys.stderr, flush=True)
     with tempfile.TemporaryDirectory() as folder:
         prove(kit, folder)
         same_as_archive(kit, folder)

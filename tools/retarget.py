@@ -32,7 +32,7 @@ def retargeted(kit, text, target):
 
     text = once(r'(?m)^target datalayout = "e-[^"]*"\n', "", text)
     text = once(r'(?m)^target triple = "x86_64-unknown-linux-gnu"$', f'target triple = "{target.triple}"', text)
-    text = once(r' "target-cpu"="x86-64"', "", text, most=100)
+    text = once(r' "target-cpu"="x86-64[^"]*"', "", text, most=100)
     if re.match("arm|thumb", target.triple):
         once(r"\b(ptrtoint|inttoptr|ptrtoaddr)\b", "", text, 0, 0)
     if target.triple.startswith("riscv64"):

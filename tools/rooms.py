@@ -16,7 +16,8 @@ CODELESS = ("spec", "theory")  # rooms without a function
 Room = namedtuple("Room", "name title names holds knows")
 
 ROOMS = [
-    Room("base", "`base_`", r"base_\w+", "lists, slices, copies, lg, streams of numbers: no word of the survey", ()),
+    Room("base", "`base_`", r"base_\w+",
+         "lists, slices, copies, lg, streams of numbers, input and output: no word of the survey", ()),
     Room("table", "`table`, `table_`", r"table(_\w+)?", "load's checks, levels, small functions over plain tables",
          ("base",)),
     Room("file", "`file_`", r"file_\w+", "frames, what a file means, reading, writing, round trips", ("base", "table")),
@@ -39,9 +40,12 @@ ROOMS = [
          ("base", "table", "file", "spec", "theory", "stages", "report", "requests")),
     Room("words", "`words_`, `survey_c`", r"words_\w+|survey_c", "the calls on lent words, and those for C",
          ("base", "table", "file", "spec", "theory", "stages", "report", "requests")),
-    Room("programs", "`link_survey`, `small_sites`, `check_`", r"link_survey|small_sites|check_\w+",
-         "the program, the list of small sites, programs that compare",
-         ("base", "table", "file", "spec", "report", "requests", "value", "words")),
+    Room("ask", "`ask_`", r"ask_\w+", "questions about a file, and their answers in plain words",
+         ("base", "table", "file", "spec", "theory", "report", "requests", "value", "words")),
+    Room("programs", "`link_survey`, `link_ask`, `small_sites`, `check_`",
+         r"link_survey|link_ask|small_sites|check_\w+",
+         "the programs, the list of small sites, programs that compare",
+         ("base", "table", "file", "spec", "report", "requests", "value", "words", "ask")),
 ]
 
 # Crates that know one more room or stage, and why.
@@ -70,7 +74,7 @@ def dependencies():
     """Each crate's, in the order of crates.txt."""
     lines = [line for line in contents("crates.txt").split("\n") if line and not line.startswith("#")]
     named = [line.split(":", 1) for line in lines]
-    return {name.strip(): deps.split() for name, deps in named}
+    return {name.split()[0]: deps.split() for name, deps in named}
 
 
 def room_of(crate):

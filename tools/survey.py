@@ -1,172 +1,205 @@
 #!/usr/bin/env python3
-"""Surveys a site of portable signals, says what is weak there and where spares go: the front door to the program
-target/bin/link_survey."""
-import argparse
+"""Surveys a site of portable signals, says what is weak there and where spares go, and answers questions about it: the
+front door to the programs crates/link_survey/out/link_survey and crates/link_ask/out/link_ask."""
 import os
 import sys
+from collections import namedtuple
 
-from files import read, read_given, write
-from judge import PROGRAM_VARIABLE, judged, program_at, site_of, surveyed, surveyed_again
+import export
+from answers import Answer, Asker, marks_of, one_way_told, sites_told
+from asking import UNPROVED, asker_at
+from compare import compared_reports
+from files import read, read_given, within, write
+from judge import judged, program_at, site_of, surveyed, surveyed_again, tree_of
 from limits import limits_of
 from losses import Losses, units_of
+from naming import Names
+from options import check_options, command_line, questions_of, written_of
 from plain_text import same_names, write_text
+from planning import along_plan, changed_site
 from proposals import proposed
+from reports import DRAWN
 from spare_words import spare_words
-from survey_text import Fault
+from survey_text import Fault, read_report, write_site
 from words import LOUD, words, wrapped
 
-SPARES = 3  # so many spares are proposed where no number is given
-
-ABOUT = """\
-Surveys a site and prints what is weak there: first, loud, the units that hear nobody
-and the groups that no link joins; then the weak places, the worst first; then what
-backs each other up. With --spares it says where spare repeaters go."""
-
-MORE = """\
-SITE is a survey file or plain text, told apart by what stands in it; - is standard
-input. In plain text a level (in dBm), a name, a place (metres along the road and
-across), the reach and what stands behind # may be left out:
-
-    # the bridge, night shift
-    units 5
-    0-1
-    1-2 -63
-    3 = head N3
-    3 @ 120 4
-    reach 250
-
-Where a drawing or a page goes to standard output (-), the words go to standard error.
-Faults and warnings always go there.
-
-Exit status: 0 where the site has no weak place and is in one piece; 1 where it has
-weak places or is in pieces; 2 where the table was refused, something failed, or the
-report contradicts the links (each unit and each link is taken away once to see); 3
-where the proved program is not built: what is told is by taking away alone."""
-
-
-def command_line():
-    parser = argparse.ArgumentParser(
-        prog="survey.py",
-        description=ABOUT,
-        epilog=MORE,
-        formatter_class=argparse.RawDescriptionHelpFormatter,
-        allow_abbrev=False,
-    )
-    add = parser.add_argument
-    add("site", metavar="SITE", help="the table of links: a survey file or plain text")
-    add("--spares", metavar="K", nargs="?", type=number, const=SPARES,
-        help=f"say where up to K spare repeaters go ({SPARES} without a number), each surveyed before it is told")
-    add(
-        "--near",
-        metavar="PAIRS",
-        help="pairs of units that can be joined, like 0-7,3-9, or a file of them: no others are proposed",
-    )
-    add("--svg", metavar="OUT", help="write a drawing of the site")
-    add("--html", metavar="OUT", help="write a page on which a tap shows what a loss parts")
-    add("--before", metavar="SITE", help="an earlier table of the site: say what is cured, new and remaining")
-    add("--full", action="store_true", help="tell each weak place and set of links alone, and draw every unit and link")
-    add(
-        "--report",
-        metavar="FILE",
-        help="a report made elsewhere, from C, say; the program is not run, not on --before either",
-    )
-    add(
-        "--program",
-        metavar="PATH",
-        help=f"the program (else what {PROGRAM_VARIABLE} says, else target/bin/link_survey)",
-    )
-    add("--to-file", metavar="OUT", help="no survey: write SITE as a survey file (names and places are lost)")
-    add("--to-text", metavar="OUT", help="no survey: write SITE as plain text")
-    return parser
-
-
-def number(said):
-    if not said.isascii() or not said.isdigit() or not 1 <= int(said) <= 256:
-        raise argparse.ArgumentTypeError(f"{said!r} is no number of spares from 1 to 256 (SITE stands before --spares)")
-    return int(said)
+# a survey and all that was found with it: the site that was given, the tree where it is not the survey's own, by what
+# it was found, the losses of an earlier table, what is proposed, the answers to questions, whether all is drawn, and
+# whether the program link_ask was wanted and is not built
+Surveyed = namedtuple(
+    "Surveyed",
+    "losses report given tree by before proposed answers full unasked",
+    defaults=(None, None, (), False, False),
+)
 
 
 def convert(options):
-    given = read_given(options.site)
+    given = altered(read_given(options.site), options, complain)
     site = site_of(given)
-    if options.to_text:
-        write(options.to_text, write_text(site, given.names, given.places, given.reach))
-        return 0
-    alone = Losses(site).alone()
+    unasked = options.changes and asker_at(options.asker) is None
+    if unasked:
+        complain(UNPROVED)
+    alone = [] if options.to_text or options.changes else Losses(site).alone()
     if alone:
         complain(f"no link ends at {units_of(alone)}: a handset refuses such a table with 22")
-    write(options.to_file, given.data)
-    return 0
+    text = options.to_text and write_text(site, given.names, given.places, given.reach)
+    write(options.to_text or options.to_file, text or given.data)
+    return 3 if unasked else 0
 
 
 def survey(options):
-    given = read_given(options.site)
-    earlier = options.before and read_given(options.before)
-    program = None if options.report else program_at(options.program)
-    if options.report:
-        losses, report = judged(given, options.report, read(options.report))
-        before = earlier and Losses(site_of(earlier))
-    else:
-        losses, report = surveyed(program, given)
-        before = earlier and surveyed(program, earlier)[0]
+    """The list; or, in its place, the answers to questions."""
+    first, lines = read_given(options.site), []
+    given = altered(first, options, lines.append)
+    earlier = read_given(options.before) if options.before else first if options.changes else None
+    program, questions = program_at(options.program), questions_of(options)
+    unasked = asker_at(options.asker) is None and bool(questions or options.changes or options.plan)
+    found = reported(options, program, given)
+    before = earlier and surveyed(program, earlier)[0]
+    found = found._replace(before=before, full=options.full, unasked=unasked)
     for units in same_names(given.names):
         complain(f"{LOUD}{units_of(units)} have the same name, {given.names[units[0]]}: give each its own")
-    lines = list(words(losses, report, given.names, options.full, before, earlier and earlier.names))
-    found = None
+    if questions:
+        found = found._replace(answers=answers_of(options, program, found))
+        lines += [line for answer in found.answers for line in answer.lines]
+        code = 3 if unasked else 0 if all(answer.good for answer in found.answers) else 1
+    else:
+        losses, report = found.losses, found.report
+        lines = [*([UNPROVED] if unasked else []), *lines]
+        lines += words(losses, report, given.names, options.full, before, earlier and earlier.names, found.tree)
+        weak = losses.unit_parts or losses.link_parts or len(losses.groups) > 1
+        code = 3 if unasked or report is None else 1 if weak else 0
     if options.spares:
-        limits = limits_of(losses.site, options.near, given.places, given.reach)
-        found = proposed(losses, options.spares, limits, lambda site: surveyed_again(program, site))
-        lines += spare_words(found, given.names, proved=program is not None)
-    said = "".join(wrapped(line) + "\n" for line in lines)
-    code = 3 if report is None else 1 if losses.unit_parts or losses.link_parts or len(losses.groups) > 1 else 0
-    for out, made in (options.svg, drawing_of), (options.html, page_of):
-        if out:
-            try:
-                write(out, made(losses, given.names, before, options.full, found, report is not None).encode("utf-8"))
-            except Fault as fault:
-                complain(fault)
-                code = 2
-    out = sys.stderr if "-" in (options.svg, options.html) else sys.stdout
-    if out is None:
-        raise Fault("standard output is closed")
-    print(said, end="", flush=True, file=out)
+        limits = limits_of(found.losses.site, options.near, given.places, given.reach)
+        spares = proposed(found.losses, options.spares, limits, lambda site: surveyed_again(program, site))
+        found = found._replace(proposed=spares)
+        lines += spare_words(spares, given.names, proved=program is not None)
+    return write_all(options, found, lines, code)
+
+
+def write_all(options, found, lines, code):
+    """What is wanted of a survey is written, and its lines are said; the exit status."""
+    outs = written_of(options)
+    for form, out in outs.items():
+        try:
+            write(out, made(form, found).encode("utf-8"))
+        except Fault as fault:
+            complain(fault)
+            code = 2
+    say(lines, sys.stderr if "-" in outs.values() else sys.stdout)
     return code
 
 
-def drawing_of(losses, names, before, full, found, proved):
-    from drawing import svg_of
+def altered(given, options, tell):
+    """The table with its changes made, and in words what a handset says to them."""
+    if not options.changes:
+        return given
+    changed = changed_site(given, site_of(given), options.changes, asker_at(options.asker), tell)
+    return given._replace(path=f"{given.path} as changed", data=write_site(changed))
 
-    return svg_of(losses, names, before, full, found, proved)
+
+def reported(options, program, given):
+    """The survey of a table: a report made elsewhere, one along a drawn tree, or the program's own."""
+    if options.report:
+        losses, report = judged(given, options.report, read(options.report))
+        if program:
+            surveyed(program, given)
+        return Surveyed(losses, report, given, tree_of(losses, report), "report")
+    losses, report = surveyed(program, given)
+    by = "program" if program else "removal"
+    if not options.plan:
+        return Surveyed(losses, report, given, "", by)
+    asker = asker_at(options.asker)
+    planned = along_plan(losses, given, options.plan, read(options.plan), asker)
+    return Surveyed(losses, planned, given, DRAWN, "program" if asker else "removal")
 
 
-def page_of(losses, names, before, _, found, proved):
-    from page import html_of
+def answers_of(options, program, found):
+    """The answers to the questions, each held to the table."""
+    names = Names(found.losses.site, found.given.names)
+    ask = Asker(found.losses, found.given, names, asker_at(options.asker))
+    answers = [Answer([UNPROVED], {}, True)] if found.unasked else []
+    if options.ring:
+        answers.append(ask.ring(options.ring))
+    if options.doubtful:
+        if options.ring:
+            answers.append(ask.verdict(options.ring, options.doubtful))
+        else:
+            answers.append(ask.doubts(options.doubtful, lambda site: surveyed_again(program, site)))
+    if options.lift is not None:
+        answers.append(ask.lift(options.lift))
+    if options.lines:
+        answers.append(ask.handsets())
+    return answers
 
-    return html_of(losses, names, before, found, proved)
+
+def one_way(options):
+    """Who reaches whom where each link goes one way."""
+    given = read_given(options.site, one_way=True)
+    asker, site = asker_at(options.asker), site_of(given, one_way=True)
+    answer = one_way_told(asker, site, given)
+    say([*([] if asker else [UNPROVED]), *answer.lines], sys.stdout)
+    return 3 if asker is None else 0 if answer.good else 1
+
+
+def sites(options):
+    """Several sites on one channel."""
+    paths = [*([options.site] if options.site else []), *options.sites]
+    asker = asker_at(options.asker)
+    found = [Losses(site_of(read_given(path))) for path in paths]
+    say([*([] if asker else [UNPROVED]), *sites_told(asker, found, paths, options.full)], sys.stdout)
+    return 3 if asker is None else 0
+
+
+def compare(options):
+    """Two reports; beside a table where one is given."""
+    given = options.site and read_given(options.site)
+    reports = [within(path, read_report, read(path)) for path in options.compare]
+    losses = given and surveyed(program_at(options.program), given)[0]
+    lines = list(compared_reports(options.compare, reports, given and given.names, losses, options.site))
+    say(lines, sys.stdout)
+    if any(line.startswith((f"{LOUD}A is", f"{LOUD}B is")) for line in lines):
+        return 2
+    return 0 if reports[0] == reports[1] else 1
+
+
+def say(lines, out):
+    if out is None:
+        raise Fault("standard output is closed")
+    print("".join(wrapped(line) + "\n" for line in lines), end="", flush=True, file=out)
+
+
+def made(form, found):
+    """What is written of a survey. The modules that draw are read where they are needed."""
+    losses, report, given = found[:3]
+    marks, proved = marks_of(found.answers), report is not None and not found.unasked
+    if form == "svg":
+        from drawing import svg_of
+
+        return svg_of(losses, given.names, found.before, found.full, found.proposed, proved, marks)
+    if form == "html":
+        from page import html_of
+
+        told = [line for answer in found.answers for line in answer.lines]
+        return html_of(losses, given.names, found.before, found.proposed, proved, marks, told)
+    if form == "json":
+        answers = {key: value for answer in found.answers for key, value in answer.data.items()}
+        return export.json_of(losses, report, given, found.by, found.tree, answers, not found.unasked)
+    if form == "csv":
+        return export.csv_of(losses, report, given)
+    return export.dot_of(losses, report, given, marks.ring, marks.order)
 
 
 def complain(fault):
     print(fault, file=sys.stderr, flush=True)
 
 
-def check_options(parser, options):
-    outputs = [path for path in (options.svg, options.html, options.to_file, options.to_text) if path]
-    inputs = [path for path in (options.site, options.before, options.report) if path]
+def work_of(options):
     if options.to_file or options.to_text:
-        if len(outputs) > 1 or len(inputs) > 1 or options.spares:
-            parser.error("--to-file and --to-text stand alone: nothing is surveyed")
-    if options.near is not None and not options.spares:
-        parser.error("--near limits what --spares proposes: give both")
-    for paths, stream in (inputs, "standard input"), (outputs, "standard output"):
-        if paths.count("-") > 1:
-            parser.error(f"only one - can be {stream}")
-    for path in outputs:
-        if path != "-" and any(same_file(path, other) for other in inputs):
-            parser.error(f"{path} is read: it would be overwritten")
-
-
-def same_file(path, other):
-    return os.path.exists(path) and os.path.exists(other) and os.path.samefile(path, other)
+        return convert
+    if options.compare:
+        return compare
+    return sites if options.sites else one_way if options.one_way else survey
 
 
 def main(arguments=None):
@@ -174,7 +207,7 @@ def main(arguments=None):
     options = parser.parse_args(arguments)
     check_options(parser, options)
     try:
-        return convert(options) if options.to_file or options.to_text else survey(options)
+        return work_of(options)(options)
     except Fault as fault:
         complain(fault)
         return 2

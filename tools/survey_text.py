@@ -117,9 +117,9 @@ def flag(frame, at, line):
     return frame[at] == 1
 
 
-def read_site(data):
+def read_site(data, one_way=False):
     """The units, links and levels of a survey file. Faults come in the order in which the survey program looks for
-    them."""
+    them. Where links are one-way, only the same ordered pair twice is a repetition."""
     if len(data) > MAX_INPUT:
         raise Fault(f"the file has {len(data)} bytes, more than 65,535", 1)
     frames = frames_of(data, FILE_KINDS)
@@ -153,7 +153,7 @@ def read_site(data):
             raise Fault(f"line {j + 2}: link {j} joins unit {a} to itself", 8)
     first = {}
     for j, (a, b) in enumerate(links):
-        i = first.setdefault((min(a, b), max(a, b)), j)
+        i = first.setdefault((a, b) if one_way else (min(a, b), max(a, b)), j)
         if i != j:
             raise Fault(f"line {j + 2}: link {j} ({a}-{b}) joins the same two units as link {i}", 9)
     return Site(units, links, levels, kinds)

@@ -27,8 +27,10 @@ BOARD = ["qemu-system-arm", "-M", "mps2-an386", "-nographic", "-monitor", "none"
 HOST = Target("x86_64-linux-gnu", "x86_64-unknown-linux-gnu", [], ["cc"], [], 62)
 
 TARGETS = {target.name: target for target in [
-    Target("aarch64-linux-gnu", "aarch64-unknown-linux-gnu", ["-fPIC"], ["aarch64-linux-gnu-gcc", "-static"],
-           ["qemu-aarch64"], 183),
+    # -aarch64-load-store-renaming=false: as the kit's own clang is called for this processor
+    Target("aarch64-linux-gnu", "aarch64-unknown-linux-gnu",
+           ["-fPIC", "-march=armv8-a", "-mllvm", "-aarch64-load-store-renaming=false"],
+           ["aarch64-linux-gnu-gcc", "-static"], ["qemu-aarch64"], 183),
     Target("armv7-linux-gnueabihf", "armv7-unknown-linux-gnueabihf", ["-fPIC"], ["arm-linux-gnueabihf-gcc", "-static"],
            ["qemu-arm"], 40),
     # -meabi gnu: memcpy and memset under their own names
@@ -42,8 +44,8 @@ TARGETS = {target.name: target for target in [
 
 
 def archive(target):
-    folder = ["staticlib"] if target is HOST else ["cross", target.name]
-    return os.path.join(ROOT, "target", *folder, "libsurvey_c.a")
+    folder = ["crates", "survey_c", "out"] if target is HOST else ["target", "cross", target.name]
+    return os.path.join(ROOT, *folder, "libsurvey_c.a")
 
 
 def missing(target):

@@ -12,24 +12,26 @@ import tempfile
 import unittest
 
 ROOT = os.path.dirname(os.path.dirname(os.path.abspath(__file__)))
-USUAL = """awk basename cat chmod cp cut date df dirname env find grep head ls mkdir mktemp rm sed sh sort tail tee
-timeout touch tr uname uniq wc""".split()
+USUAL = """awk basename cat chmod cp cut date dirname env find grep head ls mkdir mktemp readlink rm sed sh sort tail
+tee timeout touch tr uname uniq wc xargs""".split()
 
 # each script writes down that it was called
 CALLED = '#!/bin/sh\necho "$(basename "$0") $*" >>"$CALLS"\n'
 RT = """case $1 in
-fmt) exit ${BAD_FORMAT:-0} ;;
-staticlib)
-    mkdir -p target/staticlib && echo "${BAD_ARCHIVE:-}" >target/staticlib/lib$2.a
+lib)
+    mkdir -p out && echo "${BAD_ARCHIVE:-}" >out/lib$(basename "$PWD").a
     exit ${BAD_ARCHIVE:-0}
     ;;
 ci)
     echo 'rt: base proved (1 s)'
+    echo "rt: ok; handles allowed: none; must-fail edits: 3 refused${BAD_EDITS:-}; some, 4 bad words"
     echo "${LAST:-7 passed, 0 failed}"
     exit ${BAD_PROOF:-0}
     ;;
 esac
 """
+# it stands beside rt, and is asked which files are not laid out
+RATTLE = '[ "$1 $2" = "fmt --check" ] || exit 2\nexit ${BAD_FORMAT:-0}\n'
 # as many tests as the files named have, less those that are left out
 CARGO = """[ "$1" = --version ] && { echo "cargo ${VERSION:-1.95.0} (0123 2026-01-01)"; exit 0; }
 [ "$1" = run ] && exit ${BAD_SEARCH:-0}
@@ -53,6 +55,7 @@ COMPILERS = "cc", "gcc", "clang", "g++", "clang++"
 FILES = {
     "crates.txt": "",
     "crates/a/src/lib.rt": "",
+    "crates/survey_c/src/lib.rt": "",
     "include/link_survey.h": "",
     "examples/a.c": "",
     "evidence/Cargo.toml": 'rust-version = "1.88"\n',
@@ -75,13 +78,14 @@ class Tree(unittest.TestCase):
         self.calls = os.path.join(folder.name, "calls")
         for name, text in FILES.items():
             self.write(name, text)
-        for name in "tools/check", "tools/in_memory", ".ci/run":
+        for name in "tools/check", ".ci/run":
             os.makedirs(os.path.dirname(os.path.join(self.root, name)), exist_ok=True)
             shutil.copy(os.path.join(ROOT, name), os.path.join(self.root, name))
         os.mkdir(self.path)
         for name in filter(shutil.which, USUAL):
             os.symlink(shutil.which(name), os.path.join(self.path, name))
         self.script("rt", RT)
+        self.script("rattle", RATTLE)
 
     def write(self, name, text):
         path = os.path.join(self.root, name)
@@ -195,7 +199,7 @@ class Check(Tree):
         self.assertEqual(set(groups), {"format", "figures", "header", "test_quick"})
         with open(self.calls, encoding="utf-8") as file:
             calls = file.read()
-        self.assertNotIn("staticlib", calls)
+        self.assertNotIn("rt lib", calls)
         self.assertNotIn("cargo", calls)
 
     def test_named_groups(self):
@@ -208,9 +212,30 @@ class Check(Tree):
         self.check("archive")
         self.assertEqual(self.check("archive")[1]["archive"], ("passed", "as it was built"))
         self.write("crates/a/src/lib.rt", "// newer")
-        later = os.path.getmtime(os.path.join(self.root, "target/staticlib/libsurvey_c.a")) + 2
+        later = os.path.getmtime(os.path.join(self.root, "crates/survey_c/out/libsurvey_c.a")) + 2
         os.utime(os.path.join(self.root, "crates/a/src/lib.rt"), (later, later))
         self.assertEqual(self.check("archive")[1]["archive"], ("passed", ""))
+        self.write("crates/a/out/newer", "")
+        for name, time in ("crates/survey_c/out/libsurvey_c.a", later + 5), ("crates/a/out/newer", later + 9):
+            os.utime(os.path.join(self.root, name), (time, time))
+        self.assertEqual(self.check("archive")[1]["archive"], ("passed", "as it was built"))
+
+    def test_an_archive_that_takes_too_long(self):
+        status, groups, _ = self.check(BAD_ARCHIVE="124")
+        self.assertEqual((status, groups["archive"][0]), (0, "skipped"))
+        self.assertIn("not built within", groups["archive"][1])
+        self.assertEqual(groups["differences"], ("skipped", "no archive of survey_c from these sources"))
+
+    def test_files_that_are_laid_out(self):
+        """Of code, definitions and proofs, and nothing that rt makes."""
+        for name in "crates/a/specs/Lib.antt", "crates/a/proofs/f/Answers.antt", "crates/a/out/made.antt":
+            self.write(name, "")
+        self.assertEqual(self.check("format")[1]["format"][0], "passed")
+        with open(self.calls, encoding="utf-8") as file:
+            (call,) = [line for line in file if line.startswith("rattle ")]
+        named = call.split()[3:]
+        self.assertEqual(named, ["crates/a/proofs/f/Answers.antt", "crates/a/specs/Lib.antt", "crates/a/src/lib.rt",
+                                 "crates/survey_c/src/lib.rt"])
 
 
 class Missing(Tree):
@@ -253,6 +278,9 @@ class Missing(Tree):
         words = "no gcc; no clang; no g++; no clang++"
         self.assertEqual(self.without("gcc", "clang", "g++", "clang++")["header"], ("skipped", words))
 
+    def test_rattle(self):
+        self.assertEqual(self.without("rattle")["format"], ("skipped", "no rattle beside rt"))
+
     def test_rt(self):
         groups = self.without("rt")
         self.assertEqual((groups["format"], groups["archive"]), (("skipped", "no rt"),) * 2)
@@ -267,6 +295,8 @@ class Gate(Tree):
         self.equip()
         status, groups, lines = self.gate()
         self.assertEqual((status, lines[0], lines[-1]), (0, "rt: base proved (1 s)", "7 passed, 0 failed"))
+        with open(self.calls, encoding="utf-8") as file:
+            self.assertEqual(file.readline(), "rt ci\n")
         self.assertEqual({outcome for outcome, _ in groups.values()}, {"passed"})
 
     def test_the_toolchain_alone(self):
@@ -280,6 +310,12 @@ class Gate(Tree):
         self.equip()
         status, groups, lines = self.gate(BAD_PROOF="3", LAST="6 passed, 1 failed")
         self.assertEqual((status, groups, lines[-1]), (3, {}, "6 passed, 1 failed"))
+
+    def test_a_bad_edit(self):
+        """rt passes over an edit whose text no longer stands; the gate does not."""
+        self.equip()
+        status, groups, lines = self.gate(BAD_EDITS=", 2 bad")
+        self.assertEqual((status, groups, lines[-1]), (1, {}, "7 passed, 2 failed"))
 
     def test_a_group_fails(self):
         self.equip()

@@ -6,7 +6,6 @@ and said so.
 """
 import ctypes
 import os
-import platform
 import re
 import shutil
 import struct
@@ -61,6 +60,7 @@ class Made:
     def archive(cls, target):
         if not shutil.which("rt"):
             raise unittest.SkipTest("there is no rt, from whose proved module the archive is made")
+        test_examples.archive()
         if cls.text is None:
             cls.kit = proved_module.Kit()
             proved_module.kept(cls.kit)
@@ -244,17 +244,19 @@ class Kits(unittest.TestCase):
     """A toolchain that works in another way is met with a message, and no archive is made."""
 
     def test_no_toolchain(self):
-        environment = {**os.environ, "PATH": os.path.dirname(shutil.which("python3"))}
-        environment.pop("RATTLE_HOME", None)
         with tempfile.TemporaryDirectory() as folder:
             os.symlink(shutil.which("python3"), os.path.join(folder, "python3"))
-            self.told({**environment, "PATH": folder}, "there is no rt")
+            self.told({**os.environ, "PATH": folder}, "there is no rt")
 
     def test_other_layout(self):
-        if not shutil.which("rt"):
-            self.skipTest("there is no rt")
         with tempfile.TemporaryDirectory() as folder:
-            self.told({**os.environ, "RATTLE_HOME": folder}, "does not fit the toolchain: it has no")
+            os.mkdir(os.path.join(folder, "bin"))
+            rt = os.path.join(folder, "bin", "rt")
+            with open(rt, "w", encoding="utf-8") as file:
+                file.write("#!/bin/sh\n")
+            os.chmod(rt, 0o755)
+            path = os.path.dirname(rt) + os.pathsep + os.environ["PATH"]
+            self.told({**os.environ, "PATH": path}, "does not fit the toolchain: it has no")
 
     def told(self, environment, words):
         command = [shutil.which("python3"), os.path.join(ROOT, "tools", "cross"), "aarch64-linux-gnu"]
@@ -265,11 +267,13 @@ class Kits(unittest.TestCase):
 
     def other(self, rt, words):
         """Over a toolchain that has this for its rt, tools/cross says so; its clang writes a file that is no object."""
+        rt = '#!/bin/sh\nhome=$(cd "$(dirname "$0")/.." && pwd) || exit 2\n' + rt
         with tempfile.TemporaryDirectory() as folder:
-            tools = os.path.join(folder, "on", platform.machine(), "toolchain", "bin")
+            tools = os.path.join(folder, "toolchain", "bin")
             for path, text in [
                 (os.path.join(folder, "KIT-ID"), "another toolchain\n"),
-                (os.path.join(folder, "bin", "rt"), "#!/bin/sh\n" + rt),
+                (os.path.join(folder, "bin", "rt"), rt),
+                (os.path.join(folder, "bin", "rtlib.py"), ""),
                 (os.path.join(tools, "clang"), '#!/bin/sh\nfor last; do :; done\necho none >"$last"\n'),
                 (os.path.join(tools, "llvm-ar"), "#!/bin/sh\n"),
             ]:
@@ -278,15 +282,13 @@ class Kits(unittest.TestCase):
                     file.write(text)
                 os.chmod(path, 0o755)
             path = os.path.join(folder, "bin") + os.pathsep + os.environ["PATH"]
-            environment = {**os.environ, "PATH": path}
-            environment.pop("RATTLE_HOME", None)
-            self.told(environment, words)
+            self.told({**os.environ, "PATH": path}, words)
 
     def test_other_toolchain(self):
         test_examples.archive()
-        clang = '"$RATTLE_HOME"/on/*/toolchain/bin/clang'
-        inside = 'mkdir "$RATTLE_HOME/work" && cd "$RATTLE_HOME/work" || exit 2\necho some >module.bc\n'
-        self.other("echo it is not proved\nexit 1\n", "rt staticlib survey_c failed:\nit is not proved")
+        clang = '"$home"/toolchain/bin/clang'
+        inside = 'mkdir "$home/work" && cd "$home/work" || exit 2\necho some >module.bc\n'
+        self.other("echo it is not proved\nexit 1\n", "rt lib of survey_c failed:\nit is not proved")
         self.other("exit 0\n", "rt handed its clang no module.bc")
         self.other(inside + f"{clang} -c module.bc -o module.o\n", "its clang is called in another way")
         self.other(inside + f"{clang} --target=x86_64 -c module.bc -o module.o\n", "is not that of the archive")
@@ -297,7 +299,7 @@ class Kits(unittest.TestCase):
         kit, target = proved_module.Kit(), targets.TARGETS["riscv64-linux-gnu"]
         head = 'target datalayout = "e-m:e"\ntarget triple = "x86_64-unknown-linux-gnu"\n'
         body = "".join(f"define noundef i32 @{name}() #0 {{\n" for name in sorted(targets.functions()))
-        tail = 'attributes #0 = { "target-cpu"="x86-64" }\n'
+        tail = 'attributes #0 = { "target-cpu"="x86-64-v2" }\n'
         made = retarget.retargeted(kit, head + body + tail, target)
         self.assertIn('target triple = "riscv64-unknown-linux-gnu"', made)
         self.assertEqual(made.count("define noundef signext i32 @link_survey_"), len(targets.functions()))

@@ -42,8 +42,9 @@ class Documents(unittest.TestCase):
 
     def test_names(self):
         def there(match):
-            path = os.path.join(ROOT, "crates", match[1], "specs", match[2] + ".antt")
-            return os.path.exists(path) and declares(contents(path), match[3])
+            # a definition stands in specs/, a theorem there or in proofs/
+            paths = [os.path.join(ROOT, "crates", match[1], part, match[2] + ".antt") for part in ("specs", "proofs")]
+            return any(os.path.exists(path) and declares(contents(path), match[3]) for path in paths)
 
         self.each(r"(\w+)/([A-Z]\w*)\.(?!antt$|md$)([^\s.]+)", there)
 
@@ -57,7 +58,8 @@ class Documents(unittest.TestCase):
     def test_paths(self):
         self.each(
             r"(?:\.ci|crates|docs|examples|include|tools)/[\w./-]*",
-            lambda m: os.path.exists(os.path.join(ROOT, m[0])),
+            # what stands in out/ is made by rt
+            lambda m: "/out/" in m[0] or os.path.exists(os.path.join(ROOT, m[0])),
         )
 
     def test_links(self):
@@ -95,9 +97,13 @@ class Edits(unittest.TestCase):
 
 
 class PublicFunctions(unittest.TestCase):
+    # what they give or do depends on the system, of which no contract can speak
+    UNPROMISED = {"base_io"}
+
     def test_contracts(self):
         found = 0
         for path in glob.glob(os.path.join(ROOT, "crates", "*", "src", "**", "*.rt"), recursive=True):
+            crate = os.path.relpath(path, os.path.join(ROOT, "crates")).split(os.sep)[0]
             # the words of a function up to the brace before its body: alone on its line, or after the signature
             for name, head in re.findall(
                 r"(?ms)^\s*pub (?:extern \"C\" )?fn (\w+)(.*?)(?:^\s*\{|\)(?: -> [^\n]*)? \{)$", contents(path)
@@ -105,7 +111,8 @@ class PublicFunctions(unittest.TestCase):
                 found += 1
                 with self.subTest(f"{os.path.relpath(path, ROOT)}: {name}"):
                     self.assertNotIn("requires", head)
-                    self.assertIn("ensures", head)
+                    if crate not in self.UNPROMISED:
+                        self.assertIn("ensures", head)
         self.assertGreater(found, 0)
 
 

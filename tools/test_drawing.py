@@ -17,6 +17,7 @@ import blocks
 import drawing
 import ink
 import routes
+from answers import Marks
 from limits import Limits
 from losses import Losses
 from plain_text import read_text
@@ -346,6 +347,10 @@ class Reports(unittest.TestCase):
         losses = Losses(site)
         kept = contents(os.path.join(ROOT, "docs", "img", "road-spare.svg")).decode()
         self.assertEqual(drawing.svg_of(losses, names, found=proposed(losses, 1, Limits(), Losses)), kept)
+        site, names = read_text(contents(os.path.join(ROOT, "examples", "road-spare.txt")))
+        kept = contents(os.path.join(ROOT, "docs", "img", "road-ring.svg")).decode()
+        marks = Marks([0, 1, 2, 3, 4, 7, 8, 9], [7, 8, 9, 6, 5, 4, 3, 2, 1, 0])
+        self.assertEqual(drawing.svg_of(Losses(site), names, marks=marks), kept)
 
 
 # ---- colours

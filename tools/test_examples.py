@@ -1,6 +1,6 @@
 """The examples in C against the proved library: python3 tools/test_examples.py
 
-Builds the archive by `rt staticlib survey_c` where it is missing or older than the crates, then the examples. What
+Builds the archive by `rt lib` in crates/survey_c where it is missing or older than the crates, then the examples. What
 cannot be run for want of `rt` or of a compiler is skipped, and said so. tools/test_cross.py does this for other
 processors.
 """
@@ -20,7 +20,8 @@ EXAMPLES = os.path.join(ROOT, "examples")
 INCLUDE = os.path.join(ROOT, "include")
 VECTORS = os.path.join(ROOT, "crates", "check_vectors", "data")
 LEVELS = os.path.join(ROOT, "evidence", "tests", "levels", "program")
-ARCHIVE = os.path.join(ROOT, "target", "staticlib", "libsurvey_c.a")
+CRATE = os.path.join(ROOT, "crates", "survey_c")
+ARCHIVE = os.path.join(CRATE, "out", "libsurvey_c.a")
 WARNINGS = ["-Wall", "-Wextra", "-Wpedantic", "-Werror"]
 
 # document 01's case B: the rounds of stages 1 to 10 are 3, 4, 2, 4, 2, 4, 3, 1, 2, 2, of ceilings 4, 5, 2, 4, 2, 4, 3,
@@ -86,14 +87,16 @@ def newest_source():
 
 
 def archive():
-    """Makes the archive where it is missing or older than a source."""
+    """Makes the archive where it is missing or older than a source, unless tools/check has tried that."""
     if os.path.exists(ARCHIVE) and os.path.getmtime(ARCHIVE) >= newest_source():
         return
+    if os.environ.get("LINK_SURVEY_ARCHIVE") == "tried":
+        raise unittest.SkipTest("no archive of survey_c from these sources")
     if not shutil.which("rt"):
         raise unittest.SkipTest("the archive is missing or old, and there is no rt to make it")
-    made = subprocess.run(["rt", "staticlib", "survey_c"], cwd=ROOT, capture_output=True, text=True, check=False)
+    made = subprocess.run(["rt", "lib"], cwd=CRATE, capture_output=True, text=True, check=False)
     if made.returncode != 0:
-        raise AssertionError("rt staticlib survey_c failed:\n" + made.stdout[-2000:] + made.stderr[-2000:])
+        raise AssertionError("rt lib in crates/survey_c failed:\n" + made.stdout[-2000:] + made.stderr[-2000:])
     # rt leaves an archive that is still right as it was
     os.utime(ARCHIVE)
 

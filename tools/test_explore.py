@@ -79,10 +79,13 @@ class Made(unittest.TestCase):
             self.assertNotIn(word, shell)
 
     def test_every_crate_and_file(self):
-        crates = re.findall(r"(?m)^(\w+):", contents("crates.txt"))
+        crates = re.findall(r"(?m)^(\w+)(?: \w+)?:", contents("crates.txt"))
         self.assertEqual(list(self.data["crates"]), crates)
         for part, ending, held in ("specs", "antt", "modules"), ("src", "rt", "code"):
             paths = glob.glob(os.path.join(ROOT, "crates", "*", part, "**", "*." + ending), recursive=True)
+            if held == "modules":
+                theorems = glob.glob(os.path.join(ROOT, "crates", "*", "proofs", "[A-Z]*.antt"))
+                paths += [path for path in theorems if os.path.basename(path) != "Lib.antt"]
             found = {file["p"] for file in self.data[held].values()}
             self.assertEqual({os.path.relpath(path, ROOT) for path in paths}, found)
             for file in self.data[held].values():
@@ -198,9 +201,9 @@ SMALL = {
     "crates.txt": "# two crates\nlow_lists:\nhigh_calls: low_lists\n",
     "crates/low_lists/specs/Sums.antt": "-- what is added up\nabbrev pub total : ℕ → ℕ\ntotal n = n\n\n"
     "module _ (n : ℕ) where\n  pub total-same : total n ≡ n\n  total-same = refl\n",
-    "crates/high_calls/src/lib.rt": "ghost use Rattle·low_lists.specs.Sums.{total};\n\n"
-    "// Adds.\npub fn add(n: u16) -> u16\n    ensures { λ r. ⌜ r ≡ total n ⌝ }\n{\n    n\n}\n\n"
-    "// For C.\npub extern \"C\" fn link_survey_add(n: u16) -> u16\n    ensures { λ r. ⌜ r ≡ total n ⌝ }\n"
+    "crates/high_calls/src/lib.rt": "ghost use Rattle.low_lists.specs.Sums.{total};\n\n"
+    "// Adds.\npub fn add(n: u16) -> u16\n    ensures { result ≡ total n }\n{\n    n\n}\n\n"
+    "// For C.\npub extern \"C\" fn link_survey_add(n: u16) -> u16\n    ensures { result ≡ total n }\n"
     "{\n    add(n)\n}\n",
     "crates/high_calls/must-fail/one_more.edit": "One more.\nfile: src/lib.rt\nold:     add(n)\nnew:     add(n) + 1\n",
     "docs/PROOFS.md": "# Map\n\n## Sums\n\n| sentence | kept by |\n|---|---|\n"

@@ -21,7 +21,7 @@ def contents(path):
 
 def crates():
     """The crates that the list of crates names."""
-    return set(re.findall(r"(?m)^(\w+):", contents(os.path.join(ROOT, "crates.txt"))))
+    return set(re.findall(r"(?m)^(\w+)(?: \w+)?:", contents(os.path.join(ROOT, "crates.txt"))))
 
 
 def declared(text, name):
@@ -37,10 +37,11 @@ class Page(unittest.TestCase):
 
     def stands(self, quoted):
         """A name in a module, a crate, or a path; `blocks` alone is what the page's first lines explain."""
-        name = re.fullmatch(r"(\w+)/(\w+)\.([^\s.]+)", quoted)
+        name = re.fullmatch(r"(\w+)/((?:\w+/)?\w+)\.([^\s.]+)", quoted)
         if name and not os.path.exists(os.path.join(ROOT, quoted)):
-            path = os.path.join(ROOT, "crates", name[1], "specs", name[2] + ".antt")
-            return name[1] in crates() and os.path.exists(path) and declared(contents(path), name[3])
+            # a definition stands in specs/, a theorem there or in proofs/
+            paths = [os.path.join(ROOT, "crates", name[1], part, name[2] + ".antt") for part in ("specs", "proofs")]
+            return name[1] in crates() and any(os.path.exists(p) and declared(contents(p), name[3]) for p in paths)
         if "/" in quoted:
             return os.path.exists(os.path.join(ROOT, quoted))
         return quoted in crates() or any(q.endswith("." + quoted) for q in self.quoted if "/" in q)
@@ -61,7 +62,7 @@ class Page(unittest.TestCase):
         for section in sections:
             with self.subTest(section.split("\n")[0]):
                 last = section.strip().split("\n\n")[-1]
-                self.assertRegex(last, r"(?s)^\*.*`\w+/\w+\.[\w?-]+`.*\*$")
+                self.assertRegex(last, r"(?s)^\*.*`\w+/(?:\w+/)?\w+\.[\w?-]+`.*\*$")
 
     def test_size(self):
         lines = self.text.rstrip("\n").split("\n")

@@ -117,8 +117,8 @@ class Refused(Folder):
         test_examples.archive()
         for name in "tools", "include":
             shutil.copytree(os.path.join(ROOT, name), self.path("copy", name))
-        os.makedirs(self.path("copy", "target", "staticlib"))
-        shutil.copyfile(ARCHIVE, self.path("copy", "target", "staticlib", "libsurvey_c.a"))
+        os.makedirs(self.path("copy", "crates", "survey_c", "out"))
+        shutil.copyfile(ARCHIVE, self.path("copy", "crates", "survey_c", "out", "libsurvey_c.a"))
         with open(self.path("copy", "include", "link_survey.h"), "a", encoding="utf-8") as file:
             file.write("uint32_t link_survey_more(void);\n")
         command = [sys.executable, self.path("copy", "tools", "install"), self.path("prefix")]
@@ -131,6 +131,7 @@ class Refused(Folder):
 class Released(Folder):
     def test_release(self):
         self.lacking("rt")
+        test_examples.archive()
         done = tool("release", self.path("release"))
         self.assertEqual(done.returncode, 0, done.stderr)
         sums = dict(line.split("  ")[::-1] for line in contents(self.path("release", "SHA256SUMS")).splitlines())

@@ -2,14 +2,16 @@
 python3 tools/test_messages.py
 """
 import os
+import re
 import unittest
 from unittest import mock
 
 import judge
 import plain_text
+import options
 import survey
 from survey_text import REFUSALS, Fault, Site
-from testing import Door, contents, example, line, text_of
+from testing import ROOT, Door, contents, example, line, text_of
 
 CASE_B = [(0, 1), (1, 2), (0, 2), (2, 3)]
 
@@ -142,9 +144,18 @@ class Refusals(Door):
             self.fails(done, f"the survey refused the table with number {number}: {REFUSALS[number]}\n")
         self.fails(self.reported(contents(example("case-b.txt")), line(0x1E, 24)), "there is no refusal 24")
 
+    def test_the_answers_have_the_same_words(self):
+        """What ask_words says why, entry by entry: its definition, in which ++ joins two pieces of one entry."""
+        path = os.path.join(ROOT, "crates", "ask_words", "specs", "Refusals.antt")
+        # a crate that is not brought over yet has .txt behind its files' names (docs/PORT.md)
+        text = contents(path if os.path.exists(path) else path + ".txt").decode()
+        entries = text.split("\nwhys =\n")[1].split("\n\n")[0].split("∷")[1:-1]
+        words = ["".join(re.findall(r'characters "(.*)"', entry)) for entry in entries]
+        self.assertEqual(words, [REFUSALS[number] for number in range(1, 24)])
+
 
 class WithoutTheProgram(Door):
-    """What is told where target/bin/link_survey is not built."""
+    """What is told where crates/link_survey/out/link_survey is not built."""
 
     MARK = "!! not by the proved program, which is not built here (README.md)"
 
@@ -180,7 +191,7 @@ class WithoutTheProgram(Door):
 
     def test_a_program_that_was_named(self):
         done = self.run_door(example("case-b.txt"), "--program", self.at("other"))
-        self.fails(done, "is not there: `rt check link_survey` in ")
+        self.fails(done, "is not there: `rt run` in ")
         with mock.patch.dict(os.environ, {judge.PROGRAM_VARIABLE: self.at("other")}):
             self.fails(self.run_door(example("case-b.txt")), "is not there")
 
@@ -194,7 +205,7 @@ class Options(Door):
 
     def test_spares_before_the_site(self):
         self.fails(self.run_door("--spares", example("road.txt")), "(SITE stands before --spares)")
-        self.assertEqual(survey.command_line().parse_args(["x", "--spares"]).spares, survey.SPARES)
+        self.assertEqual(survey.command_line().parse_args(["x", "--spares"]).spares, options.SPARES)
 
 
 if __name__ == "__main__":

@@ -1,7 +1,8 @@
 """Tests of the planner's page: python3 tools/test_page.py
 
 What a tap shows is tried in Chromium without a window, from Debian's package chromium; without it these tests are
-skipped. What must be cut off is flooded here anew.
+skipped. What must be cut off is flooded here anew. What the page works out by itself, and taps on links for it, are
+tried in Node where there is no Chromium.
 """
 import glob
 import html
@@ -18,10 +19,13 @@ import unittest
 import page
 from limits import Limits
 from losses import Losses
+from page_rings import RINGS
 from proposals import proposed
 from survey_text import Site, read_site
+from testing import streams, table_taken, taken, weak_by_removal
 
 ROOT = os.path.dirname(os.path.dirname(os.path.abspath(__file__)))
+NODE = shutil.which("node")
 CHROMIUM = shutil.which("chromium") or shutil.which("chromium-browser")
 PATIENCE = 120  # seconds for one start of the browser
 
@@ -90,25 +94,34 @@ def wanted(losses):
 
 
 class Elements(html.parser.HTMLParser):
-    """The elements of a page with their attributes, and its scripts' text."""
+    """The elements of a page with their attributes, as a tree too, and its scripts' text."""
 
     def __init__(self, written):
         super().__init__()
         self.found, self.scripts, self.open = [], [], False
+        self.tree, self.within = [], [-1]
         self.feed(written)
 
     def handle_starttag(self, tag, attributes):
         self.found.append((tag, dict(attributes)))
+        whole = {name: value or "" for name, value in attributes}
+        self.tree.append({"tag": tag, "attributes": whole, "parent": self.within[-1], "text": ""})
+        if tag != "meta":
+            self.within.append(len(self.tree) - 1)
         self.open = tag == "script"
         if self.open:
             self.scripts.append("")
 
     def handle_endtag(self, tag):
         self.open = False
+        if self.within[-1] >= 0 and self.tree[self.within[-1]]["tag"] == tag:
+            self.within.pop()
 
     def handle_data(self, data):
         if self.open:
             self.scripts[-1] += data
+        if self.within[-1] >= 0:
+            self.tree[self.within[-1]]["text"] += data
 
     def with_class(self, name, attribute):
         return {int(a[attribute]) for _, a in self.found if attribute in a and name in (a.get("class") or "").split()}
@@ -191,6 +204,100 @@ class Written(unittest.TestCase):
         self.assertEqual(page.html_of(road()), page.html_of(road()))
 
 
+class Worked(unittest.TestCase):
+    """What the page works out by itself, against the answers of the proved programs check_rings and check_doubtful
+    (crates/check_*/stdout) on all vectors; by Node or, where that is not there, by Chromium."""
+
+    def worked_out(self, calls):
+        """What the page's functions give for calls, each a function's name and its arguments; marks come as lists."""
+        if not NODE and not CHROMIUM:
+            self.skipTest("no Node and no Chromium here: apt-get install nodejs")
+        body = """
+          const marked = (x) => Array.isArray(x) ? new Set(x) : x;
+          const given = (f, [units, links, ...more]) => f(units, links, ...more.map(marked));
+          const found = calls.map(([name, ...rest]) => given({ringOf, verdictOf, doubtsOf}[name], rest));"""
+        with tempfile.TemporaryDirectory(ignore_cleanup_errors=True) as folder:
+            path = os.path.join(folder, "worked")
+            if NODE:
+                end = "console.log(JSON.stringify(found));"
+                command = [NODE, path + ".js"]
+                written = f"{RINGS}\nconst calls = {json.dumps(calls)};{body}{end}"
+            else:
+                end = 'document.body.textContent = JSON.stringify(found);'
+                command = [CHROMIUM, "--headless", "--no-sandbox", "--disable-gpu", f"--user-data-dir={folder}/browser"]
+                command += ["--virtual-time-budget=60000", "--dump-dom", f"file://{path}.html"]
+                written = f"<body><script>{RINGS}\nconst calls = {json.dumps(calls)};{body}{end}</script></body>"
+            with open(path + (".js" if NODE else ".html"), "w", encoding="utf-8") as file:
+                file.write(written)
+            said = subprocess.run(command, capture_output=True, timeout=PATIENCE, check=True).stdout.decode()
+        return json.loads(said if NODE else html.unescape(re.search(r"<body>(.*)</body>", said, re.S)[1]))
+
+    def questions(self, family):
+        """The questions of each case of a family with the numbers that its program answers."""
+        files, lines = streams(family)
+        for cases, stream in files:
+            for _ in range(cases):
+                site = table_taken(stream)
+                next(stream)
+                marks = [k for k, mark in enumerate(taken(stream)) if mark] if family == "doubtful" else None
+                places = 3 if marks is None else 2
+                asked = [[next(stream) for _ in range(places)][:2] for _ in range(next(stream))]
+                yield site, marks, list(zip(asked, map(int, next(lines).split())))
+
+    def test_rings(self):
+        calls, right = [], []
+        for site, _, asked in self.questions("rings"):
+            for (i, j), number in asked:
+                if number < 2:
+                    calls.append(["ringOf", site.units, site.links, i, j])
+                    right.append((site, i, j, number))
+        self.assertGreater(len(right), 10000)
+        found = self.worked_out(calls)
+        for (site, i, j, number), units in zip(right, found):
+            self.assertEqual(bool(units), number == 1)
+            if units:
+                steps = {frozenset((units[k - 1], units[k])) for k in range(len(units))}
+                self.assertTrue(len(set(units)) == len(units) >= 3 and steps <= set(map(frozenset, site.links)))
+                self.assertTrue({frozenset(site.links[i]), frozenset(site.links[j])} <= steps)
+                self.assertEqual(set(units[:2]), set(site.links[i]))
+
+    def test_verdicts(self):
+        calls, right = [], []
+        for site, marks, asked in self.questions("doubtful"):
+            for (i, j), number in asked:
+                if number < 3:
+                    calls.append(["verdictOf", site.units, site.links, i, j, marks])
+                    right.append(("never", "perhaps", "always")[number])
+        self.assertGreater(len(right), 10000)
+        self.assertEqual(self.worked_out(calls), right)
+
+    def test_weak_places(self):
+        """Which places become weak: against every setting of the doubtful links of small sites, by removal."""
+        calls, right = [], []
+        for seed in range(40):
+            pick = random.Random(seed)
+            units = pick.randint(2, 7)
+            pairs = [(a, b) for a in range(units) for b in range(a + 1, units)]
+            links = pick.sample(pairs, min(len(pairs), pick.randint(1, units + 2)))
+            marks = pick.sample(range(len(links)), min(len(links), pick.randint(0, 4)))
+            seen = {}
+            for setting in range(2 ** len(marks)):
+                gone = {mark for k, mark in enumerate(marks) if setting >> k & 1}
+                left = [link for k, link in enumerate(links) if k not in gone]
+                weak = weak_by_removal(units, left)
+                for v in range(units):
+                    seen.setdefault(("units", v), set()).add(v in weak)
+                for link in left:
+                    seen.setdefault(("links", links.index(link)), set()).add(frozenset(link) in weak)
+            wanted = {"always": {"units": [], "links": []}, "perhaps": {"units": [], "links": []}}
+            for (kind, k), found in sorted(seen.items()):
+                if True in found:
+                    wanted["perhaps" if False in found else "always"][kind].append(k)
+            calls.append(["doubtsOf", units, links, marks])
+            right.append(wanted)
+        self.assertEqual(self.worked_out(calls), right)
+
+
 # taps everything, and writes down what each tap shows
 DRIVER = """<script>
 (async () => {
@@ -223,9 +330,8 @@ DRIVER = """<script>
 </script></body>"""
 
 
-@unittest.skipUnless(CHROMIUM, "no Chromium here: apt-get install chromium")
-class Tapped(unittest.TestCase):
-    """The page in a browser."""
+class Browser(unittest.TestCase):
+    """A page in Chromium."""
 
     def setUp(self):
         folder = tempfile.TemporaryDirectory(ignore_cleanup_errors=True)
@@ -245,12 +351,17 @@ class Tapped(unittest.TestCase):
         """The page's elements after its script ran."""
         return self.browser(written, *options, "--dump-dom", fragment=fragment)
 
-    def told_by(self, written, script, *options):
+    def told_by(self, written, script, *options, fragment=""):
         """What a script that runs in the page gives back."""
         say = 'const say = (what) => { document.getElementById("told").textContent = JSON.stringify(what); };'
         body = f'<pre id="told"></pre><script>(async () => {{ {say} {script} }})();</script></body>'
-        dom = self.opened(written.replace("</body>", body), "", *options)
+        dom = self.opened(written.replace("</body>", body), fragment, *options)
         return json.loads(html.unescape(re.search(r'<pre id="told">(.*?)</pre>', dom, re.S)[1]))
+
+
+@unittest.skipUnless(CHROMIUM, "no Chromium here: apt-get install chromium")
+class Tapped(Browser):
+    """What losses show."""
 
     def test_legible_on_a_phone(self):
         """60 units with names on a screen 390 wide: digits are as high as in small print, and what is wider scrolls."""
@@ -373,6 +484,93 @@ class Tapped(unittest.TestCase):
     def test_a_path_of_256(self):
         losses = stored("path_256")
         self.tapped(losses, [f"u{v}" for v in range(0, 256, 16)] + ["l0", "l128", "l254"])
+
+
+PRESS = """
+          const press = async (e) => {
+            const changed = new Promise((done) => window.addEventListener("hashchange", done, {once: true}));
+            e.dispatchEvent(new MouseEvent("click", {bubbles: true}));
+            await changed;
+          };
+          const link = (j) => document.querySelector("#whole [data-link='" + j + "'] .hit");
+"""
+
+
+class Asked(Browser):
+    """Rings and doubtful links by tap: in Chromium, or where that is not there in Node, with the page's elements as
+    this test reads them."""
+
+    def shown_by(self, written, script, fragment=""):
+        """What a script that runs in the page gives back."""
+        if CHROMIUM:
+            return self.told_by(written, script, fragment=fragment)
+        if not NODE:
+            self.skipTest("no Chromium and no Node here: apt-get install chromium")
+        parsed = Elements(written)
+        path = os.path.join(self.folder, "page.json")
+        with open(path, "w", encoding="utf-8") as file:
+            page_script = parsed.scripts[-1]
+            json.dump({"elements": parsed.tree, "script": page_script, "hash": fragment, "then": script}, file)
+        command = [NODE, os.path.join(ROOT, "tools", "page_in_node.js"), path]
+        return json.loads(subprocess.run(command, capture_output=True, timeout=PATIENCE, check=True).stdout)
+
+    def test_rings_by_tap(self):
+        """Two links tapped, one after the other: the ring that holds both, or none."""
+        losses = stored("case_b")
+        script = """
+          await press(document.querySelector("[data-mode-of='ring']"));
+          const found = [];
+          for (const [i, j] of [[0, 1], [2, 2], [0, 3], [3, 3]]) {
+            await press(link(i));
+            await press(link(j));
+            found.push([document.body.getAttribute("data-ring"), document.getElementById("said").textContent,
+                        Array.from(document.querySelectorAll("#whole .onring[data-link]"),
+                                   (e) => Number(e.getAttribute("data-link"))).sort()]);
+          }
+          await press(document.querySelector("[data-mode-of='loss']"));
+          say({found: found, left: document.querySelectorAll(".onring, .picked").length,
+               hash: location.hash, said: document.getElementById("said").textContent});"""
+        told = self.shown_by(page.html_of(losses), PRESS + script)
+        rings = [{int(v) for v in ring.split()} for ring, _, _ in told["found"]]
+        self.assertEqual(rings, [{0, 1, 2}, {0, 1, 2}, set(), set()])
+        self.assertEqual([links for _, _, links in told["found"]], [[0, 1, 2], [0, 1, 2], [], []])
+        self.assertEqual(told["found"][2][1], "No ring holds link 0 (0-1) and link 3 (2-3).")
+        self.assertEqual(told["found"][3][1], "No ring holds link 3 (2-3).")
+        self.assertEqual((told["left"], told["said"]), (0, page.FIRST))
+
+    def test_doubtful_links_by_tap(self):
+        losses = stored("case_b")
+        script = """
+          const state = () => [document.body.getAttribute("data-perhaps"), location.hash,
+            document.querySelectorAll("#whole .doubted").length, document.querySelectorAll("#whole .perhaps").length];
+          await press(document.querySelector("[data-mode-of='doubtful']"));
+          await press(link(1));
+          const one = state(), words = document.getElementById("said").textContent;
+          await press(link(0));
+          const two = state();
+          await press(link(1));
+          await press(link(0));
+          say({one: one, words: words, two: two, none: state()});"""
+        told = self.shown_by(page.html_of(losses), PRESS + script)
+        self.assertEqual([json.loads(told["one"][0]), *told["one"][1:]],
+                         [{"units": [0], "links": [0, 2]}, "#doubtful=1", 1, 3])
+        self.assertEqual(
+            told["words"],
+            "Doubtful: link 1 (1-2). Weak whatever is gone: unit 2; link 2-3. "
+            "Weak where some are gone: unit 0; links 0-1, 0-2.",
+        )
+        self.assertEqual(told["two"][1:3], ["#doubtful=1,0", 2])
+        self.assertEqual([json.loads(told["none"][0]), *told["none"][1:]],
+                         [{"units": [], "links": []}, "#doubtful=", 0, 0])
+
+    def test_by_address(self):
+        script = """
+          const on = (of) => Array.from(document.querySelectorAll("#whole .onring[" + of + "]"),
+                                        (e) => Number(e.getAttribute(of))).sort();
+          say([on("data-unit"), on("data-link")]);"""
+        self.assertEqual(self.shown_by(page.html_of(stored("case_b")), script, "#ring=0,2"), [[0, 1, 2], [0, 1, 2]])
+        self.assertEqual(self.shown_by(page.html_of(stored("case_b")), script, "#ring=0,3"), [[], []])
+        self.assertEqual(self.shown_by(page.html_of(stored("case_b")), script, "#ring=99"), [[], []])
 
 
 if __name__ == "__main__":

@@ -296,7 +296,7 @@ class AtTheDoor(Door):
             self.assertNotIn("could cure all: 0", said)
         self.assertIn("no unit hears another yet", self.spares(text_of(3, [])))
 
-    @unittest.skipUnless(os.path.exists(PROGRAM), "target/bin/link_survey is not built (rt check link_survey)")
+    @unittest.skipUnless(os.path.exists(PROGRAM), "the program link_survey is not built (rt run in its folder)")
     def test_by_the_program(self):
         code, said, told = self.run_door(example("road.txt"), "--spares", "2", "--program", PROGRAM)
         self.assertEqual((code, told), (1, ""))
@@ -304,7 +304,7 @@ class AtTheDoor(Door):
         self.assertIn("  surveyed again: no weak place left\n", said)
         self.assertNotIn("not by the proved program", said)
 
-    @unittest.skipUnless(os.path.exists(PROGRAM), "target/bin/link_survey is not built (rt check link_survey)")
+    @unittest.skipUnless(os.path.exists(PROGRAM), "the program link_survey is not built (rt run in its folder)")
     def test_the_largest_sites_by_the_program(self):
         for name, links in large_sites():
             if name not in ("star", "tree", "town"):
@@ -313,7 +313,7 @@ class AtTheDoor(Door):
             code, said, told = self.run_door(self.at("site.txt", text_of(256, links)), "--spares", "--program", PROGRAM)
             self.assertEqual((code, told), (1, ""))
             self.assertIn("surveyed again: no weak place left", " ".join(said.split()))
-            self.assertLess(time.process_time() - begun, 2, name)
+            self.assertLess(time.process_time() - begun, 10, name)
 
     def test_a_program_that_contradicts(self):
         """A report of the proposed table that the links do not bear out is no proposal."""

@@ -23,7 +23,7 @@ def held(path):
 
 def files(root=ROOT):
     for folder, inner, names in os.walk(root):
-        inner[:] = [name for name in inner if name not in (".git", "target", "__pycache__", "data")]
+        inner[:] = [name for name in inner if name not in (".git", "target", "__pycache__", "data", "out")]
         for name in names:
             if held(os.path.join(folder, name)):
                 yield os.path.join(folder, name)

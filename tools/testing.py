@@ -13,6 +13,7 @@ from unittest import mock
 
 import judge
 import survey
+from survey_text import Site
 
 HERE = os.path.dirname(os.path.abspath(__file__))
 ROOT = os.path.dirname(HERE)
@@ -20,7 +21,7 @@ DATA = os.path.join(ROOT, "crates", "check_vectors", "data")
 VECTORS = os.environ.get("LINK_SURVEY_VECTORS", DATA)
 LEVELS = os.path.join(ROOT, "evidence", "tests", "levels", "program")
 REWRITE = os.path.join(ROOT, "evidence", "tests", "levels", "rewrite")
-PROGRAM = os.path.join(ROOT, "target", "bin", "link_survey")
+PROGRAM = os.path.join(ROOT, "crates", "link_survey", "out", "link_survey")
 DOOR = os.path.join(HERE, "survey.py")
 
 
@@ -64,6 +65,18 @@ def text_of(units, links, names=()):
     ).encode()
 
 
+def report_of(report):
+    """The lines of a report."""
+    out = line(0x11, *divmod(report.rounds, 256), *divmod(report.requests, 256))
+    for v, unit in enumerate(report.units):
+        numbers = v, unit.color, unit.parent, unit.place
+        out += line(0x12, *(byte for number in numbers for byte in divmod(number, 256)), int(unit.single))
+    for j, link in enumerate(report.links):
+        out += line(0x13, *divmod(j, 256), *divmod(link.label, 256), int(link.lone))
+    marked = sum(unit.single for unit in report.units), sum(link.lone for link in report.links)
+    return out + line(0x1F, *divmod(marked[0], 256), *divmod(marked[1], 256))
+
+
 def changed(report, line, at, byte):
     """A report with one byte of a line replaced and the check byte put right."""
     lines = report.split(b"\n")
@@ -72,6 +85,28 @@ def changed(report, line, at, byte):
     frame[-1] = -sum(frame[:-1]) % 256
     lines[line] = frame.hex().upper().encode()
     return b"\n".join(lines)
+
+
+def streams(family):
+    """The streams of numbers that a check program of the gate reads, file after file, each with the number of its
+    cases taken off, and the lines that it must print (from an independent model)."""
+    folder = os.path.join(ROOT, "crates", f"check_{family}")
+    numbers = []
+    for name in contents(os.path.join(folder, "args")).decode().split():
+        stream = iter([int(word) for word in contents(os.path.join(folder, "data", name)).split()])
+        numbers.append((next(stream), stream))
+    return numbers, iter(contents(os.path.join(folder, "stdout")).decode().splitlines())
+
+
+def taken(stream):
+    """A list of a stream: its length, then its numbers."""
+    return [next(stream) for _ in range(next(stream))]
+
+
+def table_taken(stream):
+    """The table of a stream."""
+    units, ends = next(stream), taken(stream)
+    return Site(units, list(zip(ends[::2], ends[1::2])), taken(stream))
 
 
 def components(units, links, without=None):
@@ -132,7 +167,8 @@ class Door(unittest.TestCase):
 
     def said_of(self, units, links, names=(), *arguments):
         """The exit status and the words of a table, whose report is not looked at."""
-        with mock.patch.object(judge, "contradictions", lambda losses, report: []):
+        unjudged = {"contradictions": lambda losses, report: [], "along": lambda losses, report: (judge.OWN, [])}
+        with mock.patch.multiple(judge, **unjudged):
             rows = [line(0x12, 0, v, 0, 0, 0, 0, 0, 0, 0) for v in range(units)] + [
                 line(0x13, *divmod(j, 256), 0, 0, 0) for j in range(len(links))
             ]

@@ -35,11 +35,23 @@ def place_name(place, names):
     """unit 2 (gate) is a single point, or link 3 (2-3: gate, unit 3) is lone"""
     if place.ends is None:
         return f"unit {named(place.number, names)} is a single point"
-    a, b = place.ends
-    ends = f"{a}-{b}"
+    return f"{link_name(place.number, place.ends, names)} is lone"
+
+
+def link_name(position, ends, names):
+    """link 3 (2-3: gate, unit 3)"""
+    a, b = ends
+    said = f"{a}-{b}"
     if a in names or b in names:
-        ends += ": " + ", ".join(names.get(v, f"unit {v}") for v in (a, b))
-    return f"link {place.number} ({ends}) is lone"
+        said += ": " + ", ".join(names.get(v, f"unit {v}") for v in (a, b))
+    return f"link {position} ({said})"
+
+
+def listed_links(positions, site, names):
+    """link 3 (2-3), link 4 (3-4: gate, unit 4); past a few, by their units alone"""
+    if len(positions) <= ALTERED:
+        return ", ".join(link_name(j, site.links[j], names) for j in positions)
+    return links_of(["{}-{}".format(*site.links[j]) for j in positions])
 
 
 def links_of(links):
@@ -198,9 +210,9 @@ def held_names(names):
     return {v: name.replace(" ", HELD) for v, name in (names or {}).items()}
 
 
-def words(losses, report, names=None, full=False, before=None, names_before=None):
+def words(losses, report, names=None, full=False, before=None, names_before=None, tree=""):
     """The lines of the list; `before` has the losses of an earlier table of the site, `report` is None where the proved
-    program was not run."""
+    program was not run; `tree` tells which tree the survey went along where it is not its own."""
     names, names_before = held_names(names), held_names(names_before)
     if report is None:
         yield UNPROVED
@@ -212,6 +224,7 @@ def words(losses, report, names=None, full=False, before=None, names_before=None
         yield from compared(losses, names, before, names_before, full)
     yield from backed(losses, names, full)
     if report is not None:
-        yield f"the survey took {counted(report.rounds, 'round')} and {counted(report.requests, 'ranking request')}"
+        took = f"{counted(report.rounds, 'round')} and {counted(report.requests, 'ranking request')}"
+        yield f"the survey took {took}{f', along {tree}' if tree else ''}"
     units, groups = counted(losses.site.units, "unit"), counted(len(losses.groups), "group")
     yield f"by parts, for the planner: {summed(losses.touched())}, the {units} less {groups}"

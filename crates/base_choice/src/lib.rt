@@ -1,4 +1,6 @@
 // Choices of values: inside a loop they stand for branches, so that what a turn does is one equation.
+#![tactic(auto)]
+
 ghost use Rattle.std.specs.Prelude.{◌≡◌, cond, ◌&&◌, ◌||◌, ◌+◌, ◌-◌, ◌≤◌, min, max};
 
 // `x` where the test holds, else `y`.

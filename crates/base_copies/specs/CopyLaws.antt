@@ -1,11 +1,13 @@
 -- Words carried one by one, and what is copied or laid where all of it is there.
-use Rattle.std.specs.Prelude.{◌≡◌, true, false, List, ◌++◌, ℕ, ◌+◌, ◌-◌, ◌≤◌, ◌<◌, ℤ, pos, get_or, set, take, drop, replicate, leb}
+use Rattle.std.specs.Prelude.{◌≡◌, true, false, List, ◌++◌, ℕ, ◌+◌, ◌-◌, ◌≤◌, ◌<◌, ℤ, pos, get_or, set, drop, replicate}
+use Rattle.std.specs.Prelude.{leb}
 use Rattle.std.proofs.Math.Path.{refl}
 use Rattle.std.proofs.Common.{sym, ap, ◌∙◌, append-nil, zero-add, add-one, arith, leb-true, le-leb}
 use Rattle.std.proofs.Math.Decide.{dec_le}
 use Rattle.std.proofs.Math.ListN.{length, length-drop}
 use Rattle.std.proofs.lemmas.List.{length-replicate}
-use Rattle.std.proofs.Math.Seq.{length-take-le, get_or-take, get_or-drop, paste, paste-zero, paste-suc, take-length, drop-length}
+use Rattle.std.proofs.Math.Seq.{length-take-le, get_or-take, get_or-drop, paste, paste-zero, paste-suc, take-length}
+use Rattle.std.proofs.Math.Seq.{drop-length}
 use Rattle.std.proofs.lemmas.Bool.{lt-leb}
 use Rattle.table_levels.specs.Level.{from_words}
 use Rattle.base_copies.specs.Parts.{part, laid, laid_in, copied, copied_levels, PartOr, LevelsOr}

@@ -1,5 +1,6 @@
 -- Words copied out one by one as levels.
-use Rattle.std.specs.Prelude.{◌≡◌, refl, List, [], ◌∷◌, ◌++◌, ℕ, zero, suc, ◌+◌, ◌≤◌, ◌<◌, ℤ, pos, length, get_or, set, take, drop}
+use Rattle.std.specs.Prelude.{◌≡◌, refl, List, [], ◌∷◌, ◌++◌, ℕ, zero, suc, ◌+◌, ◌≤◌, ◌<◌, ℤ, pos, length, get_or, set}
+use Rattle.std.specs.Prelude.{take, drop}
 use Rattle.std.proofs.Common.{ap, ◌∙◌, append-nil, add-one, arith, length-drop, length-take-le, take-suc, get_or-drop}
 use Rattle.std.proofs.Math.Decide.{dec_lt}
 use Rattle.std.specs.Int.Signed.{mag}
@@ -40,7 +41,8 @@ pub levels-next : (ws : List ℕ) (to : List ℤ) (at i : ℕ) → i < length to
 unfolding part
 levels-next ws to at i h l =
     let rest : i < length (drop at ws) = omega (arith, length-drop at ws) in
-    put_one (from_words (take i (drop at ws))) to i (word_level (get_or ws (at + i) 0)) (length_from (take i (drop at ws))
+    put_one (from_words (take i (drop at ws))) to i (word_level (get_or ws (at + i) 0))
+    (length_from (take i (drop at ws))
     ∙ length-take-le i (drop at ws) (omega arith)) h
     ∙ rw (
       add-one i,

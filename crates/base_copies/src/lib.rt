@@ -1,4 +1,6 @@
 // Tables copied out of words and laid over them, whole or not at all.
+#![tactic(auto)]
+
 ghost use Rattle.std.specs.Prelude.{◌≡◌, ℕ, ◌+◌, ◌≤◌, min, leb, length, get_or, replicate};
 ghost use Rattle.base_lists.specs.Tables.{over};
 ghost use Rattle.table_levels.specs.Level.{to_words, from_words};

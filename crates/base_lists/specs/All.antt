@@ -1,5 +1,6 @@
 -- A property of every entry of a list: the words for the test `every`, and how tables keep it.
-use Rattle.std.specs.Prelude.{◌≡◌, refl, Bool, true, false, cond, ◌&&◌, ◌↔◌, List, [], ◌∷◌, ◌++◌, ℕ, zero, suc, ◌<◌, length, get_or, drop, replicate}
+use Rattle.std.specs.Prelude.{◌≡◌, refl, Bool, true, false, cond, ◌&&◌, ◌↔◌, List, [], ◌∷◌, ◌++◌, ℕ, zero, suc, ◌<◌}
+use Rattle.std.specs.Prelude.{length, get_or, drop, replicate}
 use Rattle.std.proofs.Common.{sym, zero-le, suc-le-suc, le_of_suc-le-suc, not-suc-le-zero}
 use Rattle.std.proofs.Math.Bool.{and_assoc}
 use Rattle.base_lists.specs.Folds.{every}

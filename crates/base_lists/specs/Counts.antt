@@ -1,6 +1,6 @@
 -- Laws of counts: order, what a count of none, of some and of one says, and one number more at a time.
 use Rattle.std.specs.Prelude.{◌≡◌, refl, Bool, true, false, cond, ◌↔◌, ◌⊎◌, ◌≢◌, ℕ, zero, suc, ◌+◌, ◌≤◌, ◌<◌}
-use Rattle.std.proofs.Common.{inl, inr, le_refl, le_antisymm, not-suc-le-zero, add-one, arith}
+use Rattle.std.proofs.Common.{inl, inr, le_refl, not-suc-le-zero, add-one, arith}
 use Rattle.std.proofs.Math.Nat.{le_step}
 use Rattle.std.proofs.Math.Decide.{dec_lt, ℕ_discrete}
 use Rattle.base_lists.specs.Below.{below_suc}

@@ -1,5 +1,5 @@
 -- Pieces one after the other; where they have one length, their total length and each piece at its place.
-use Rattle.std.specs.Prelude.{◌≡◌, refl, List, [], ◌++◌, ℕ, zero, suc, ◌+◌, ◌*◌, ◌<◌, length, take, drop}
+use Rattle.std.specs.Prelude.{◌≡◌, refl, List, [], ◌++◌, ℕ, zero, suc, ◌*◌, ◌<◌, length, take, drop}
 use Rattle.std.proofs.Common.{◌∙◌, append_assoc, le_refl, not-suc-le-zero, arith, length-append, take_at, drop_at}
 use Rattle.std.proofs.Math.Nat.{le_step}
 use Rattle.base_lists.specs.Below.{below_suc}

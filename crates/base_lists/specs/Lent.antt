@@ -1,7 +1,8 @@
 -- A slice whose rest from a place on is lent to a call, `&xs[at..]` or `&mut xs[at..]`: what the call is lent, and the
 -- whole after it.
 use Rattle.std.specs.Prelude.{◌≡◌, List, ◌++◌, ℕ, ◌+◌, ◌-◌, length, take, drop}
-use Rattle.std.proofs.Common.{sym, append_assoc, append-nil, arith, length-drop, drop_of_length-le, take_all, take_at, drop_at, drop-drop}
+use Rattle.std.proofs.Common.{sym, append_assoc, append-nil, arith, length-drop, drop_of_length-le, take_all, take_at}
+use Rattle.std.proofs.Common.{drop_at, drop-drop}
 
 module _ {ℓ} {A : Type ℓ} where
   -- what is lent

@@ -1,6 +1,7 @@
 -- Multiples of a width, and of widths that double.
 use Rattle.std.specs.Prelude.{◌≡◌, ◌⊎◌, ℕ, zero, suc, ◌+◌, ◌*◌, ◌-◌, ◌/◌, ◌%◌, ◌≤◌, ◌<◌, ◌^◌}
-use Rattle.std.proofs.Common.{sym, ◌∙◌, inl, inr, zero-mul, suc-mul, add-mul, mul-add, mul-one, mul-le-mul_right, div-add-mod', arith}
+use Rattle.std.proofs.Common.{sym, ◌∙◌, inl, inr, zero-mul, suc-mul, add-mul, mul-add, mul-one, mul-le-mul_right}
+use Rattle.std.proofs.Common.{div-add-mod', arith}
 use Rattle.std.proofs.Math.Nat.{mul-mod_left}
 use Rattle.std.proofs.Math.Decide.{dec_lt}
 

@@ -1,5 +1,6 @@
 -- Tables made by scattering: an item at a time takes its value to its target's entry. `op` is min or max.
-use Rattle.std.specs.Prelude.{◌≡◌, refl, Bool, true, false, cond, ◌⊎◌, List, ℕ, zero, suc, ◌≤◌, ◌<◌, min, max, ltb, eqb, get_or, set}
+use Rattle.std.specs.Prelude.{◌≡◌, refl, Bool, true, false, cond, ◌⊎◌, List, ℕ, zero, suc, ◌≤◌, ◌<◌, min, max, ltb, eqb}
+use Rattle.std.specs.Prelude.{get_or, set}
 use Rattle.std.proofs.Math.Path.{sym}
 use Rattle.std.proofs.Common.{◌∙◌, inl, inr, arith, length-set, get_or-set_same, get_or-set_other}
 use Rattle.std.proofs.Math.Decide.{ℕ_discrete}
@@ -64,7 +65,8 @@ module _ (op : ℕ → ℕ → ℕ) (n : ℕ) (f : ℕ → ℕ) (old : List ℕ)
         ne_eqb a i e,
       )
 
-  put_past : (i : ℕ) → a < n → n ≤ i → get_or (set (over n f old) a (op (get_or (over n f old) a 0) x)) i 0 ≡ get_or old i 0
+  put_past : (i : ℕ) → a < n → n ≤ i → get_or (set (over n f old) a (op (get_or (over n f old) a 0) x)) i 0
+      ≡ get_or old i 0
   put_past i h l =
       let ne : i ≡ a → ⊥ = λ q. (omega arith) in
       get_or-set_other (over n f old) a i (op (get_or (over n f old) a 0) x) 0 ne ∙ get_d_over_past n f old i 0 l

@@ -49,7 +49,8 @@ module _ {ℓ} {A : Type ℓ} where
   get_d_over_past zero f old i d h = refl
   get_d_over_past (suc n) f [] i d h = refl
   get_d_over_past (suc n) f (x ∷ old) zero d h = absurd (not-suc-le-zero h)
-  get_d_over_past (suc n) f (x ∷ old) (suc i) d h = get_d_over_past n (λ (k : ℕ). f (suc k)) old i d (le_of_suc-le-suc h)
+  get_d_over_past (suc n) f (x ∷ old) (suc i) d h =
+      get_d_over_past n (λ (k : ℕ). f (suc k)) old i d (le_of_suc-le-suc h)
 
   -- one entry more, as a loop stores it
   pub set-over : (n : ℕ) (f : ℕ → A) (old : List A) → set (over n f old) n (f n) ≡ over (suc n) f old

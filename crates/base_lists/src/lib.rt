@@ -1,1 +1,3 @@
 // Laws on lists and tables: specs only.
+
+#![tactic(auto)]

@@ -1,6 +1,7 @@
 -- lg is the least k with x ≤ 2 ^ k: the power reaches x, and no lesser one does.
 use Rattle.std.specs.Prelude.{◌≡◌, refl, Bool, true, false, cond, ℕ, zero, suc, ◌+◌, ◌-◌, ◌≤◌, ◌<◌, ◌^◌, leb}
-use Rattle.std.proofs.Common.{◌∙◌, le_antisymm, add-zero, zero-add, suc-add, add-suc, arith, pow_pos, pow_mono, leb-true, leb-false}
+use Rattle.std.proofs.Common.{◌∙◌, le_antisymm, add-zero, zero-add, suc-add, add-suc, arith, pow_pos, pow_mono}
+use Rattle.std.proofs.Common.{leb-true, leb-false}
 use Rattle.std.proofs.Math.Decide.{dec_lt}
 use Rattle.std.specs.Int.Count.{count_leading_zeros}
 use Rattle.std.proofs.lemmas.Nat.{leading_top}

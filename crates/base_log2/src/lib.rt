@@ -1,4 +1,6 @@
 // lg, the number of doublings that reach a number.
+#![tactic(auto)]
+
 ghost use Rattle.std.specs.Prelude.{◌≡◌};
 ghost use Rattle.base_log2.specs.Lg.{lg};
 

@@ -1,5 +1,7 @@
 // Reads and stores that are right for every index: past the end a read gives 0 and a store does nothing (document 01: a
 // value read at a missing place is 0). They leave no index for a caller to prove.
+#![tactic(auto)]
+
 ghost use Rattle.std.specs.Prelude.{◌≡◌, get_or, set};
 
 // The word at `i`, 0 past the end.

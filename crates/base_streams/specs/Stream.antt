@@ -1,6 +1,7 @@
 -- A stream of numbers: bytes, base ten, one space or one line feed after a number (or the stream's end), `-` before a
 -- negative one.
-use Rattle.std.specs.Prelude.{Bool, true, false, cond, not, ◌&&◌, ◌||◌, List, [], ◌∷◌, ℕ, zero, suc, ◌+◌, ◌*◌, ◌-◌, eqb, leb, ltb, length, get_or, drop, ℤ, pos, negsuc}
+use Rattle.std.specs.Prelude.{Bool, true, false, cond, not, ◌&&◌, ◌||◌, List, [], ◌∷◌, ℕ, zero, suc, ◌+◌, ◌*◌, ◌-◌, eqb}
+use Rattle.std.specs.Prelude.{leb, ltb, length, get_or, drop, ℤ, pos, negsuc}
 use Rattle.base_streams.specs.declared.Cursor.{Cursor}
 use Rattle.base_streams.specs.declared.Number.{Number}
 use Rattle.base_streams.specs.declared.Level.{Level}

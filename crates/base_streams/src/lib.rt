@@ -1,6 +1,8 @@
 // Streams of numbers as tests read them: base ten, one space or one line feed after a number, `-` before one that is
 // negative. A cursor goes by value through a lent slice of bytes. One that met a fault stays faulty and gives 0, so
 // that a reader need ask only at the end.
+#![tactic(auto)]
+
 ghost use Rattle.std.specs.Prelude.{◌≡◌};
 ghost use Rattle.base_streams.specs.Stream.{begun, ended_at, number_at, part_at, level_at};
 
@@ -10,21 +12,21 @@ pub mod series;
 pub mod text;
 
 // Where the next number begins, and whether a fault was met.
-#[derive(Drop)]
+#[derive(Clone, Copy)]
 pub struct Cursor {
     pub at: usize,
     pub fault: bool,
 }
 
 // A number, and the cursor after it.
-#[derive(Drop)]
+#[derive(Clone, Copy)]
 pub struct Number {
     pub value: u32,
     pub cursor: Cursor,
 }
 
 // A level, and the cursor after it.
-#[derive(Drop)]
+#[derive(Clone, Copy)]
 pub struct Level {
     pub value: i16,
     pub cursor: Cursor,

@@ -9,7 +9,7 @@ ghost use Rattle.base_streams.specs.Listed.{words_at, levels_at};
 use super::{Cursor, series};
 
 // How many numbers there are, and the cursor after them.
-#[derive(Drop)]
+#[derive(Clone, Copy)]
 pub struct Listed {
     pub count: usize,
     pub cursor: Cursor,

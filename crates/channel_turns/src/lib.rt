@@ -1,10 +1,12 @@
 // Whose turn it is among eight seats (T-12).
+#![tactic(auto)]
+
 ghost use Rattle.std.specs.Prelude.{◌≡◌, false, ℕ, get_or};
 ghost use Rattle.spec_channel.specs.Turns.{picked};
 
 // The seat last served.
 #[repr(C)]
-#[derive(Drop)]
+#[derive(Clone, Copy)]
 pub struct Turn {
     pub last: u16,
 }

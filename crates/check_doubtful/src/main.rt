@@ -1,7 +1,10 @@
 // Asks about doubtful links (T-08). For each case of each stream named as an argument it prints a line with a number
 // for each question: 2 always, 1 perhaps, 0 never, or a refusal. It prints `fault` for a malformed stream.
+#![tactic(auto)]
+
 use base_streams::{Cursor, listed, text};
-use libc::STDOUT_FILENO;
+use std::io;
+use std::rt::{Env, Files};
 use survey::Survey;
 use value_doubtful::Verdict;
 
@@ -13,17 +16,17 @@ struct Site {
 }
 
 // What is printed for a question, and the cursor after it.
-#[derive(Drop)]
+#[derive(Clone, Copy)]
 struct Said {
     number: u32,
     cursor: Cursor,
 }
 
-fn say(line: &[u8], end: usize) {
+fn say(rt: &impl Print, line: &[u8], end: usize) -> io::Result<()> {
     if line.len() < end {
-        return;
+        return Ok(());
     }
-    io::write_all(STDOUT_FILENO, &line[..end]);
+    base_io::write_all(rt, &line[..end])
 }
 
 // The number to be printed for a reply.
@@ -105,6 +108,7 @@ fn question<'a>(
 
 // The line of all questions.
 fn questions<'a>(
+    rt: &impl Print,
     stream: &'a [u8],
     cursor: Cursor,
     count: u32,
@@ -112,20 +116,18 @@ fn questions<'a>(
     marks: &'a [u8],
     marked: usize,
     line: &mut [u8],
-) -> Cursor {
+) -> io::Result<Cursor> {
     let mut end: usize = 0;
     let mut c = cursor;
-    let mut i: u32 = 0;
-    while i < count {
+    for i in 0..count {
         let said = question(stream, c, survey, marks, marked);
         end = put_number(i, said.number, end, line);
         let after = said.cursor;
         c = after;
-        i += 1;
     }
     end = text::byte(10, end, line);
-    say(line, end);
-    c
+    say(rt, line, end)?;
+    Ok(c)
 }
 
 // The first part of a case: the unit count, the list of words, the list of levels, the budget.
@@ -150,23 +152,22 @@ fn survey_of(stream: &[u8], cursor: Cursor) -> Site {
 
 // Each word's low eight bits.
 fn low_bytes(words: &[u16], bytes: &mut [u8]) {
-    let mut i = 0;
-    while i < words.len() {
+    for i in 0..words.len() {
         base_slices::put_byte(bytes, i, (words[i] % 256) as u8);
-        i += 1;
     }
 }
 
 // A case: the survey, the list of marks, the questions.
-fn case(stream: &[u8], cursor: Cursor) -> Cursor {
+fn case(rt: &impl Print, stream: &[u8], cursor: Cursor) -> io::Result<Cursor> {
     let site = survey_of(stream, cursor);
     let mut words = [0u16; 2048];
     let marked = listed::words(stream, site.cursor, &mut words);
     let mut marks = [0u8; 2048];
     low_bytes(&words, &mut marks);
     let total = base_streams::next_number(stream, marked.cursor);
-    let mut line = io::buffer();
+    let mut line = base_io::buffer();
     questions(
+        rt,
         stream,
         total.cursor,
         total.value,
@@ -178,41 +179,37 @@ fn case(stream: &[u8], cursor: Cursor) -> Cursor {
 }
 
 // Every case of a stream, which begins with how many there are.
-fn cases(stream: &[u8]) {
+fn cases(rt: &impl Print, stream: &[u8]) -> io::Result<()> {
     let count = base_streams::next_number(stream, base_streams::begin());
     let total = count.value;
     let first = count.cursor;
     let mut c = first;
-    let mut i: u32 = 0;
-    while i < total {
-        c = case(stream, c);
-        i += 1;
+    for _ in 0..total {
+        c = case(rt, stream, c)?;
     }
     if !base_streams::ended(stream, c) {
-        io::write_all(STDOUT_FILENO, b"fault\n");
+        base_io::write_all(rt, b"fault\n")?;
     }
+    Ok(())
 }
 
 // The file of argument `i`.
-fn one(i: usize) {
-    let mut name = io::buffer();
-    let length = os::arg(i, &mut name);
-    let fd = os::open_read(&name[..length]);
-    if fd < 0 {
-        os::fail(&name[..length]);
-        return;
-    }
-    let mut input = io::large_buffer();
-    let got = io::read_full(fd, &mut input);
-    libc::close(fd);
-    cases(&input[..got]);
+fn one(rt: &(impl Env + Eprint + Files + Print), i: usize) -> io::Result<()> {
+    let mut name = base_io::buffer();
+    let length = base_io::arg(rt, i, &mut name);
+    let mut file = match base_io::open_read(rt, &name[..length]) {
+        Ok(file) => file,
+        Err(error) => return base_io::fail(rt, &name[..length], &error),
+    };
+    let mut input = base_io::large_buffer();
+    let got = base_io::read_full(&mut file, &mut input)?;
+    cases(rt, &input[..got])
 }
 
-fn main() {
-    let count = os::arg_count();
-    let mut i = 1;
-    while i < count {
-        one(i);
-        i += 1;
+fn main(rt: HostRuntime) -> io::Result<()> {
+    let count = base_io::arg_count(&rt);
+    for i in 1..count {
+        one(&rt, i)?;
     }
+    Ok(())
 }

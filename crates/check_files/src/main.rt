@@ -1,21 +1,20 @@
 // Reads each file that an argument names and writes it back, and does the same with what was written: a line with its
 // name, and the number of a refusal, or "same" where what was written is the file, with link lines of kind 03 for those
 // of kind 02, and every byte of it came back.
+#![tactic(auto)]
+
 ghost use Rattle.std.specs.Prelude.{◌≤◌};
 
 use file_spec::Writing;
-use libc::STDOUT_FILENO;
+use std::io;
+use std::rt::{Env, Files};
 
 // 0 where the first so many bytes are the file, else 255.
 fn compared(copy: &[u8], end: usize, file: &[u8]) -> u8 {
     if copy.len() < end {
         return 255;
     }
-    if check::same(&copy[..end], file) {
-        0
-    } else {
-        255
-    }
+    if &copy[..end] == file { 0 } else { 255 }
 }
 
 // The number of a refusal; 0 where a written file came back as it was, 255 where it did not.
@@ -57,12 +56,10 @@ fn first(file: &[u8], copy: &[u8], end: usize) -> u8 {
 fn agree(file: &[u8], i: usize, copy: &[u8], j: usize, count: usize) -> bool
     requires { (i ≤ 65540) × (j ≤ 131080) × (count ≤ 20) }
 {
-    let mut k: usize = 0;
-    while k < count {
+    for k in 0..count {
         if base_slices::byte(file, i + k) != base_slices::byte(copy, j + k) {
             return false;
         }
-        k += 1;
     }
     true
 }
@@ -131,37 +128,34 @@ fn limited(file: &[u8]) -> u8 {
     if 65535 < file.len() { 1 } else { verdict(file) }
 }
 
-fn say(name: &[u8], number: u8) {
-    io::write_all(STDOUT_FILENO, name);
-    io::write_all(STDOUT_FILENO, b" ");
+fn say(rt: &impl Print, name: &[u8], number: u8) -> io::Result<()> {
+    base_io::write_all(rt, name)?;
+    base_io::write_all(rt, b" ")?;
     if number == 0 {
-        io::write_all(STDOUT_FILENO, b"same");
+        base_io::write_all(rt, b"same")?;
     } else {
-        io::print_decimal(STDOUT_FILENO, number as u64);
+        base_io::print_decimal(rt, number as u64)?;
     }
-    io::write_all(STDOUT_FILENO, b"\n");
+    base_io::write_all(rt, b"\n")
 }
 
 // The file of argument `i`.
-fn one(i: usize) {
-    let mut name = io::buffer();
-    let length = os::arg(i, &mut name);
-    let fd = os::open_read(&name[..length]);
-    if fd < 0 {
-        os::fail(&name[..length]);
-        return;
-    }
-    let mut input = io::large_buffer();
-    let got = io::read_full(fd, &mut input);
-    libc::close(fd);
-    say(&name[..length], limited(&input[..got]));
+fn one(rt: &(impl Env + Eprint + Files + Print), i: usize) -> io::Result<()> {
+    let mut name = base_io::buffer();
+    let length = base_io::arg(rt, i, &mut name);
+    let mut file = match base_io::open_read(rt, &name[..length]) {
+        Ok(file) => file,
+        Err(error) => return base_io::fail(rt, &name[..length], &error),
+    };
+    let mut input = base_io::large_buffer();
+    let got = base_io::read_full(&mut file, &mut input)?;
+    say(rt, &name[..length], limited(&input[..got]))
 }
 
-fn main() {
-    let count = os::arg_count();
-    let mut i = 1;
-    while i < count {
-        one(i);
-        i += 1;
+fn main(rt: HostRuntime) -> io::Result<()> {
+    let count = base_io::arg_count(&rt);
+    for i in 1..count {
+        one(&rt, i)?;
     }
+    Ok(())
 }

@@ -1,8 +1,11 @@
 // Asks for lifting orders (T-07). For each case of each stream named as an argument it prints a line with the number of
 // a refusal, or with 0 and the order, and a `!` for each word past the order that was altered. It prints `fault` for a
 // malformed stream.
+#![tactic(auto)]
+
 use base_streams::{Cursor, listed, text};
-use libc::STDOUT_FILENO;
+use std::io;
+use std::rt::{Env, Files};
 use survey::Survey;
 use value_lifting::Lifting;
 
@@ -33,59 +36,67 @@ fn checked(word: u16, at: usize, line: &mut [u8]) -> usize {
 // The first words of a slice, and a `!` for each of the others that is not as it was.
 fn row(first: usize, words: &[u16], at: usize, line: &mut [u8]) -> usize {
     let mut end = at;
-    let mut i: usize = 0;
-    while i < words.len() {
+    for i in 0..words.len() {
         if i < first {
             end = more(words[i], end, line);
-            i += 1;
-            continue;
+        } else {
+            end = checked(words[i], end, line);
         }
-        end = checked(words[i], end, line);
-        i += 1;
     }
     text::byte(10, end, line)
 }
 
-fn say(line: &[u8], end: usize) {
+fn say(rt: &impl Print, line: &[u8], end: usize) -> io::Result<()> {
     if line.len() < end {
-        return;
+        return Ok(());
     }
-    io::write_all(STDOUT_FILENO, &line[..end]);
+    base_io::write_all(rt, &line[..end])
 }
 
 // The line of a reply.
-fn told(reply: Lifting, order: &[u16]) {
-    let mut line = io::buffer();
+fn told(rt: &impl Print, reply: Lifting, order: &[u16]) -> io::Result<()> {
+    let mut line = base_io::buffer();
     match reply {
         Lifting::Lifted(units) => {
             let at = text::number(0, 0, &mut line);
             let end = row(units as usize, order, at, &mut line);
-            say(&line, end);
+            say(rt, &line, end)
         }
         Lifting::Refused(number) => {
             let at = text::number(number as u32, 0, &mut line);
             let end = row(0, order, at, &mut line);
-            say(&line, end);
+            say(rt, &line, end)
         }
     }
 }
 
-fn asked<'a>(survey: Survey, pairs: &'a [u16], order: &mut [u16]) {
+fn asked<'a>(
+    rt: &impl Print,
+    survey: Survey,
+    pairs: &'a [u16],
+    order: &mut [u16],
+) -> io::Result<()> {
     let answer = value_lifting::lift(survey, pairs, order);
     let reply = answer.reply;
-    told(reply, order);
+    told(rt, reply, order)
 }
 
 // The call, with the first words of the pairs and the first places of the output.
-fn lend(survey: Survey, pairs: &[u16], count: usize, places: usize) {
+fn lend(
+    rt: &impl Print,
+    survey: Survey,
+    pairs: &[u16],
+    count: usize,
+    places: usize,
+) -> io::Result<()> {
     if pairs.len() < count {
-        return;
+        return Ok(());
     }
     if 512 < places {
-        return;
+        return Ok(());
     }
     let mut order = [MARK; 512];
-    asked(survey, &pairs[..count], &mut order[..places]);
+    asked(rt, survey, &pairs[..count], &mut order[..places])
 }
 
 // The survey of the table that the first words and levels of the two slices hold.
@@ -136,51 +147,47 @@ fn survey_of(stream: &[u8], cursor: Cursor) -> Site {
 }
 
 // A case: the survey, the places of the slice, the list of the words of the pairs.
-fn case(stream: &[u8], cursor: Cursor) -> Cursor {
+fn case(rt: &impl Print, stream: &[u8], cursor: Cursor) -> io::Result<Cursor> {
     let site = survey_of(stream, cursor);
     let places = base_streams::next_number(stream, site.cursor);
     let mut pairs = [0u16; 1024];
     let before = listed::words(stream, places.cursor, &mut pairs);
-    lend(site.survey, &pairs, before.count, places.value as usize);
-    before.cursor
+    lend(rt, site.survey, &pairs, before.count, places.value as usize)?;
+    Ok(before.cursor)
 }
 
 // Every case of a stream, which begins with how many there are.
-fn cases(stream: &[u8]) {
+fn cases(rt: &impl Print, stream: &[u8]) -> io::Result<()> {
     let count = base_streams::next_number(stream, base_streams::begin());
     let total = count.value;
     let first = count.cursor;
     let mut c = first;
-    let mut i: u32 = 0;
-    while i < total {
-        c = case(stream, c);
-        i += 1;
+    for _ in 0..total {
+        c = case(rt, stream, c)?;
     }
     if !base_streams::ended(stream, c) {
-        io::write_all(STDOUT_FILENO, b"fault\n");
+        base_io::write_all(rt, b"fault\n")?;
     }
+    Ok(())
 }
 
 // The file of argument `i`.
-fn one(i: usize) {
-    let mut name = io::buffer();
-    let length = os::arg(i, &mut name);
-    let fd = os::open_read(&name[..length]);
-    if fd < 0 {
-        os::fail(&name[..length]);
-        return;
-    }
-    let mut input = io::large_buffer();
-    let got = io::read_full(fd, &mut input);
-    libc::close(fd);
-    cases(&input[..got]);
+fn one(rt: &(impl Env + Eprint + Files + Print), i: usize) -> io::Result<()> {
+    let mut name = base_io::buffer();
+    let length = base_io::arg(rt, i, &mut name);
+    let mut file = match base_io::open_read(rt, &name[..length]) {
+        Ok(file) => file,
+        Err(error) => return base_io::fail(rt, &name[..length], &error),
+    };
+    let mut input = base_io::large_buffer();
+    let got = base_io::read_full(&mut file, &mut input)?;
+    cases(rt, &input[..got])
 }
 
-fn main() {
-    let count = os::arg_count();
-    let mut i = 1;
-    while i < count {
-        one(i);
-        i += 1;
+fn main(rt: HostRuntime) -> io::Result<()> {
+    let count = base_io::arg_count(&rt);
+    for i in 1..count {
+        one(&rt, i)?;
     }
+    Ok(())
 }

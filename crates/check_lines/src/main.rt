@@ -2,8 +2,11 @@
 // the load and after each round. It prints `altered` where a byte past a line was touched, or any byte of a slice that
 // is one place too short, and `not refused` where such a slice is not refused with 14. It prints `fault` for a
 // malformed stream.
+#![tactic(auto)]
+
 use base_streams::{Cursor, listed};
-use libc::STDOUT_FILENO;
+use std::io;
+use std::rt::{Env, Files};
 use survey::Survey;
 
 // What every lent byte holds before a call.
@@ -12,80 +15,78 @@ const MARK: u8 = 171;
 // Whether all bytes from a place on are as they were.
 fn as_before(out: &[u8], first: usize) -> bool {
     let mut same = true;
-    let mut i = first;
-    while i < out.len() {
+    for i in first..out.len() {
         if out[i] != MARK {
             same = false;
         }
-        i += 1;
     }
     same
 }
 
-fn say(line: &[u8], end: usize) {
+fn say(rt: &impl Print, line: &[u8], end: usize) -> io::Result<()> {
     if line.len() < end {
-        return;
+        return Ok(());
     }
-    io::write_all(STDOUT_FILENO, &line[..end]);
+    base_io::write_all(rt, &line[..end])
 }
 
 // The line at the front, by its number of characters, or the number of the refusal.
-fn told(number: u8, needed: usize, out: &[u8]) {
+fn told(rt: &impl Print, number: u8, needed: usize, out: &[u8]) -> io::Result<()> {
     if number != 0 {
-        io::print_decimal(STDOUT_FILENO, number as u64);
-        io::write_all(STDOUT_FILENO, b"\n");
-        return;
+        base_io::print_decimal(rt, number as u64)?;
+        return base_io::write_all(rt, b"\n");
     }
-    say(out, needed);
+    say(rt, out, needed)?;
     if !as_before(out, needed) {
-        io::write_all(STDOUT_FILENO, b"altered\n");
+        base_io::write_all(rt, b"altered\n")?;
     }
+    Ok(())
 }
 
 // A slice that was one place too short.
-fn short(number: u8, out: &[u8]) {
+fn short(rt: &impl Print, number: u8, out: &[u8]) -> io::Result<()> {
     if number != 14 {
-        io::write_all(STDOUT_FILENO, b"not refused\n");
+        base_io::write_all(rt, b"not refused\n")?;
     }
     if !as_before(out, 0) {
-        io::write_all(STDOUT_FILENO, b"altered\n");
+        base_io::write_all(rt, b"altered\n")?;
     }
+    Ok(())
 }
 
-fn foreman(s: Survey) {
+fn foreman(rt: &impl Print, s: Survey) -> io::Result<()> {
     let mut out = [MARK; 24];
     let shown = value_handsets::foreman_line(s, &mut out);
-    told(shown.number(), 11, &out);
+    told(rt, shown.number(), 11, &out)?;
     let mut few = [MARK; 10];
     let refused = value_handsets::foreman_line(s, &mut few);
-    short(refused.number(), &few);
+    short(rt, refused.number(), &few)
 }
 
-fn service(s: Survey) {
+fn service(rt: &impl Print, s: Survey) -> io::Result<()> {
     let mut out = [MARK; 24];
     let shown = value_handsets::service_line(s, &mut out);
-    told(shown.number(), 19, &out);
+    told(rt, shown.number(), 19, &out)?;
     let mut few = [MARK; 18];
     let refused = value_handsets::service_line(s, &mut few);
-    short(refused.number(), &few);
+    short(rt, refused.number(), &few)
 }
 
 // All rounds, at most as many as any survey takes.
-fn rounds(first: Survey) {
+fn rounds(rt: &impl Print, first: Survey) -> io::Result<()> {
     let mut s = first;
-    let mut i: u16 = 0;
-    foreman(s);
-    service(s);
-    while i < 805 {
+    foreman(rt, s)?;
+    service(rt, s)?;
+    for _ in 0..805 {
         if s.clock.stage != 11 {
             let answer = s.round();
             let next = answer.survey;
             s = next;
-            foreman(s);
-            service(s);
+            foreman(rt, s)?;
+            service(rt, s)?;
         }
-        i += 1;
     }
+    Ok(())
 }
 
 // The survey of the table that the first words and levels of the two slices hold.
@@ -154,6 +155,7 @@ fn begun<'a>(
 
 // The rest of a case, after its levels: the list of parents. Then both lines after the load and after each round.
 fn drawn<'a>(
+    rt: &impl Print,
     stream: &'a [u8],
     cursor: Cursor,
     call: u32,
@@ -162,7 +164,7 @@ fn drawn<'a>(
     count: usize,
     levels: &'a [i16],
     links: usize,
-) -> Cursor {
+) -> io::Result<Cursor> {
     let mut parents = [0u16; 256];
     let named = listed::words(stream, cursor, &mut parents);
     let first = begun(
@@ -175,12 +177,12 @@ fn drawn<'a>(
         &parents,
         named.count,
     );
-    rounds(first);
-    named.cursor
+    rounds(rt, first)?;
+    Ok(named.cursor)
 }
 
 // A case: the call, the unit count, the list of words, the list of levels, the list of parents.
-fn case(stream: &[u8], cursor: Cursor) -> Cursor {
+fn case(rt: &impl Print, stream: &[u8], cursor: Cursor) -> io::Result<Cursor> {
     let call = base_streams::next_number(stream, cursor);
     let units = base_streams::next_number(stream, call.cursor);
     let mut words = [0u16; 2048];
@@ -188,6 +190,7 @@ fn case(stream: &[u8], cursor: Cursor) -> Cursor {
     let mut levels = [0i16; 1024];
     let heard = listed::levels(stream, ends.cursor, &mut levels);
     drawn(
+        rt,
         stream,
         heard.cursor,
         call.value,
@@ -200,41 +203,37 @@ fn case(stream: &[u8], cursor: Cursor) -> Cursor {
 }
 
 // Every case of a stream, which begins with how many there are.
-fn cases(stream: &[u8]) {
+fn cases(rt: &impl Print, stream: &[u8]) -> io::Result<()> {
     let count = base_streams::next_number(stream, base_streams::begin());
     let total = count.value;
     let first = count.cursor;
     let mut c = first;
-    let mut i: u32 = 0;
-    while i < total {
-        c = case(stream, c);
-        i += 1;
+    for _ in 0..total {
+        c = case(rt, stream, c)?;
     }
     if !base_streams::ended(stream, c) {
-        io::write_all(STDOUT_FILENO, b"fault\n");
+        base_io::write_all(rt, b"fault\n")?;
     }
+    Ok(())
 }
 
 // The file of argument `i`.
-fn one(i: usize) {
-    let mut name = io::buffer();
-    let length = os::arg(i, &mut name);
-    let fd = os::open_read(&name[..length]);
-    if fd < 0 {
-        os::fail(&name[..length]);
-        return;
-    }
-    let mut input = io::large_buffer();
-    let got = io::read_full(fd, &mut input);
-    libc::close(fd);
-    cases(&input[..got]);
+fn one(rt: &(impl Env + Eprint + Files + Print), i: usize) -> io::Result<()> {
+    let mut name = base_io::buffer();
+    let length = base_io::arg(rt, i, &mut name);
+    let mut file = match base_io::open_read(rt, &name[..length]) {
+        Ok(file) => file,
+        Err(error) => return base_io::fail(rt, &name[..length], &error),
+    };
+    let mut input = base_io::large_buffer();
+    let got = base_io::read_full(&mut file, &mut input)?;
+    cases(rt, &input[..got])
 }
 
-fn main() {
-    let count = os::arg_count();
-    let mut i = 1;
-    while i < count {
-        one(i);
-        i += 1;
+fn main(rt: HostRuntime) -> io::Result<()> {
+    let count = base_io::arg_count(&rt);
+    for i in 1..count {
+        one(&rt, i)?;
     }
+    Ok(())
 }

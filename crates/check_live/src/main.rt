@@ -2,8 +2,11 @@
 // and a stream's name: `lines` prints a line for each step and the table at the end of a case, `numbers` the number of
 // each step alone. A line has a `!` for each end past the links that is not absent and each level there that is not 0.
 // It prints `fault` for a malformed stream.
+#![tactic(auto)]
+
 use base_streams::{Cursor, Level, text};
-use libc::STDOUT_FILENO;
+use std::io;
+use std::rt::{Env, Files};
 use value_live::{Answer, Live};
 
 // The table in hand, and the cursor after a step.
@@ -53,13 +56,11 @@ fn put_level(levels: &mut [i16], i: usize, x: i16) {
 // The next levels, as many as `count`; those that have no room are left out.
 fn level_list(stream: &[u8], cursor: Cursor, count: u32, levels: &mut [i16]) -> Cursor {
     let mut c = cursor;
-    let mut i: u32 = 0;
-    while i < count {
+    for i in 0..count {
         let next = level(stream, c);
         put_level(levels, i as usize, next.value);
         let after = next.cursor;
         c = after;
-        i += 1;
     }
     c
 }
@@ -84,10 +85,8 @@ fn height(x: i16, at: usize, line: &mut [u8]) -> usize {
 // The first words, as many as `count`.
 fn row(words: &[u16], count: usize, at: usize, line: &mut [u8]) -> usize {
     let mut end = at;
-    let mut i: usize = 0;
-    while i < count {
+    for i in 0..count {
         end = more(base_slices::word(words, i), end, line);
-        i += 1;
     }
     end
 }
@@ -99,10 +98,8 @@ fn level_at(levels: &[i16], i: usize) -> i16 {
 // The first levels, as many as `count`.
 fn heights(levels: &[i16], count: usize, at: usize, line: &mut [u8]) -> usize {
     let mut end = at;
-    let mut i: usize = 0;
-    while i < count {
+    for i in 0..count {
         end = height(level_at(levels, i), end, line);
-        i += 1;
     }
     end
 }
@@ -118,10 +115,8 @@ fn checked(ok: bool, at: usize, line: &mut [u8]) -> usize {
 // A `!` for each end from `first` on that is not absent.
 fn absent(ends: &[u16], first: usize, at: usize, line: &mut [u8]) -> usize {
     let mut end = at;
-    let mut i = first;
-    while i < ends.len() {
+    for i in first..ends.len() {
         end = checked(ends[i] == 65535, end, line);
-        i += 1;
     }
     end
 }
@@ -129,32 +124,30 @@ fn absent(ends: &[u16], first: usize, at: usize, line: &mut [u8]) -> usize {
 // A `!` for each level from `first` on that is not 0.
 fn silent(levels: &[i16], first: usize, at: usize, line: &mut [u8]) -> usize {
     let mut end = at;
-    let mut i = first;
-    while i < levels.len() {
+    for i in first..levels.len() {
         end = checked(level_at(levels, i) == 0, end, line);
-        i += 1;
     }
     end
 }
 
-fn say(line: &[u8], end: usize) {
+fn say(rt: &impl Print, line: &[u8], end: usize) -> io::Result<()> {
     if line.len() < end {
-        return;
+        return Ok(());
     }
-    io::write_all(STDOUT_FILENO, &line[..end]);
+    base_io::write_all(rt, &line[..end])
 }
 
 // The number alone.
-fn told_number(number: u8) {
-    let mut line = io::buffer();
+fn told_number(rt: &impl Print, number: u8) -> io::Result<()> {
+    let mut line = base_io::buffer();
     let at = text::number(number as u32, 0, &mut line);
     let end = text::byte(10, at, &mut line);
-    say(&line, end);
+    say(rt, &line, end)
 }
 
 // The number, the number of links and the stored number of each unit.
-fn told_counts(number: u8, live: Live) {
-    let mut line = io::large_buffer();
+fn told_counts(rt: &impl Print, number: u8, live: Live) -> io::Result<()> {
+    let mut line = base_io::large_buffer();
     let links = live.links;
     let first = text::number(number as u32, 0, &mut line);
     let second = more(links, first, &mut line);
@@ -162,26 +155,26 @@ fn told_counts(number: u8, live: Live) {
     let fourth = absent(&live.ends, 2 * (links as usize), third, &mut line);
     let fifth = silent(&live.levels, links as usize, fourth, &mut line);
     let end = text::byte(10, fifth, &mut line);
-    say(&line, end);
+    say(rt, &line, end)
 }
 
 // The unit count, the number of links, all words and all levels.
-fn told_table(live: Live) {
-    let mut line = io::large_buffer();
+fn told_table(rt: &impl Print, live: Live) -> io::Result<()> {
+    let mut line = base_io::large_buffer();
     let links = live.links;
     let first = text::number(live.units as u32, 0, &mut line);
     let second = more(links, first, &mut line);
     let third = row(&live.ends, 2 * (links as usize), second, &mut line);
     let fourth = heights(&live.levels, links as usize, third, &mut line);
     let end = text::byte(10, fourth, &mut line);
-    say(&line, end);
+    say(rt, &line, end)
 }
 
-fn told(numbers: bool, number: u8, live: Live) {
+fn told(rt: &impl Print, numbers: bool, number: u8, live: Live) -> io::Result<()> {
     if numbers {
-        told_number(number);
+        told_number(rt, number)
     } else {
-        told_counts(number, live);
+        told_counts(rt, number, live)
     }
 }
 
@@ -197,7 +190,13 @@ fn opened(units: u16, words: &[u16], m: usize, levels: &[i16], n: usize) -> Answ
 }
 
 // Opening: the unit count, the list of words, the list of levels. A refusal leaves the table in hand.
-fn open_step(stream: &[u8], cursor: Cursor, live: Live, numbers: bool) -> Hand {
+fn open_step(
+    rt: &impl Print,
+    stream: &[u8],
+    cursor: Cursor,
+    live: Live,
+    numbers: bool,
+) -> io::Result<Hand> {
     let units = base_streams::next_number(stream, cursor);
     let m = base_streams::next_number(stream, units.cursor);
     let mut words = [0u16; 4096];
@@ -214,47 +213,59 @@ fn open_step(stream: &[u8], cursor: Cursor, live: Live, numbers: bool) -> Hand {
     );
     let number = answer.number;
     if number != 0 {
-        told_number(number);
-        return Hand {
+        told_number(rt, number)?;
+        return Ok(Hand {
             live,
             cursor: after,
-        };
+        });
     }
     let new = answer.live;
-    told(numbers, number, new);
-    Hand {
+    told(rt, numbers, number, new)?;
+    Ok(Hand {
         live: new,
         cursor: after,
-    }
+    })
 }
 
 // Adding: the two units, the level.
-fn add_step(stream: &[u8], cursor: Cursor, live: Live, numbers: bool) -> Hand {
+fn add_step(
+    rt: &impl Print,
+    stream: &[u8],
+    cursor: Cursor,
+    live: Live,
+    numbers: bool,
+) -> io::Result<Hand> {
     let a = base_streams::next_number(stream, cursor);
     let b = base_streams::next_number(stream, a.cursor);
     let l = level(stream, b.cursor);
     let answer = live.add((a.value % 65536) as u16, (b.value % 65536) as u16, l.value);
     let new = answer.live;
-    told(numbers, answer.number, new);
+    told(rt, numbers, answer.number, new)?;
     let after = l.cursor;
-    Hand {
+    Ok(Hand {
         live: new,
         cursor: after,
-    }
+    })
 }
 
 // Withdrawing: the two units.
-fn withdraw_step(stream: &[u8], cursor: Cursor, live: Live, numbers: bool) -> Hand {
+fn withdraw_step(
+    rt: &impl Print,
+    stream: &[u8],
+    cursor: Cursor,
+    live: Live,
+    numbers: bool,
+) -> io::Result<Hand> {
     let a = base_streams::next_number(stream, cursor);
     let b = base_streams::next_number(stream, a.cursor);
     let answer = live.withdraw((a.value % 65536) as u16, (b.value % 65536) as u16);
     let new = answer.live;
-    told(numbers, answer.number, new);
+    told(rt, numbers, answer.number, new)?;
     let after = b.cursor;
-    Hand {
+    Ok(Hand {
         live: new,
         cursor: after,
-    }
+    })
 }
 
 // A table with one level overwritten.
@@ -330,20 +341,20 @@ fn overwrite_step(stream: &[u8], cursor: Cursor, live: Live) -> Hand {
 }
 
 // A step: 1 opens, 2 adds, 3 withdraws, 4 overwrites.
-fn step(stream: &[u8], hand: Hand, numbers: bool) -> Hand {
+fn step(rt: &impl Print, stream: &[u8], hand: Hand, numbers: bool) -> io::Result<Hand> {
     let kind = base_streams::next_number(stream, hand.cursor);
     let k = kind.value;
     let live = hand.live;
     if k == 1 {
-        return open_step(stream, kind.cursor, live, numbers);
+        return open_step(rt, stream, kind.cursor, live, numbers);
     }
     if k == 2 {
-        return add_step(stream, kind.cursor, live, numbers);
+        return add_step(rt, stream, kind.cursor, live, numbers);
     }
     if k == 3 {
-        return withdraw_step(stream, kind.cursor, live, numbers);
+        return withdraw_step(rt, stream, kind.cursor, live, numbers);
     }
-    overwrite_step(stream, kind.cursor, live)
+    Ok(overwrite_step(stream, kind.cursor, live))
 }
 
 // No table.
@@ -354,64 +365,58 @@ fn none(cursor: Cursor) -> Hand {
 }
 
 // A case: the number of steps, and each of them.
-fn case(stream: &[u8], cursor: Cursor, numbers: bool) -> Cursor {
+fn case(rt: &impl Print, stream: &[u8], cursor: Cursor, numbers: bool) -> io::Result<Cursor> {
     let count = base_streams::next_number(stream, cursor);
     let total = count.value;
     let mut hand = none(count.cursor);
-    let mut i: u32 = 0;
-    while i < total {
-        hand = step(stream, hand, numbers);
-        i += 1;
+    for _ in 0..total {
+        hand = step(rt, stream, hand, numbers)?;
     }
     if !numbers {
-        told_table(hand.live);
+        told_table(rt, hand.live)?;
     }
-    hand.cursor
+    Ok(hand.cursor)
 }
 
 // Every case of a stream, which begins with how many there are.
-fn cases(stream: &[u8], numbers: bool) {
+fn cases(rt: &impl Print, stream: &[u8], numbers: bool) -> io::Result<()> {
     let count = base_streams::next_number(stream, base_streams::begin());
     let total = count.value;
     let first = count.cursor;
     let mut c = first;
-    let mut i: u32 = 0;
-    while i < total {
-        c = case(stream, c, numbers);
-        i += 1;
+    for _ in 0..total {
+        c = case(rt, stream, c, numbers)?;
     }
     if !base_streams::ended(stream, c) {
-        io::write_all(STDOUT_FILENO, b"fault\n");
+        base_io::write_all(rt, b"fault\n")?;
     }
+    Ok(())
 }
 
 // Whether argument `i` asks for numbers alone.
-fn asks_numbers(i: usize) -> bool {
-    let mut word = io::buffer();
-    os::arg(i, &mut word);
+fn asks_numbers(rt: &impl Env, i: usize) -> bool {
+    let mut word = base_io::buffer();
+    base_io::arg(rt, i, &mut word);
     base_slices::byte(&word, 0) == 110
 }
 
 // The file of argument `i`.
-fn one(i: usize, numbers: bool) {
-    let mut name = io::buffer();
-    let length = os::arg(i, &mut name);
-    let fd = os::open_read(&name[..length]);
-    if fd < 0 {
-        os::fail(&name[..length]);
-        return;
-    }
-    let mut input = io::large_buffer();
-    let got = io::read_full(fd, &mut input);
-    libc::close(fd);
-    cases(&input[..got], numbers);
+fn one(rt: &(impl Env + Eprint + Files + Print), i: usize, numbers: bool) -> io::Result<()> {
+    let mut name = base_io::buffer();
+    let length = base_io::arg(rt, i, &mut name);
+    let mut file = match base_io::open_read(rt, &name[..length]) {
+        Ok(file) => file,
+        Err(error) => return base_io::fail(rt, &name[..length], &error),
+    };
+    let mut input = base_io::large_buffer();
+    let got = base_io::read_full(&mut file, &mut input)?;
+    cases(rt, &input[..got], numbers)
 }
 
-fn main() {
-    let pairs = os::arg_count() / 2;
-    let mut k: usize = 0;
-    while k < pairs {
-        one(2 * k + 2, asks_numbers(2 * k + 1));
-        k += 1;
+fn main(rt: HostRuntime) -> io::Result<()> {
+    let pairs = base_io::arg_count(&rt) / 2;
+    for k in 0..pairs {
+        one(&rt, 2 * k + 2, asks_numbers(&rt, 2 * k + 1))?;
     }
+    Ok(())
 }

@@ -1,9 +1,12 @@
 // Loads or writes the table of each case of each stream named as an argument. It prints a line with the number of a
 // refusal, or with 0 and the countdown after the load or the length of the file, and a `!` for each byte past the file
 // that was altered. It prints `fault` for a malformed stream.
+#![tactic(auto)]
+
 use base_streams::{Cursor, Level, listed, text};
 use file_spec::Writing;
-use libc::STDOUT_FILENO;
+use std::io;
+use std::rt::{Env, Files};
 use survey::{Answer, Reply, Survey};
 
 // What every lent byte holds before the call; no file has it.
@@ -56,13 +59,11 @@ fn put_level(levels: &mut [i16], i: usize, x: i16) {
 // The next levels, as many as `count`; those that have no room are left out.
 fn level_list(stream: &[u8], cursor: Cursor, count: u32, levels: &mut [i16]) -> Cursor {
     let mut c = cursor;
-    let mut i: u32 = 0;
-    while i < count {
+    for i in 0..count {
         let next = level(stream, c);
         put_level(levels, i as usize, next.value);
         let after = next.cursor;
         c = after;
-        i += 1;
     }
     c
 }
@@ -78,46 +79,44 @@ fn checked(byte: u8, at: usize, line: &mut [u8]) -> usize {
 // A `!` for each byte from `first` on that is not as it was, and the line's end.
 fn rest(first: usize, bytes: &[u8], at: usize, line: &mut [u8]) -> usize {
     let mut end = at;
-    let mut i = first;
-    while i < bytes.len() {
+    for i in first..bytes.len() {
         end = checked(bytes[i], end, line);
-        i += 1;
     }
     text::byte(10, end, line)
 }
 
-fn say(line: &[u8], end: usize) {
+fn say(rt: &impl Print, line: &[u8], end: usize) -> io::Result<()> {
     if line.len() < end {
-        return;
+        return Ok(());
     }
-    io::write_all(STDOUT_FILENO, &line[..end]);
+    base_io::write_all(rt, &line[..end])
 }
 
 // A refusal's number; the bytes are as they were.
-fn refused(number: u8, bytes: &[u8]) {
-    let mut line = io::buffer();
+fn refused(rt: &impl Print, number: u8, bytes: &[u8]) -> io::Result<()> {
+    let mut line = base_io::buffer();
     let at = text::number(number as u32, 0, &mut line);
     let end = rest(0, bytes, at, &mut line);
-    say(&line, end);
+    say(rt, &line, end)
 }
 
 // 0 and a value; the bytes from `first` on are as they were.
-fn done(value: u32, first: usize, bytes: &[u8]) {
-    let mut line = io::buffer();
+fn done(rt: &impl Print, value: u32, first: usize, bytes: &[u8]) -> io::Result<()> {
+    let mut line = base_io::buffer();
     let zero = text::number(0, 0, &mut line);
     let space = text::byte(32, zero, &mut line);
     let at = text::number(value, space, &mut line);
     let end = rest(first, bytes, at, &mut line);
-    say(&line, end);
+    say(rt, &line, end)
 }
 
 // The countdown of a survey.
-fn counted(survey: Survey) {
+fn counted(rt: &impl Print, survey: Survey) -> io::Result<()> {
     let answer = survey.status();
     let reply = answer.reply;
     match reply {
-        Reply::Status { countdown, .. } => done(countdown as u32, 0, &[]),
-        _ => refused(answer.number(), &[]),
+        Reply::Status { countdown, .. } => done(rt, countdown as u32, 0, &[]),
+        _ => refused(rt, answer.number(), &[]),
     }
 }
 
@@ -131,43 +130,70 @@ fn opened(call: u32, units: u16, words: &[u16], levels: &[i16], parents: &[u16])
     Survey::new().load(units, words, levels)
 }
 
-fn loaded(call: u32, units: u16, words: &[u16], levels: &[i16], parents: &[u16]) {
+fn loaded(
+    rt: &impl Print,
+    call: u32,
+    units: u16,
+    words: &[u16],
+    levels: &[i16],
+    parents: &[u16],
+) -> io::Result<()> {
     let answer = opened(call, units, words, levels, parents);
     let number = answer.number();
     if number == 0 {
-        counted(answer.survey);
+        counted(rt, answer.survey)
     } else {
-        refused(number, &[]);
+        refused(rt, number, &[])
     }
 }
 
-fn written(units: u16, words: &[u16], levels: &[i16], out: &mut [u8]) {
+fn written(
+    rt: &impl Print,
+    units: u16,
+    words: &[u16],
+    levels: &[i16],
+    out: &mut [u8],
+) -> io::Result<()> {
     let reply = file_write::write(units, words, levels, out);
     match reply {
-        Writing::Refused(number) => refused(number, out),
-        Writing::Written(characters) => done(characters, characters as usize, out),
+        Writing::Refused(number) => refused(rt, number, out),
+        Writing::Written(characters) => done(rt, characters, characters as usize, out),
     }
 }
 
 // The file, into the first places of the slice.
-fn lend(units: u16, words: &[u16], levels: &[i16], places: usize) {
+fn lend(
+    rt: &impl Print,
+    units: u16,
+    words: &[u16],
+    levels: &[i16],
+    places: usize,
+) -> io::Result<()> {
     if 16384 < places {
-        return;
+        return Ok(());
     }
     let mut out = [MARK; 16384];
-    written(units, words, levels, &mut out[..places]);
+    written(rt, units, words, levels, &mut out[..places])
 }
 
-fn called(call: u32, units: u16, words: &[u16], levels: &[i16], parents: &[u16], places: usize) {
+fn called(
+    rt: &impl Print,
+    call: u32,
+    units: u16,
+    words: &[u16],
+    levels: &[i16],
+    parents: &[u16],
+    places: usize,
+) -> io::Result<()> {
     if call == WRITE {
-        lend(units, words, levels, places);
+        lend(rt, units, words, levels, places)
     } else {
-        loaded(call, units, words, levels, parents);
+        loaded(rt, call, units, words, levels, parents)
     }
 }
 
 // The unit count of a table, how many words it has and how many levels, and how many parents.
-#[derive(Drop)]
+#[derive(Clone, Copy)]
 struct Sizes {
     units: u16,
     words: usize,
@@ -176,32 +202,41 @@ struct Sizes {
 }
 
 // The call, with the first words, levels and parents of the slices.
-fn table(call: u32, t: Sizes, words: &[u16], levels: &[i16], parents: &[u16], places: usize) {
+fn table(
+    rt: &impl Print,
+    call: u32,
+    t: Sizes,
+    words: &[u16],
+    levels: &[i16],
+    parents: &[u16],
+    places: usize,
+) -> io::Result<()> {
     let m = t.words;
     let n = t.levels;
     let p = t.parents;
     if words.len() < m {
-        return;
+        return Ok(());
     }
     if levels.len() < n {
-        return;
+        return Ok(());
     }
     if parents.len() < p {
-        return;
+        return Ok(());
     }
     called(
+        rt,
         call,
         t.units,
         &words[..m],
         &levels[..n],
         &parents[..p],
         places,
-    );
+    )
 }
 
 // A case: the call, the unit count, the list of words, the list of levels, the list of parents, the places of the
 // slice.
-fn case(stream: &[u8], cursor: Cursor) -> Cursor {
+fn case(rt: &impl Print, stream: &[u8], cursor: Cursor) -> io::Result<Cursor> {
     let call = base_streams::next_number(stream, cursor);
     let units = base_streams::next_number(stream, call.cursor);
     let mut words = [0u16; 4096];
@@ -219,52 +254,49 @@ fn case(stream: &[u8], cursor: Cursor) -> Cursor {
         parents: named.count,
     };
     table(
+        rt,
         call.value,
         t,
         &words,
         &levels,
         &parents,
         places.value as usize,
-    );
-    places.cursor
+    )?;
+    Ok(places.cursor)
 }
 
 // Every case of a stream, which begins with how many there are.
-fn cases(stream: &[u8]) {
+fn cases(rt: &impl Print, stream: &[u8]) -> io::Result<()> {
     let count = base_streams::next_number(stream, base_streams::begin());
     let total = count.value;
     let first = count.cursor;
     let mut c = first;
-    let mut i: u32 = 0;
-    while i < total {
-        c = case(stream, c);
-        i += 1;
+    for _ in 0..total {
+        c = case(rt, stream, c)?;
     }
     if !base_streams::ended(stream, c) {
-        io::write_all(STDOUT_FILENO, b"fault\n");
+        base_io::write_all(rt, b"fault\n")?;
     }
+    Ok(())
 }
 
 // The file of argument `i`.
-fn one(i: usize) {
-    let mut name = io::buffer();
-    let length = os::arg(i, &mut name);
-    let fd = os::open_read(&name[..length]);
-    if fd < 0 {
-        os::fail(&name[..length]);
-        return;
-    }
-    let mut input = io::large_buffer();
-    let got = io::read_full(fd, &mut input);
-    libc::close(fd);
-    cases(&input[..got]);
+fn one(rt: &(impl Env + Eprint + Files + Print), i: usize) -> io::Result<()> {
+    let mut name = base_io::buffer();
+    let length = base_io::arg(rt, i, &mut name);
+    let mut file = match base_io::open_read(rt, &name[..length]) {
+        Ok(file) => file,
+        Err(error) => return base_io::fail(rt, &name[..length], &error),
+    };
+    let mut input = base_io::large_buffer();
+    let got = base_io::read_full(&mut file, &mut input)?;
+    cases(rt, &input[..got])
 }
 
-fn main() {
-    let count = os::arg_count();
-    let mut i = 1;
-    while i < count {
-        one(i);
-        i += 1;
+fn main(rt: HostRuntime) -> io::Result<()> {
+    let count = base_io::arg_count(&rt);
+    for i in 1..count {
+        one(&rt, i)?;
     }
+    Ok(())
 }

@@ -1,9 +1,12 @@
 // Surveys the one-way links (T-11) of each case of each stream named as an argument. It prints a line with the number
 // of a refusal, or with 0, the passes and each unit's number, and a `!` for each word past these that was altered. It
 // prints `fault` for a malformed stream.
+#![tactic(auto)]
+
 use base_streams::{Cursor, text};
-use libc::STDOUT_FILENO;
 use one_way::Numbering;
+use std::io;
+use std::rt::{Env, Files};
 
 // What every lent word holds before the call.
 const MARK: u16 = 43981;
@@ -25,107 +28,101 @@ fn checked(word: u16, at: usize, line: &mut [u8]) -> usize {
 // The first words of a slice, and a `!` for each of the others that is not as it was.
 fn row(first: usize, words: &[u16], at: usize, line: &mut [u8]) -> usize {
     let mut end = at;
-    let mut i: usize = 0;
-    while i < words.len() {
+    for i in 0..words.len() {
         if i < first {
             end = more(words[i], end, line);
-            i += 1;
-            continue;
+        } else {
+            end = checked(words[i], end, line);
         }
-        end = checked(words[i], end, line);
-        i += 1;
     }
     text::byte(10, end, line)
 }
 
-fn say(line: &[u8], end: usize) {
+fn say(rt: &impl Print, line: &[u8], end: usize) -> io::Result<()> {
     if line.len() < end {
-        return;
+        return Ok(());
     }
-    io::write_all(STDOUT_FILENO, &line[..end]);
+    base_io::write_all(rt, &line[..end])
 }
 
-fn surveyed(units: u16, links: &[u16], numbers: &mut [u16]) {
+fn surveyed(rt: &impl Print, units: u16, links: &[u16], numbers: &mut [u16]) -> io::Result<()> {
     let reply = one_way::strong(units, links, numbers);
-    let mut line = io::buffer();
+    let mut line = base_io::buffer();
     match reply {
         Numbering::Passes(passes) => {
             let at = text::number(0, 0, &mut line);
             let after = more(passes, at, &mut line);
             let end = row(units as usize, numbers, after, &mut line);
-            say(&line, end);
+            say(rt, &line, end)
         }
         Numbering::Refused(number) => {
             let at = text::number(number as u32, 0, &mut line);
             let end = row(0, numbers, at, &mut line);
-            say(&line, end);
+            say(rt, &line, end)
         }
     }
 }
 
 // A case: the unit count, the list of words, the places of the slice.
-fn case(stream: &[u8], cursor: Cursor) -> Cursor {
+fn case(rt: &impl Print, stream: &[u8], cursor: Cursor) -> io::Result<Cursor> {
     let units = base_streams::next_number(stream, cursor);
     let mut words = [0u16; 4096];
     let ends = base_streams::listed::words(stream, units.cursor, &mut words);
     let places = base_streams::next_number(stream, ends.cursor);
     lend(
+        rt,
         (units.value % 65536) as u16,
         &words,
         ends.count,
         places.value as usize,
-    );
-    places.cursor
+    )?;
+    Ok(places.cursor)
 }
 
 // The call, with the first words of the table and the first places of the output.
-fn lend(units: u16, words: &[u16], count: usize, places: usize) {
+fn lend(rt: &impl Print, units: u16, words: &[u16], count: usize, places: usize) -> io::Result<()> {
     if words.len() < count {
-        return;
+        return Ok(());
     }
     if 512 < places {
-        return;
+        return Ok(());
     }
     let mut numbers = [MARK; 512];
-    surveyed(units, &words[..count], &mut numbers[..places]);
+    surveyed(rt, units, &words[..count], &mut numbers[..places])
 }
 
 // Every case of a stream, which begins with how many there are.
-fn cases(stream: &[u8]) {
+fn cases(rt: &impl Print, stream: &[u8]) -> io::Result<()> {
     let count = base_streams::next_number(stream, base_streams::begin());
     let total = count.value;
     let first = count.cursor;
     let mut c = first;
-    let mut i: u32 = 0;
-    while i < total {
-        c = case(stream, c);
-        i += 1;
+    for _ in 0..total {
+        c = case(rt, stream, c)?;
     }
     if !base_streams::ended(stream, c) {
-        io::write_all(STDOUT_FILENO, b"fault\n");
+        base_io::write_all(rt, b"fault\n")?;
     }
+    Ok(())
 }
 
 // The file of argument `i`.
-fn one(i: usize) {
-    let mut name = io::buffer();
-    let length = os::arg(i, &mut name);
-    let fd = os::open_read(&name[..length]);
-    if fd < 0 {
-        os::fail(&name[..length]);
-        return;
-    }
-    let mut input = io::large_buffer();
-    let got = io::read_full(fd, &mut input);
-    libc::close(fd);
-    cases(&input[..got]);
+fn one(rt: &(impl Env + Eprint + Files + Print), i: usize) -> io::Result<()> {
+    let mut name = base_io::buffer();
+    let length = base_io::arg(rt, i, &mut name);
+    let mut file = match base_io::open_read(rt, &name[..length]) {
+        Ok(file) => file,
+        Err(error) => return base_io::fail(rt, &name[..length], &error),
+    };
+    let mut input = base_io::large_buffer();
+    let got = base_io::read_full(&mut file, &mut input)?;
+    cases(rt, &input[..got])
 }
 
-fn main() {
-    let count = os::arg_count();
-    let mut i = 1;
-    while i < count {
-        one(i);
-        i += 1;
+fn main(rt: HostRuntime) -> io::Result<()> {
+    let count = base_io::arg_count(&rt);
+    for i in 1..count {
+        one(&rt, i)?;
     }
+    Ok(())
 }

@@ -1,8 +1,11 @@
 // Surveys the table of each case of each stream named as an argument and adds up its parts from the library's answers
 // (T-14). It prints the number of labels, each label with its part (units touched, less one), the sum, and the units
 // less the groups. It prints `fault` for a malformed stream.
+#![tactic(auto)]
+
 use base_streams::{Cursor, listed, text};
-use libc::STDOUT_FILENO;
+use std::io;
+use std::rt::{Env, Files};
 use survey::{Reply, Survey};
 
 // A number after a space.
@@ -11,11 +14,11 @@ fn more(n: u16, at: usize, line: &mut [u8]) -> usize {
     text::number(n as u32, after, line)
 }
 
-fn say(line: &[u8], end: usize) {
+fn say(rt: &impl Print, line: &[u8], end: usize) -> io::Result<()> {
     if line.len() < end {
-        return;
+        return Ok(());
     }
-    io::write_all(STDOUT_FILENO, &line[..end]);
+    base_io::write_all(rt, &line[..end])
 }
 
 // What the library answers of unit `v`: its colour. The state ends here: a function that holds it is long to prove.
@@ -51,21 +54,17 @@ fn label_of(s: Survey, j: u16) -> u16 {
 // The units that equal their colour: one a group.
 fn groups(s: Survey, units: u16) -> u16 {
     let mut count: u16 = 0;
-    let mut v: u16 = 0;
-    while v < units {
+    for v in 0..units {
         if color_of(s, v) == v {
             count = table_values::bounded_sum(count, 1);
         }
-        v += 1;
     }
     count
 }
 
 fn labels(s: Survey, links: u16, label: &mut [u16]) {
-    let mut j: u16 = 0;
-    while j < links {
+    for j in 0..links {
         base_slices::put(label, j as usize, label_of(s, j));
-        j += 1;
     }
 }
 
@@ -80,19 +79,15 @@ fn touch(has: bool, words: &[u16], k: u16, marks: &mut [u16]) {
 
 // Each unit that a link with the label touches is marked.
 fn mark(words: &[u16], label: &[u16], c: u16, marks: &mut [u16]) {
-    let mut k: u16 = 0;
-    while k < 1024 {
+    for k in 0..1024 {
         touch(base_slices::word(label, k as usize) == c, words, k, marks);
-        k += 1;
     }
 }
 
 fn marked(marks: &[u16]) -> u16 {
     let mut count: u16 = 0;
-    let mut v: usize = 0;
-    while v < marks.len() {
+    for v in 0..marks.len() {
         count = table_values::bounded_sum(count, marks[v]);
-        v += 1;
     }
     count
 }
@@ -107,18 +102,16 @@ fn part(words: &[u16], label: &[u16], c: u16) -> u16 {
 // How many labels there are: positions that are their own.
 fn label_count(links: u16, label: &[u16]) -> u16 {
     let mut count: u16 = 0;
-    let mut j: u16 = 0;
-    while j < links {
+    for j in 0..links {
         if base_slices::word(label, j as usize) == j {
             count = table_values::bounded_sum(count, 1);
         }
-        j += 1;
     }
     count
 }
 
 // The sum, and the end of the line so far.
-#[derive(Drop)]
+#[derive(Clone, Copy)]
 struct Sum {
     sum: u16,
     end: usize,
@@ -152,8 +145,7 @@ fn part_if<'a>(
 // Each label and its part.
 fn parts<'a>(links: u16, words: &'a [u16], label: &'a [u16], begin: usize, line: &mut [u8]) -> Sum {
     let mut told = Sum { sum: 0, end: begin };
-    let mut j: u16 = 0;
-    while j < links {
+    for j in 0..links {
         told = part_if(
             base_slices::word(label, j as usize) == j,
             words,
@@ -162,14 +154,13 @@ fn parts<'a>(links: u16, words: &'a [u16], label: &'a [u16], begin: usize, line:
             told,
             line,
         );
-        j += 1;
     }
     told
 }
 
 // The line of a finished survey.
-fn told(s: Survey, units: u16, links: u16, words: &[u16]) {
-    let mut line = io::buffer();
+fn told(rt: &impl Print, s: Survey, units: u16, links: u16, words: &[u16]) -> io::Result<()> {
+    let mut line = base_io::buffer();
     // Absent past the links.
     let mut label = [65535u16; 1024];
     labels(s, links, &mut label);
@@ -182,7 +173,7 @@ fn told(s: Survey, units: u16, links: u16, words: &[u16]) {
         &mut line,
     );
     let end = text::byte(10, last, &mut line);
-    say(&line, end);
+    say(rt, &line, end)
 }
 
 // The survey of the table that the first words and levels of the two slices hold.
@@ -209,59 +200,62 @@ fn ended(survey: Survey) -> Survey {
     answer.survey
 }
 
-fn surveyed<'a>(n: u16, words: &'a [u16], count: usize, levels: &'a [i16], links: usize) {
+fn surveyed<'a>(
+    rt: &impl Print,
+    n: u16,
+    words: &'a [u16],
+    count: usize,
+    levels: &'a [i16],
+    links: usize,
+) -> io::Result<()> {
     let first = loaded(n, words, count, levels, links);
-    told(ended(first), n, (links % 65536) as u16, words);
+    told(rt, ended(first), n, (links % 65536) as u16, words)
 }
 
 // A case: the unit count, the list of words, the list of levels.
-fn case(stream: &[u8], cursor: Cursor) -> Cursor {
+fn case(rt: &impl Print, stream: &[u8], cursor: Cursor) -> io::Result<Cursor> {
     let units = base_streams::next_number(stream, cursor);
     let mut words = [0u16; 2048];
     let ends = listed::words(stream, units.cursor, &mut words);
     let mut levels = [0i16; 1024];
     let heard = listed::levels(stream, ends.cursor, &mut levels);
     let n = (units.value % 65536) as u16;
-    surveyed(n, &words, ends.count, &levels, heard.count);
-    heard.cursor
+    surveyed(rt, n, &words, ends.count, &levels, heard.count)?;
+    Ok(heard.cursor)
 }
 
 // Every case of a stream, which begins with how many there are.
-fn cases(stream: &[u8]) {
+fn cases(rt: &impl Print, stream: &[u8]) -> io::Result<()> {
     let count = base_streams::next_number(stream, base_streams::begin());
     let total = count.value;
     let first = count.cursor;
     let mut c = first;
-    let mut i: u32 = 0;
-    while i < total {
-        c = case(stream, c);
-        i += 1;
+    for _ in 0..total {
+        c = case(rt, stream, c)?;
     }
     if !base_streams::ended(stream, c) {
-        io::write_all(STDOUT_FILENO, b"fault\n");
+        base_io::write_all(rt, b"fault\n")?;
     }
+    Ok(())
 }
 
 // The file of argument `i`.
-fn one(i: usize) {
-    let mut name = io::buffer();
-    let length = os::arg(i, &mut name);
-    let fd = os::open_read(&name[..length]);
-    if fd < 0 {
-        os::fail(&name[..length]);
-        return;
-    }
-    let mut input = io::large_buffer();
-    let got = io::read_full(fd, &mut input);
-    libc::close(fd);
-    cases(&input[..got]);
+fn one(rt: &(impl Env + Eprint + Files + Print), i: usize) -> io::Result<()> {
+    let mut name = base_io::buffer();
+    let length = base_io::arg(rt, i, &mut name);
+    let mut file = match base_io::open_read(rt, &name[..length]) {
+        Ok(file) => file,
+        Err(error) => return base_io::fail(rt, &name[..length], &error),
+    };
+    let mut input = base_io::large_buffer();
+    let got = base_io::read_full(&mut file, &mut input)?;
+    cases(rt, &input[..got])
 }
 
-fn main() {
-    let count = os::arg_count();
-    let mut i = 1;
-    while i < count {
-        one(i);
-        i += 1;
+fn main(rt: HostRuntime) -> io::Result<()> {
+    let count = base_io::arg_count(&rt);
+    for i in 1..count {
+        one(&rt, i)?;
     }
+    Ok(())
 }

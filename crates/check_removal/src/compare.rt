@@ -1,7 +1,7 @@
 // A table surveyed twice, by the library and by removal, and what each answers compared.
 use super::groups::NONE;
 use super::{groups, removal};
-use libc::STDOUT_FILENO;
+use std::io;
 use std::num::{wrapping_add_u16, wrapping_add_u64};
 use survey::{Reply, Survey};
 
@@ -44,10 +44,8 @@ fn word_of(pairs: &[u16], i: u16) -> u16 {
 
 // The table as the library takes it: two words for each link.
 fn words_of(pairs: &[u16], count: u16, words: &mut [u16]) {
-    let mut i: u16 = 0;
-    while i < count {
+    for i in 0..count {
         base_slices::put(words, i as usize, word_of(pairs, i));
-        i += 1;
     }
 }
 
@@ -99,11 +97,9 @@ fn units_asked(
     labels: &mut [u16],
     counts: &mut [u64; 7],
 ) {
-    let mut v: u16 = 0;
-    while v < units {
+    for v in 0..units {
         let single = removal::unit(pairs, joins, v, labels);
         unit_seen(unit_reply(s, v), single, counts);
-        v += 1;
     }
 }
 
@@ -115,8 +111,7 @@ fn links_asked(
     labels: &[u16],
     counts: &mut [u64; 7],
 ) {
-    let mut j: u16 = 0;
-    while j < links {
+    for j in 0..links {
         let lone = removal::link(pairs, joins, j);
         link_seen(
             link_reply(s, j),
@@ -125,7 +120,6 @@ fn links_asked(
             base_slices::word(labels, j as usize),
             counts,
         );
-        j += 1;
     }
 }
 
@@ -145,20 +139,18 @@ fn counted(units: u16, links: u16, counts: &mut [u64; 7]) {
 }
 
 // Prints the words of a table: those of its file, two for each link.
-fn shown(units: u16, words: &[u16]) {
-    io::write_all(STDOUT_FILENO, b"surveys differ, units and ends of links:");
-    said(units);
-    let mut i = 0;
-    while i < words.len() {
-        said(words[i]);
-        i += 1;
+fn shown(rt: &impl Print, units: u16, words: &[u16]) -> io::Result<()> {
+    base_io::write_all(rt, b"surveys differ, units and ends of links:")?;
+    said(rt, units)?;
+    for word in words {
+        said(rt, *word)?;
     }
-    io::write_all(STDOUT_FILENO, b"\n");
+    base_io::write_all(rt, b"\n")
 }
 
-fn said(word: u16) {
-    io::write_all(STDOUT_FILENO, b" ");
-    io::print_decimal(STDOUT_FILENO, word as u64);
+fn said(rt: &impl Print, word: u16) -> io::Result<()> {
+    base_io::write_all(rt, b" ")?;
+    base_io::print_decimal(rt, word as u64)
 }
 
 // The library's survey of a table, begun, and made to its end.
@@ -183,32 +175,48 @@ fn both(units: u16, links: u16, words: &[u16], pairs: &[u16; 1024], counts: &mut
 }
 
 // Where they differ the table is printed.
-fn surveyed(units: u16, links: u16, words: &[u16], pairs: &[u16; 1024], counts: &mut [u64; 7]) {
+fn surveyed(
+    rt: &impl Print,
+    units: u16,
+    links: u16,
+    words: &[u16],
+    pairs: &[u16; 1024],
+    counts: &mut [u64; 7],
+) -> io::Result<()> {
     let before = counts[DIFFERENCES];
     both(units, links, words, pairs, counts);
     counted(units, links, counts);
     if counts[DIFFERENCES] != before {
-        shown(units, words);
+        shown(rt, units, words)?;
     }
+    Ok(())
 }
 
 // The same with the first `end` words.
 fn first_words(
+    rt: &impl Print,
     units: u16,
     links: u16,
     end: usize,
     words: &[u16],
     pairs: &[u16; 1024],
     counts: &mut [u64; 7],
-) {
+) -> io::Result<()> {
     if end <= words.len() {
-        surveyed(units, links, &words[..end], pairs, counts);
+        surveyed(rt, units, links, &words[..end], pairs, counts)?;
     }
+    Ok(())
 }
 
-pub(crate) fn table(units: u16, links: u16, pairs: &[u16; 1024], counts: &mut [u64; 7]) {
+pub(crate) fn table(
+    rt: &impl Print,
+    units: u16,
+    links: u16,
+    pairs: &[u16; 1024],
+    counts: &mut [u64; 7],
+) -> io::Result<()> {
     let mut words = [0u16; 2048];
     let count = wrapping_add_u16(links, links);
     words_of(pairs, count, &mut words);
-    first_words(units, links, count as usize, &words, pairs, counts);
+    first_words(rt, units, links, count as usize, &words, pairs, counts)
 }

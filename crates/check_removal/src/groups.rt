@@ -8,10 +8,8 @@ pub(crate) const NONE: u16 = 65535;
 
 // Each by itself.
 pub(crate) fn alone(marks: &mut [u16]) {
-    let mut i: u16 = 0;
-    while i < 1024 {
+    for i in 0..1024 {
         base_slices::put(marks, i as usize, i);
-        i += 1;
     }
 }
 
@@ -20,10 +18,8 @@ fn turned(mark: u16, old: u16, new: u16) -> u16 {
 }
 
 fn remark(marks: &mut [u16], old: u16, new: u16) {
-    let mut i = 0;
-    while i < marks.len() {
+    for i in 0..marks.len() {
         marks[i] = turned(marks[i], old, new);
-        i += 1;
     }
 }
 
@@ -59,10 +55,8 @@ fn join(marks: &mut [u16], link: u16, kept: bool, x: u16) -> u16
 pub(crate) fn without(pairs: &[u16; 1024], x: u16, k: u16, marks: &mut [u16]) -> u16 {
     alone(marks);
     let mut joins: u16 = 0;
-    let mut j: u16 = 0;
-    while j < 1024 {
+    for j in 0..1024 {
         joins += join(marks, pairs[j as usize], j != k, x);
-        j += 1;
     }
     joins
 }

@@ -29,10 +29,8 @@ fn meet(link: u16, j: u16, x: u16, left: &[u16], first: &mut [u16], labels: &mut
 }
 
 fn meet_all(pairs: &[u16; 1024], x: u16, left: &[u16], first: &mut [u16], labels: &mut [u16]) {
-    let mut j: u16 = 0;
-    while j < 1024 {
+    for j in 0..1024 {
         meet(pairs[j as usize], j, x, left, first, labels);
-        j += 1;
     }
 }
 

@@ -4,15 +4,13 @@ use base_slices::word;
 // A link of the table joins `u` and `v`.
 fn linked(links: u16, words: &[u16], u: u16, v: u16) -> bool {
     let mut found = false;
-    let mut j: u16 = 0;
-    while j < links {
+    for j in 0..links {
         let at = 2 * (j as usize);
         let a = word(words, at);
         let b = word(words, at + 1);
         if pair(a, b, u, v) {
             found = true;
         }
-        j += 1;
     }
     found
 }
@@ -42,12 +40,10 @@ fn next(count: usize, ring: &[u16], i: usize) -> u16 {
 // The unit at place `i` stands at no earlier place.
 fn fresh(ring: &[u16], i: usize) -> bool {
     let mut new = true;
-    let mut k: usize = 0;
-    while k < i {
+    for k in 0..i {
         if word(ring, k) == word(ring, i) {
             new = false;
         }
-        k += 1;
     }
     new
 }
@@ -55,15 +51,13 @@ fn fresh(ring: &[u16], i: usize) -> bool {
 // The units are different, and each is linked to the next and the last to the first.
 fn closed<'a>(links: u16, words: &'a [u16], count: usize, ring: &'a [u16]) -> bool {
     let mut good = true;
-    let mut i: usize = 0;
-    while i < count {
+    for i in 0..count {
         if !linked(links, words, word(ring, i), next(count, ring, i)) {
             good = false;
         }
         if !fresh(ring, i) {
             good = false;
         }
-        i += 1;
     }
     good
 }
@@ -71,12 +65,10 @@ fn closed<'a>(links: u16, words: &'a [u16], count: usize, ring: &'a [u16]) -> bo
 // Two neighbours of the ring are the ends of a link.
 fn holds(count: usize, ring: &[u16], u: u16, v: u16) -> bool {
     let mut found = false;
-    let mut i: usize = 0;
-    while i < count {
+    for i in 0..count {
         if pair(word(ring, i), next(count, ring, i), u, v) {
             found = true;
         }
-        i += 1;
     }
     found
 }
@@ -84,12 +76,10 @@ fn holds(count: usize, ring: &[u16], u: u16, v: u16) -> bool {
 // Every place from `count` on is as it was.
 pub(crate) fn untouched(mark: u16, count: usize, out: &[u16]) -> bool {
     let mut same = true;
-    let mut i = count;
-    while i < out.len() {
+    for i in count..out.len() {
         if out[i] != mark {
             same = false;
         }
-        i += 1;
     }
     same
 }

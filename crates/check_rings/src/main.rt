@@ -1,8 +1,11 @@
 // Asks for rings (T-04). For each case of each stream named as an argument it prints a line with a number for each
 // question: 1 for a ring, 0 for no ring, or a refusal; 98 where what is shown is not a ring, lacks a link or starts
 // with other units, 99 where a word was altered that should stay. It prints `fault` for a malformed stream.
+#![tactic(auto)]
+
 use base_streams::{Cursor, text};
-use libc::STDOUT_FILENO;
+use std::io;
+use std::rt::{Env, Files};
 use survey::Survey;
 use value_ring::Shown;
 
@@ -12,7 +15,7 @@ mod judge;
 const MARK: u16 = 43981;
 
 // A unit count, how many words there are, and the cursor after them.
-#[derive(Drop)]
+#[derive(Clone, Copy)]
 struct Head {
     units: u16,
     count: usize,
@@ -27,17 +30,17 @@ struct Site {
 }
 
 // What is printed for a question, and the cursor after it.
-#[derive(Drop)]
+#[derive(Clone, Copy)]
 struct Said {
     number: u32,
     cursor: Cursor,
 }
 
-fn say(line: &[u8], end: usize) {
+fn say(rt: &impl Print, line: &[u8], end: usize) -> io::Result<()> {
     if line.len() < end {
-        return;
+        return Ok(());
     }
-    io::write_all(STDOUT_FILENO, &line[..end]);
+    base_io::write_all(rt, &line[..end])
 }
 
 // The number to be printed for a reply.
@@ -148,26 +151,25 @@ fn question<'a>(stream: &'a [u8], cursor: Cursor, survey: Survey, words: &'a [u1
 
 // The line of all questions.
 fn questions<'a>(
+    rt: &impl Print,
     stream: &'a [u8],
     cursor: Cursor,
     count: u32,
     survey: Survey,
     words: &'a [u16],
     line: &mut [u8],
-) -> Cursor {
+) -> io::Result<Cursor> {
     let mut end: usize = 0;
     let mut c = cursor;
-    let mut i: u32 = 0;
-    while i < count {
+    for i in 0..count {
         let said = question(stream, c, survey, words);
         end = put_number(i, said.number, end, line);
         let after = said.cursor;
         c = after;
-        i += 1;
     }
     end = text::byte(10, end, line);
-    say(line, end);
-    c
+    say(rt, line, end)?;
+    Ok(c)
 }
 
 // The unit count and the list of words.
@@ -201,16 +203,18 @@ fn survey_of<'a>(
 
 // What follows the words: the survey, then the questions.
 fn rest<'a>(
+    rt: &impl Print,
     stream: &'a [u8],
     cursor: Cursor,
     units: u16,
     words: &'a [u16],
     count: usize,
-) -> Cursor {
+) -> io::Result<Cursor> {
     let site = survey_of(stream, cursor, units, words, count);
     let total = base_streams::next_number(stream, site.cursor);
-    let mut line = io::buffer();
+    let mut line = base_io::buffer();
     questions(
+        rt,
         stream,
         total.cursor,
         total.value,
@@ -220,48 +224,44 @@ fn rest<'a>(
     )
 }
 
-fn case(stream: &[u8], cursor: Cursor) -> Cursor {
+fn case(rt: &impl Print, stream: &[u8], cursor: Cursor) -> io::Result<Cursor> {
     let mut words = [0u16; 2048];
     let head = table_of(stream, cursor, &mut words);
-    rest(stream, head.cursor, head.units, &words, head.count)
+    rest(rt, stream, head.cursor, head.units, &words, head.count)
 }
 
 // Every case of a stream, which begins with how many there are.
-fn cases(stream: &[u8]) {
+fn cases(rt: &impl Print, stream: &[u8]) -> io::Result<()> {
     let count = base_streams::next_number(stream, base_streams::begin());
     let total = count.value;
     let first = count.cursor;
     let mut c = first;
-    let mut i: u32 = 0;
-    while i < total {
-        c = case(stream, c);
-        i += 1;
+    for _ in 0..total {
+        c = case(rt, stream, c)?;
     }
     if !base_streams::ended(stream, c) {
-        io::write_all(STDOUT_FILENO, b"fault\n");
+        base_io::write_all(rt, b"fault\n")?;
     }
+    Ok(())
 }
 
 // The file of argument `i`.
-fn one(i: usize) {
-    let mut name = io::buffer();
-    let length = os::arg(i, &mut name);
-    let fd = os::open_read(&name[..length]);
-    if fd < 0 {
-        os::fail(&name[..length]);
-        return;
-    }
-    let mut input = io::large_buffer();
-    let got = io::read_full(fd, &mut input);
-    libc::close(fd);
-    cases(&input[..got]);
+fn one(rt: &(impl Env + Eprint + Files + Print), i: usize) -> io::Result<()> {
+    let mut name = base_io::buffer();
+    let length = base_io::arg(rt, i, &mut name);
+    let mut file = match base_io::open_read(rt, &name[..length]) {
+        Ok(file) => file,
+        Err(error) => return base_io::fail(rt, &name[..length], &error),
+    };
+    let mut input = base_io::large_buffer();
+    let got = base_io::read_full(&mut file, &mut input)?;
+    cases(rt, &input[..got])
 }
 
-fn main() {
-    let count = os::arg_count();
-    let mut i = 1;
-    while i < count {
-        one(i);
-        i += 1;
+fn main(rt: HostRuntime) -> io::Result<()> {
+    let count = base_io::arg_count(&rt);
+    for i in 1..count {
+        one(&rt, i)?;
     }
+    Ok(())
 }

@@ -1,15 +1,18 @@
 // Plays the loads and ticks (T-12) of each case of each stream named as an argument. It prints the number of each load;
 // the number of each refused tick, or 0, the seat served and its status; and at the end of a case a line for each seat.
 // It prints `fault` for a malformed stream.
+#![tactic(auto)]
+
 use base_streams::{Cursor, listed, text};
-use libc::STDOUT_FILENO;
+use std::io;
+use std::rt::{Env, Files};
 use words_layout::STATE_WORDS;
 
 // Where a state has its stage (words_layout/specs/Layout.antt).
 const STAGE: usize = 2050;
 
 // The seat last served, and the cursor after a step.
-#[derive(Drop)]
+#[derive(Clone, Copy)]
 struct Reached {
     last: u16,
     cursor: Cursor,
@@ -21,19 +24,19 @@ fn more(n: u16, at: usize, line: &mut [u8]) -> usize {
     text::number(n as u32, after, line)
 }
 
-fn say(line: &[u8], end: usize) {
+fn say(rt: &impl Print, line: &[u8], end: usize) -> io::Result<()> {
     if line.len() < end {
-        return;
+        return Ok(());
     }
-    io::write_all(STDOUT_FILENO, &line[..end]);
+    base_io::write_all(rt, &line[..end])
 }
 
 // A line of one number.
-fn told(number: u32) {
-    let mut line = io::buffer();
+fn told(rt: &impl Print, number: u32) -> io::Result<()> {
+    let mut line = base_io::buffer();
     let at = text::number(number, 0, &mut line);
     let end = text::byte(10, at, &mut line);
-    say(&line, end);
+    say(rt, &line, end)
 }
 
 // The status of a survey after what stands in the line; nothing where it is refused.
@@ -49,48 +52,46 @@ fn status(seat: &[u16; STATE_WORDS], at: usize, line: &mut [u8]) -> usize {
 }
 
 // A seat as it is at the end: 0 where nothing was loaded, else 1 and its status.
-fn seen(seat: &[u16; STATE_WORDS]) {
+fn seen(rt: &impl Print, seat: &[u16; STATE_WORDS]) -> io::Result<()> {
     if seat[0] == 0 && seat[STAGE] == 0 {
-        told(0);
-        return;
+        return told(rt, 0);
     }
-    let mut line = io::buffer();
+    let mut line = base_io::buffer();
     let at = text::number(1, 0, &mut line);
     let after = status(seat, at, &mut line);
     let end = text::byte(10, after, &mut line);
-    say(&line, end);
+    say(rt, &line, end)
 }
 
-fn all_seen(seats: &[[u16; STATE_WORDS]; 8]) {
-    let mut i: usize = 0;
-    while i < 8 {
-        seen(&seats[i]);
-        i += 1;
+fn all_seen(rt: &impl Print, seats: &[[u16; STATE_WORDS]; 8]) -> io::Result<()> {
+    for i in 0..8 {
+        seen(rt, &seats[i])?;
     }
+    Ok(())
 }
 
 // The line of a tick that served a seat.
-fn served(seats: &[[u16; STATE_WORDS]; 8], seat: u16) {
+fn served(rt: &impl Print, seats: &[[u16; STATE_WORDS]; 8], seat: u16) -> io::Result<()> {
     if 7 < seat {
-        return;
+        return Ok(());
     }
-    let mut line = io::buffer();
+    let mut line = base_io::buffer();
     let at = text::number(0, 0, &mut line);
     let number = more(seat, at, &mut line);
     let after = status(&seats[seat as usize], number, &mut line);
     let end = text::byte(10, after, &mut line);
-    say(&line, end);
+    say(rt, &line, end)
 }
 
 // A tick, and the seat last served after it.
-fn tick(last: u16, seats: &mut [[u16; STATE_WORDS]; 8]) -> u16 {
+fn tick(rt: &impl Print, last: u16, seats: &mut [[u16; STATE_WORDS]; 8]) -> io::Result<u16> {
     let reply = words_seats::serve(last, seats);
     if reply.number != 0 {
-        told(reply.number);
-        return reply.last;
+        told(rt, reply.number)?;
+        return Ok(reply.last);
     }
-    served(seats, reply.last);
-    reply.last
+    served(rt, seats, reply.last)?;
+    Ok(reply.last)
 }
 
 // A load of a seat, with the first words and levels of the two slices.
@@ -113,7 +114,12 @@ fn load<'a>(
 }
 
 // The rest of a load: the seat, the unit count, the list of words, the list of levels.
-fn load_step(stream: &[u8], cursor: Cursor, seats: &mut [[u16; STATE_WORDS]; 8]) -> Cursor {
+fn load_step(
+    rt: &impl Print,
+    stream: &[u8],
+    cursor: Cursor,
+    seats: &mut [[u16; STATE_WORDS]; 8],
+) -> io::Result<Cursor> {
     let seat = base_streams::next_number(stream, cursor);
     let units = base_streams::next_number(stream, seat.cursor);
     let mut words = [0u16; 2100];
@@ -129,8 +135,8 @@ fn load_step(stream: &[u8], cursor: Cursor, seats: &mut [[u16; STATE_WORDS]; 8])
         &levels,
         heard.count,
     );
-    told(number);
-    heard.cursor
+    told(rt, number)?;
+    Ok(heard.cursor)
 }
 
 fn put_stage(seat: &mut [u16; STATE_WORDS], stage: u16) {
@@ -149,93 +155,98 @@ fn spoil(stream: &[u8], cursor: Cursor, seats: &mut [[u16; STATE_WORDS]; 8]) -> 
 }
 
 // A step of a case: 1 a load, 2 a tick, 3 the last-served number overwritten, 4 a stage overwritten.
-fn step(stream: &[u8], from: Reached, seats: &mut [[u16; STATE_WORDS]; 8]) -> Reached {
+fn step(
+    rt: &impl Print,
+    stream: &[u8],
+    from: Reached,
+    seats: &mut [[u16; STATE_WORDS]; 8],
+) -> io::Result<Reached> {
     let last = from.last;
     let kind = base_streams::next_number(stream, from.cursor);
     if kind.value == 1 {
-        let cursor = load_step(stream, kind.cursor, seats);
-        return Reached { last, cursor };
+        let cursor = load_step(rt, stream, kind.cursor, seats)?;
+        return Ok(Reached { last, cursor });
     }
     if kind.value == 2 {
-        let after = tick(last, seats);
+        let after = tick(rt, last, seats)?;
         let cursor = kind.cursor;
-        return Reached {
+        return Ok(Reached {
             last: after,
             cursor,
-        };
+        });
     }
     if kind.value == 3 {
         let value = base_streams::next_number(stream, kind.cursor);
         let cursor = value.cursor;
-        return Reached {
+        return Ok(Reached {
             last: (value.value % 65536) as u16,
             cursor,
-        };
+        });
     }
     let cursor = spoil(stream, kind.cursor, seats);
-    Reached { last, cursor }
+    Ok(Reached { last, cursor })
 }
 
 // The steps of a case.
-fn steps(stream: &[u8], first: Reached, count: u32, seats: &mut [[u16; STATE_WORDS]; 8]) -> Cursor {
+fn steps(
+    rt: &impl Print,
+    stream: &[u8],
+    first: Reached,
+    count: u32,
+    seats: &mut [[u16; STATE_WORDS]; 8],
+) -> io::Result<Cursor> {
     let mut s = first;
-    let mut i: u32 = 0;
-    while i < count {
-        s = step(stream, s, seats);
-        i += 1;
+    for _ in 0..count {
+        s = step(rt, stream, s, seats)?;
     }
-    s.cursor
+    Ok(s.cursor)
 }
 
 // A case, from eight empty seats: the number of its steps, then each.
-fn case(stream: &[u8], cursor: Cursor) -> Cursor {
+fn case(rt: &impl Print, stream: &[u8], cursor: Cursor) -> io::Result<Cursor> {
     let count = base_streams::next_number(stream, cursor);
     let mut seats = [[0u16; STATE_WORDS]; 8];
     let turn = words_seats::Turn::new();
     let last = turn.last;
     let cursor = count.cursor;
     let first = Reached { last, cursor };
-    let after = steps(stream, first, count.value, &mut seats);
-    all_seen(&seats);
-    after
+    let after = steps(rt, stream, first, count.value, &mut seats)?;
+    all_seen(rt, &seats)?;
+    Ok(after)
 }
 
 // Every case of a stream, which begins with how many there are.
-fn cases(stream: &[u8]) {
+fn cases(rt: &impl Print, stream: &[u8]) -> io::Result<()> {
     let count = base_streams::next_number(stream, base_streams::begin());
     let total = count.value;
     let first = count.cursor;
     let mut c = first;
-    let mut i: u32 = 0;
-    while i < total {
-        c = case(stream, c);
-        i += 1;
+    for _ in 0..total {
+        c = case(rt, stream, c)?;
     }
     if !base_streams::ended(stream, c) {
-        io::write_all(STDOUT_FILENO, b"fault\n");
+        base_io::write_all(rt, b"fault\n")?;
     }
+    Ok(())
 }
 
 // The file of argument `i`.
-fn one(i: usize) {
-    let mut name = io::buffer();
-    let length = os::arg(i, &mut name);
-    let fd = os::open_read(&name[..length]);
-    if fd < 0 {
-        os::fail(&name[..length]);
-        return;
-    }
-    let mut input = io::large_buffer();
-    let got = io::read_full(fd, &mut input);
-    libc::close(fd);
-    cases(&input[..got]);
+fn one(rt: &(impl Env + Eprint + Files + Print), i: usize) -> io::Result<()> {
+    let mut name = base_io::buffer();
+    let length = base_io::arg(rt, i, &mut name);
+    let mut file = match base_io::open_read(rt, &name[..length]) {
+        Ok(file) => file,
+        Err(error) => return base_io::fail(rt, &name[..length], &error),
+    };
+    let mut input = base_io::large_buffer();
+    let got = base_io::read_full(&mut file, &mut input)?;
+    cases(rt, &input[..got])
 }
 
-fn main() {
-    let count = os::arg_count();
-    let mut i = 1;
-    while i < count {
-        one(i);
-        i += 1;
+fn main(rt: HostRuntime) -> io::Result<()> {
+    let count = base_io::arg_count(&rt);
+    for i in 1..count {
+        one(&rt, i)?;
     }
+    Ok(())
 }

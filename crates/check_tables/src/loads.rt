@@ -2,14 +2,14 @@
 // with the digits of a unit count.
 use base_streams::{Cursor, listed};
 use file_spec::Reading;
-use libc::STDOUT_FILENO;
+use std::io;
 use survey::Survey;
 
-pub(crate) fn of(text: &[u8]) -> Survey {
+pub(crate) fn of(rt: &impl Print, text: &[u8]) -> io::Result<Survey> {
     if is_file(text) {
-        return filed(text);
+        return Ok(filed(text));
     }
-    streamed(text)
+    streamed(rt, text)
 }
 
 fn is_file(text: &[u8]) -> bool {
@@ -46,7 +46,7 @@ fn stored(units: u16, links: usize, words: &[u16], levels: &[i16]) -> Survey {
 // ---- a stream: the unit count, the list of words, the list of levels and, where the planner drew a tree (document 02,
 // T-05), the list of parents
 
-fn streamed(stream: &[u8]) -> Survey {
+fn streamed(rt: &impl Print, stream: &[u8]) -> io::Result<Survey> {
     let units = base_streams::next_number(stream, base_streams::begin());
     let mut words = [0u16; 2048];
     let ends = listed::words(stream, units.cursor, &mut words);
@@ -54,9 +54,10 @@ fn streamed(stream: &[u8]) -> Survey {
     let heard = listed::levels(stream, ends.cursor, &mut levels);
     let units = (units.value % 65536) as u16;
     if base_streams::ended(stream, heard.cursor) {
-        return fresh(units, &words, ends.count, &levels, heard.count);
+        return Ok(fresh(units, &words, ends.count, &levels, heard.count));
     }
     drawn(
+        rt,
         stream,
         heard.cursor,
         units,
@@ -69,6 +70,7 @@ fn streamed(stream: &[u8]) -> Survey {
 
 // The list of parents, at the end.
 fn drawn<'a>(
+    rt: &impl Print,
     stream: &'a [u8],
     cursor: Cursor,
     units: u16,
@@ -76,13 +78,13 @@ fn drawn<'a>(
     count: usize,
     levels: &'a [i16],
     links: usize,
-) -> Survey {
+) -> io::Result<Survey> {
     let mut parents = [0u16; 256];
     let named = listed::words(stream, cursor, &mut parents);
     if !base_streams::ended(stream, named.cursor) {
-        io::write_all(STDOUT_FILENO, b"fault\n");
+        base_io::write_all(rt, b"fault\n")?;
     }
-    planned(units, words, count, levels, links, &parents, named.count)
+    Ok(planned(units, words, count, levels, links, &parents, named.count))
 }
 
 fn fresh<'a>(

@@ -1,125 +1,165 @@
 // Printing rows of tables.
-use libc::STDOUT_FILENO;
+use std::io;
 
-pub(crate) fn text(s: &[u8]) {
-    io::write_all(STDOUT_FILENO, s);
+pub(crate) fn text(rt: &impl Print, s: &[u8]) -> io::Result<()> {
+    base_io::write_all(rt, s)
 }
 
-pub(crate) fn newline() {
-    io::write_all(STDOUT_FILENO, b"\n");
+pub(crate) fn newline(rt: &impl Print) -> io::Result<()> {
+    base_io::write_all(rt, b"\n")
 }
 
-fn space() {
-    io::write_all(STDOUT_FILENO, b" ");
+fn space(rt: &impl Print) -> io::Result<()> {
+    base_io::write_all(rt, b" ")
 }
 
-fn number(n: u16) {
-    io::print_decimal(STDOUT_FILENO, n as u64);
+fn number(rt: &impl Print, n: u16) -> io::Result<()> {
+    base_io::print_decimal(rt, n as u64)
 }
 
 // A number, or a dash where it is absent.
-fn entry(x: u16) {
+fn entry(rt: &impl Print, x: u16) -> io::Result<()> {
     if x == 65535 {
-        io::write_all(STDOUT_FILENO, b"-");
+        base_io::write_all(rt, b"-")
     } else {
-        number(x);
+        number(rt, x)
     }
 }
 
-fn said(word: &[u8], n: u16) {
-    text(word);
-    number(n);
+fn said(rt: &impl Print, word: &[u8], n: u16) -> io::Result<()> {
+    text(rt, word)?;
+    number(rt, n)
 }
 
-pub(crate) fn head(stage: u16, countdown: u16, rounds: u16, requests: u16) {
-    said(b"round ", rounds);
-    said(b" stage ", stage);
-    said(b" countdown ", countdown);
-    said(b" requests ", requests);
-    newline();
+pub(crate) fn head(
+    rt: &impl Print,
+    stage: u16,
+    countdown: u16,
+    rounds: u16,
+    requests: u16,
+) -> io::Result<()> {
+    said(rt, b"round ", rounds)?;
+    said(rt, b" stage ", stage)?;
+    said(rt, b" countdown ", countdown)?;
+    said(rt, b" requests ", requests)?;
+    newline(rt)
 }
 
-fn entries(count: u16, t: &[u16]) {
-    let mut i: u16 = 0;
-    while i < count {
-        space();
-        entry(base_slices::word(t, i as usize));
-        i += 1;
+fn entries(rt: &impl Print, count: u16, t: &[u16]) -> io::Result<()> {
+    for i in 0..count {
+        space(rt)?;
+        entry(rt, base_slices::word(t, i as usize))?;
     }
+    Ok(())
 }
 
-pub(crate) fn row(name: &[u8], count: u16, t: &[u16]) {
-    text(name);
-    entries(count, t);
-    newline();
+pub(crate) fn row(rt: &impl Print, name: &[u8], count: u16, t: &[u16]) -> io::Result<()> {
+    text(rt, name)?;
+    entries(rt, count, t)?;
+    newline(rt)
 }
 
 // An arc as its two units.
-fn arc(parent: &[u16], a: u16) {
+fn arc(rt: &impl Print, parent: &[u16], a: u16) -> io::Result<()> {
     let v = a / 2;
     let p = base_slices::word(parent, v as usize);
     if a % 2 == 0 {
-        number(p);
-        io::write_all(STDOUT_FILENO, b">");
-        number(v);
+        number(rt, p)?;
+        base_io::write_all(rt, b">")?;
+        number(rt, v)
     } else {
-        number(v);
-        io::write_all(STDOUT_FILENO, b">");
-        number(p);
+        number(rt, v)?;
+        base_io::write_all(rt, b">")?;
+        number(rt, p)
     }
 }
 
 // What stands for an arc: another arc, or a number.
-fn arc_entry(names: bool, parent: &[u16], x: u16) {
+fn arc_entry(rt: &impl Print, names: bool, parent: &[u16], x: u16) -> io::Result<()> {
     if names {
         if x == 65535 {
-            io::write_all(STDOUT_FILENO, b"-");
+            base_io::write_all(rt, b"-")
         } else {
-            arc(parent, x);
+            arc(rt, parent, x)
         }
     } else {
-        number(x);
+        number(rt, x)
     }
 }
 
-fn between<'a>(names: bool, parent: &'a [u16], t: &'a [u16], u: u16, v: u16, a: usize) {
-    space();
-    number(u);
-    io::write_all(STDOUT_FILENO, b">");
-    number(v);
-    io::write_all(STDOUT_FILENO, b":");
-    arc_entry(names, parent, base_slices::word(t, a));
+fn between<'a>(
+    rt: &impl Print,
+    names: bool,
+    parent: &'a [u16],
+    t: &'a [u16],
+    u: u16,
+    v: u16,
+    a: usize,
+) -> io::Result<()> {
+    space(rt)?;
+    number(rt, u)?;
+    base_io::write_all(rt, b">")?;
+    number(rt, v)?;
+    base_io::write_all(rt, b":")?;
+    arc_entry(rt, names, parent, base_slices::word(t, a))
 }
 
 // The arc from `u` to `v`, where the tree has one.
-fn arc_from<'a>(names: bool, parent: &'a [u16], t: &'a [u16], u: u16, v: u16) {
+fn arc_from<'a>(
+    rt: &impl Print,
+    names: bool,
+    parent: &'a [u16],
+    t: &'a [u16],
+    u: u16,
+    v: u16,
+) -> io::Result<()> {
     if base_slices::word(parent, v as usize) == u {
-        between(names, parent, t, u, v, 2 * (v as usize));
+        between(rt, names, parent, t, u, v, 2 * (v as usize))
     } else {
         if base_slices::word(parent, u as usize) == v {
-            between(names, parent, t, u, v, 2 * (u as usize) + 1);
+            between(rt, names, parent, t, u, v, 2 * (u as usize) + 1)
+        } else {
+            Ok(())
         }
     }
 }
 
-fn arcs_from<'a>(names: bool, units: u16, parent: &'a [u16], t: &'a [u16], u: u16) {
-    let mut v: u16 = 0;
-    while v < units {
-        arc_from(names, parent, t, u, v);
-        v += 1;
+fn arcs_from<'a>(
+    rt: &impl Print,
+    names: bool,
+    units: u16,
+    parent: &'a [u16],
+    t: &'a [u16],
+    u: u16,
+) -> io::Result<()> {
+    for v in 0..units {
+        arc_from(rt, names, parent, t, u, v)?;
     }
+    Ok(())
 }
 
-fn all_arcs<'a>(names: bool, units: u16, parent: &'a [u16], t: &'a [u16]) {
-    let mut u: u16 = 0;
-    while u < units {
-        arcs_from(names, units, parent, t, u);
-        u += 1;
+fn all_arcs<'a>(
+    rt: &impl Print,
+    names: bool,
+    units: u16,
+    parent: &'a [u16],
+    t: &'a [u16],
+) -> io::Result<()> {
+    for u in 0..units {
+        arcs_from(rt, names, units, parent, t, u)?;
     }
+    Ok(())
 }
 
-pub(crate) fn arc_row<'a>(name: &[u8], names: bool, units: u16, parent: &'a [u16], t: &'a [u16]) {
-    text(name);
-    all_arcs(names, units, parent, t);
-    newline();
+pub(crate) fn arc_row<'a>(
+    rt: &impl Print,
+    name: &[u8],
+    names: bool,
+    units: u16,
+    parent: &'a [u16],
+    t: &'a [u16],
+) -> io::Result<()> {
+    text(rt, name)?;
+    all_arcs(rt, names, units, parent, t)?;
+    newline(rt)
 }

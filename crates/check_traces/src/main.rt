@@ -1,16 +1,19 @@
 // Surveys each file that an argument names, round by round: a line with its name, then the status after the load and
 // after each round.
+#![tactic(auto)]
+
 use file_spec::Reading;
-use libc::STDOUT_FILENO;
+use std::io;
+use std::rt::{Env, Files};
 use survey::{Reply, Survey};
 
-fn number(n: u16) {
-    io::print_decimal(STDOUT_FILENO, n as u64);
-    io::write_all(STDOUT_FILENO, b" ");
+fn number(rt: &impl Print, n: u16) -> io::Result<()> {
+    base_io::print_decimal(rt, n as u64)?;
+    base_io::write_all(rt, b" ")
 }
 
 // Prints the status; whether the survey goes on.
-fn say(s: Survey) -> bool {
+fn say(rt: &impl Print, s: Survey) -> io::Result<bool> {
     let answer = s.status();
     let reply = answer.reply;
     match reply {
@@ -20,87 +23,87 @@ fn say(s: Survey) -> bool {
             rounds,
             requests,
         } => {
-            number(stage);
-            number(countdown);
-            number(rounds);
-            io::print_decimal(STDOUT_FILENO, requests as u64);
-            io::write_all(STDOUT_FILENO, b"\n");
-            stage != 11
+            number(rt, stage)?;
+            number(rt, countdown)?;
+            number(rt, rounds)?;
+            base_io::print_decimal(rt, requests as u64)?;
+            base_io::write_all(rt, b"\n")?;
+            Ok(stage != 11)
         }
         _ => {
-            io::write_all(STDOUT_FILENO, b"refused\n");
-            false
+            base_io::write_all(rt, b"refused\n")?;
+            Ok(false)
         }
     }
 }
 
 // All rounds, at most as many as any survey takes.
-fn rounds(first: Survey) {
+fn rounds(rt: &impl Print, first: Survey) -> io::Result<()> {
     let mut s = first;
-    let mut i: u16 = 0;
-    let mut goes = say(s);
-    while i < 805 {
+    let mut goes = say(rt, s)?;
+    for _ in 0..805 {
         if goes {
             let answer = s.round();
             let next = answer.survey;
             s = next;
-            goes = say(s);
+            goes = say(rt, s)?;
         }
-        i += 1;
     }
+    Ok(())
 }
 
-fn surveyed(units: u16, words: &[u16], levels: &[i16]) {
+fn surveyed(rt: &impl Print, units: u16, words: &[u16], levels: &[i16]) -> io::Result<()> {
     let answer = Survey::new().load_stored(units, words, levels);
     let first = answer.survey;
-    rounds(first);
+    rounds(rt, first)
 }
 
-fn loaded(units: u16, links: usize, words: &[u16], levels: &[i16]) {
+fn loaded(
+    rt: &impl Print,
+    units: u16,
+    links: usize,
+    words: &[u16],
+    levels: &[i16],
+) -> io::Result<()> {
     if words.len() / 2 < links {
-        return;
+        return Ok(());
     }
     if levels.len() < links {
-        return;
+        return Ok(());
     }
     let end = 2 * links;
-    surveyed(units, &words[..end], &levels[..links]);
+    surveyed(rt, units, &words[..end], &levels[..links])
 }
 
-fn read(file: &[u8]) {
+fn read(rt: &impl Print, file: &[u8]) -> io::Result<()> {
     let mut words = [0u16; 2048];
     let mut levels = [0i16; 1024];
     let found = file_read::read(file, &mut words, &mut levels);
     match found {
-        Reading::Read { units, links } => loaded(units, links as usize, &words, &levels),
-        Reading::Refused(_) => {
-            io::write_all(STDOUT_FILENO, b"not read\n");
-        }
+        Reading::Read { units, links } => loaded(rt, units, links as usize, &words, &levels),
+        Reading::Refused(_) => base_io::write_all(rt, b"not read\n"),
     }
 }
 
 // The file of argument `i`.
-fn one(i: usize) {
-    let mut name = io::buffer();
-    let length = os::arg(i, &mut name);
-    io::write_all(STDOUT_FILENO, &name[..length]);
-    io::write_all(STDOUT_FILENO, b"\n");
-    let fd = os::open_read(&name[..length]);
-    if fd < 0 {
-        os::fail(&name[..length]);
-        return;
-    }
-    let mut input = io::large_buffer();
-    let got = io::read_full(fd, &mut input);
-    libc::close(fd);
-    read(&input[..got]);
+fn one(rt: &(impl Env + Eprint + Files + Print), i: usize) -> io::Result<()> {
+    let mut name = base_io::buffer();
+    let length = base_io::arg(rt, i, &mut name);
+    base_io::write_all(rt, &name[..length])?;
+    base_io::write_all(rt, b"\n")?;
+    let mut file = match base_io::open_read(rt, &name[..length]) {
+        Ok(file) => file,
+        Err(error) => return base_io::fail(rt, &name[..length], &error),
+    };
+    let mut input = base_io::large_buffer();
+    let got = base_io::read_full(&mut file, &mut input)?;
+    read(rt, &input[..got])
 }
 
-fn main() {
-    let count = os::arg_count();
-    let mut i = 1;
-    while i < count {
-        one(i);
-        i += 1;
+fn main(rt: HostRuntime) -> io::Result<()> {
+    let count = base_io::arg_count(&rt);
+    for i in 1..count {
+        one(&rt, i)?;
     }
+    Ok(())
 }

@@ -1,9 +1,12 @@
 // Takes its arguments two by two, a survey file and what the program must print for it: a line for each with its name,
 // and at the end the number of files and of those that differ.
-ghost use Rattle.std.specs.Prelude.{◌+◌, ◌≤◌, ◌<◌, ◌^◌};
-ghost use Rattle.io.specs.Counts.{IsPrefixLen};
+#![tactic(auto)]
 
-use libc::STDOUT_FILENO;
+ghost use Rattle.std.specs.Prelude.{◌+◌, ◌≤◌, ◌<◌, ◌^◌, IfOk};
+ghost use Rattle.base_io.specs.Counts.{IsPrefixLen};
+
+use std::io;
+use std::rt::{Env, Files};
 
 // Whether the report of the input is, byte for byte, what is expected.
 fn as_expected(input: &[u8], expected: &[u8]) -> bool {
@@ -17,64 +20,61 @@ fn front_is(out: &[u8], count: usize, expected: &[u8]) -> bool {
     if out.len() < count {
         return false;
     }
-    check::same(&out[..count], expected)
+    &out[..count] == expected
 }
 
 // The file of argument `i` into `buf`, and its length.
-fn read(i: usize, buf: &mut [u8]) -> usize
-    ensures { IsPrefixLen result buf.new }
+fn read(rt: &(impl Env + Eprint + Files + Print), i: usize, buf: &mut [u8]) -> io::Result<usize>
+    ensures { IfOk result (λ n. IsPrefixLen n buf.new) }
 {
-    let mut name = io::buffer();
-    let length = os::arg(i, &mut name);
-    let fd = os::open_read(&name[..length]);
-    if fd < 0 {
-        os::fail(&name[..length]);
-        return 0;
+    let mut name = base_io::buffer();
+    let length = base_io::arg(rt, i, &mut name);
+    match base_io::open_read(rt, &name[..length]) {
+        Ok(mut file) => base_io::read_full(&mut file, buf),
+        Err(error) => {
+            base_io::fail(rt, &name[..length], &error)?;
+            Ok(0)
+        }
     }
-    let got = io::read_full(fd, buf);
-    libc::close(fd);
-    got
 }
 
-fn say(i: usize, same: bool) {
-    let mut name = io::buffer();
-    let length = os::arg(i, &mut name);
-    io::write_all(STDOUT_FILENO, &name[..length]);
+fn say(rt: &(impl Env + Print), i: usize, same: bool) -> io::Result<()> {
+    let mut name = base_io::buffer();
+    let length = base_io::arg(rt, i, &mut name);
+    base_io::write_all(rt, &name[..length])?;
     if same {
-        io::write_all(STDOUT_FILENO, b" as expected\n");
+        base_io::write_all(rt, b" as expected\n")
     } else {
-        io::write_all(STDOUT_FILENO, b" differs\n");
+        base_io::write_all(rt, b" differs\n")
     }
 }
 
 // The pair at argument `i`: 1 where it differs.
-fn one(i: usize) -> u64
+fn one(rt: &(impl Env + Eprint + Files + Print), i: usize) -> io::Result<u64>
     requires { i + 1 < 2 ^ 64 }
-    ensures { result ≤ 1 }
+    ensures { IfOk result (λ n. n ≤ 1) }
 {
-    let mut input = io::large_buffer();
-    let mut expected = io::large_buffer();
-    let given = read(i, &mut input);
-    let wanted = read(i + 1, &mut expected);
+    let mut input = base_io::large_buffer();
+    let mut expected = base_io::large_buffer();
+    let given = read(rt, i, &mut input)?;
+    let wanted = read(rt, i + 1, &mut expected)?;
     let same = as_expected(&input[..given], &expected[..wanted]);
-    say(i, same);
-    if same { 0 } else { 1 }
+    say(rt, i, same)?;
+    if same { Ok(0) } else { Ok(1) }
 }
 
-fn main() {
-    let count = os::arg_count();
+fn main(rt: HostRuntime) -> io::Result<()> {
+    let count = base_io::arg_count(&rt);
     if count == 0 {
-        return;
+        return Ok(());
     }
     let pairs = (count - 1) / 2;
     let mut differ: u64 = 0;
-    let mut k = 0;
-    while k < pairs {
-        differ += one(2 * k + 1);
-        k += 1;
+    for k in 0..pairs {
+        differ += one(&rt, 2 * k + 1)?;
     }
-    io::print_decimal(STDOUT_FILENO, pairs as u64);
-    io::write_all(STDOUT_FILENO, b" files, ");
-    io::print_decimal(STDOUT_FILENO, differ);
-    io::write_all(STDOUT_FILENO, b" differ\n");
+    base_io::print_decimal(&rt, pairs as u64)?;
+    base_io::write_all(&rt, b" files, ")?;
+    base_io::print_decimal(&rt, differ)?;
+    base_io::write_all(&rt, b" differ\n")
 }

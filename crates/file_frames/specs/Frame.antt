@@ -1,7 +1,8 @@
 -- A frame stands on a line of its own (document 01), two upper-case hexadecimal digits for each byte. Its kind comes
 -- first; its check byte comes last and brings the sum to 0 in eight bits. Here a frame's body is its bytes without the
 -- check byte.
-use Rattle.std.specs.Prelude.{ℕ, ◌+◌, ◌-◌, ◌*◌, ◌/◌, ◌%◌, Bool, true, cond, ◌&&◌, List, [], ◌∷◌, ◌++◌, length, take, drop, ◌==◌, nat_le, nat_lt, slice_index}
+use Rattle.std.specs.Prelude.{ℕ, ◌+◌, ◌-◌, ◌*◌, ◌/◌, ◌%◌, Bool, true, cond, ◌&&◌, List, [], ◌∷◌, ◌++◌, length, take}
+use Rattle.std.specs.Prelude.{drop, ◌==◌, nat_le, nat_lt, slice_index}
 
 abbrev pub LF : ℕ
 LF = 10

@@ -1,5 +1,6 @@
 -- Frames there and back: digits and bytes, the check byte, lengths.
-use Rattle.std.specs.Prelude.{◌≡◌, ℕ, zero, suc, ◌+◌, ◌-◌, ◌*◌, ◌/◌, ◌%◌, ◌<◌, ◌≤◌, true, ◌&&◌, ◌⊎◌, ◌↔◌, List, [], ◌∷◌, ◌++◌, length, ◌≢◌, nat_lt, slice_index, refl}
+use Rattle.std.specs.Prelude.{◌≡◌, ℕ, zero, suc, ◌+◌, ◌-◌, ◌*◌, ◌/◌, ◌%◌, ◌<◌, ◌≤◌, true, ◌&&◌, ◌⊎◌, ◌↔◌, List, [], ◌∷◌}
+use Rattle.std.specs.Prelude.{◌++◌, length, ◌≢◌, nat_lt, slice_index, refl}
 use Rattle.std.proofs.Common.{ap, ap₂, inl, inr, arith, length-append, le-leb, lt-ltb, le-ltb, ltb-true}
 use Rattle.std.proofs.Math.Decide.{dec_lt}
 use Rattle.std.proofs.lemmas.Bool.{lt-leb}
@@ -155,7 +156,8 @@ hexes_bytes (c ∷ d ∷ p) k e h =
     let hc : digit_value c < 16 = ltb-true (digit_value c) 16
     (and_left (nat_lt (digit_value c) 16) (nat_lt (digit_value d) 16 && all_digits p) h) in
     let h' = and_right (nat_lt (digit_value c) 16) (nat_lt (digit_value d) 16 && all_digits p) h in
-    let hd : digit_value d < 16 = ltb-true (digit_value d) 16 (and_left (nat_lt (digit_value d) 16) (all_digits p) h') in
+    let hd : digit_value d < 16 =
+    ltb-true (digit_value d) 16 (and_left (nat_lt (digit_value d) 16) (all_digits p) h') in
     ap₂ (λ (x y : List ℕ). x ++ y) (byte_forth c d hc hd)
     (hexes_bytes p (k - 1) (omega arith) (and_right (nat_lt (digit_value d) 16) (all_digits p) h'))
 

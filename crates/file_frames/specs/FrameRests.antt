@@ -1,6 +1,8 @@
 -- Frames from a place on, as a loop along the bytes or characters meets them.
-use Rattle.std.specs.Prelude.{◌≡◌, ℕ, ◌+◌, ◌*◌, ◌/◌, ◌%◌, ◌<◌, ◌≤◌, true, ◌&&◌, List, [], ◌∷◌, ◌++◌, length, take, drop, set, nat_lt, slice_index, slice_index_or, slice_set, refl}
-use Rattle.std.proofs.Common.{ap, ◌∙◌, add-one, arith, drop_of_length-le, length-drop, length-append, take-suc, length-take-le, le-leb}
+use Rattle.std.specs.Prelude.{◌≡◌, ℕ, ◌+◌, ◌*◌, ◌/◌, ◌%◌, ◌<◌, ◌≤◌, true, ◌&&◌, List, [], ◌∷◌, ◌++◌, length, take, drop}
+use Rattle.std.specs.Prelude.{set, nat_lt, slice_index, slice_index_or, slice_set, refl}
+use Rattle.std.proofs.Common.{ap, ◌∙◌, add-one, arith, drop_of_length-le, length-drop, length-append, take-suc}
+use Rattle.std.proofs.Common.{length-take-le, le-leb}
 use Rattle.std.proofs.lemmas.Bool.{lt-leb}
 use Rattle.base_lists.specs.Rests.{rest-one, rest-two}
 use Rattle.base_lists.specs.Lent.{lent, back, back-next}
@@ -71,7 +73,8 @@ hexes_more f out i h fits =
 
 -- ---- a line over the front of a slice
 
-pub line_over-fits : (f out : List ℕ) → line_length f ≤ length out → line_over f out ≡ line_of f ++ drop (line_length f) out
+pub line_over-fits : (f out : List ℕ) → line_length f ≤ length out → line_over f out ≡ line_of f
+    ++ drop (line_length f) out
 unfolding line_over
 line_over-fits f out h = rw (le-leb (line_length f) (length out) h)
 
@@ -82,7 +85,8 @@ line_over-short f out h = rw (lt-leb (line_length f) (length out) h)
 -- the bytes, then the check byte, then the line feed
 pub line-laid : (f out : List ℕ) → line_length f ≤ length out
     → set
-    (set (slice_set (hexes_of f ++ drop (2 * length f) out) (2 * length f) (digit_of (check_byte f / 16))) (2 * length f + 1)
+    (set (slice_set (hexes_of f ++ drop (2 * length f) out) (2 * length f) (digit_of (check_byte f / 16))) (2 * length f
+    + 1)
     (digit_of (check_byte f % 16)))
     (2 * length f + 2)
     LF

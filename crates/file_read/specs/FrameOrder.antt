@@ -53,7 +53,8 @@ after-other l ls n = go ls (ℕ_discrete (kind_of l) END)
     go (k ∷ ls) (no m) = rw (ne_eqb (kind_of l) END m, n)
 
 after-links : (l : Line) (ls : List Line)
-    → in_order_after (l ∷ ls) ≡ order_from (cond (link_kind (kind_of l)) LINKS (cond (kind_of l == END) ENDED BROKEN)) ls
+    → in_order_after (l ∷ ls)
+    ≡ order_from (cond (link_kind (kind_of l)) LINKS (cond (kind_of l == END) ENDED BROKEN)) ls
 unfolding order_from
 after-links l ls = go (either (link_kind (kind_of l)))
   where

@@ -1,6 +1,7 @@
 -- Characters as digits, by a table: a character's mark is its value as a digit, or 16, a bit that no digit has. So the
 -- marks of a line, joined bit by bit, tell whether all its characters are digits.
-use Rattle.std.specs.Prelude.{◌≡◌, ℕ, ◌+◌, ◌%◌, ◌<◌, ◌≤◌, Bool, true, false, cond, ◌&&◌, List, length, drop, replicate, ◌≢◌, bit_or, nat_lt, slice_index, slice_index_or, slice_set, refl}
+use Rattle.std.specs.Prelude.{◌≡◌, ℕ, ◌+◌, ◌%◌, ◌<◌, ◌≤◌, Bool, true, false, cond, ◌&&◌, List, length, drop, replicate}
+use Rattle.std.specs.Prelude.{◌≢◌, bit_or, nat_lt, slice_index, slice_index_or, slice_set, refl}
 use Rattle.std.proofs.Common.{sym, ap, ◌∙◌, arith, length-set, get_or-set_same, get_or-set_other, lt-ltb, le-ltb}
 use Rattle.std.proofs.Math.Path.{subst⁻¹}
 use Rattle.std.proofs.Math.Decide.{ℕ_discrete, dec_lt}
@@ -99,7 +100,8 @@ and_and false b c d = refl
 
 -- the marks seen with two more, and what is left
 pub marks-more : (s : List ℕ) (seen i : ℕ) → i + 1 < length s → all_digits s ≡ (nat_lt seen 16 && all_digits (drop i s))
-    → all_digits s ≡ (nat_lt (bit_or (bit_or seen (digit_value (slice_index s i))) (digit_value (slice_index s (i + 1)))) 16
+    → all_digits s ≡ (nat_lt
+    (bit_or (bit_or seen (digit_value (slice_index s i))) (digit_value (slice_index s (i + 1)))) 16
     && all_digits (drop (i + 2) s))
 marks-more s seen i h e =
     let a = digit_value (slice_index s i) in

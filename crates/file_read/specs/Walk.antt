@@ -1,6 +1,7 @@
 -- A walk along the lines of a file with a cursor: what is known of the whole from the lines passed and those that are
 -- left.
-use Rattle.std.specs.Prelude.{◌≡◌, ℕ, suc, ◌+◌, ◌*◌, ◌<◌, ◌≤◌, Bool, true, false, cond, not, ◌&&◌, ◌||◌, ◌⊎◌, List, [], ◌∷◌, ◌++◌, length, take, drop, ℤ, ◌==◌, ◌≢◌, slice_index, slice_set}
+use Rattle.std.specs.Prelude.{◌≡◌, ℕ, suc, ◌+◌, ◌*◌, ◌<◌, ◌≤◌, Bool, true, false, cond, not, ◌&&◌, ◌||◌, ◌⊎◌, List, []}
+use Rattle.std.specs.Prelude.{◌∷◌, ◌++◌, length, take, drop, ℤ, ◌==◌, ◌≢◌, slice_index, slice_set}
 use Rattle.std.proofs.Math.Path.{refl, sym, ap}
 use Rattle.std.proofs.Common.{subst, ◌∙◌, inl, inr, add-zero, length-drop, drop-drop, get_or-drop, length-take-le}
 use Rattle.std.proofs.Math.Bool.{or_assoc, or-false}
@@ -15,7 +16,8 @@ use Rattle.base_lists.specs.Tests.{either, or_cases, or_false-left, or_false-rig
 use Rattle.table_levels.specs.Level.{LOWEST, in_range, byte_level}
 use Rattle.table.specs.Table.{level_outside}
 use Rattle.file_frames.specs.Frame.{byte_at, word_at, bytes_of}
-use Rattle.file_frames.specs.Kinds.{UNITS, BARE-LINK, LINK, END, frame_bytes, link_kind, kind_front, file_front, line_kind}
+use Rattle.file_frames.specs.Kinds.{UNITS, BARE-LINK, LINK, END, frame_bytes, link_kind, kind_front, file_front}
+use Rattle.file_frames.specs.Kinds.{line_kind}
 use Rattle.file_frames.specs.FrontLaws.{none-front, some-front}
 use Rattle.file_spec.specs.File.{Line, lines_of, kind_of, number_at, faulty_line, in_order_after, in_order, link_frames}
 use Rattle.file_spec.specs.File.{stated_count, ends_in, level_of, levels_in}
@@ -71,7 +73,8 @@ link-long kind e = go (or_cases (kind == BARE-LINK) (kind == LINK) e)
 known-long : (kind : ℕ) → (frame_bytes kind ≢ 0) → 4 ≤ frame_bytes kind
 known-long kind n = go (ℕ_discrete kind UNITS) (either (link_kind kind)) (ℕ_discrete kind END)
   where
-    go : Dec (kind ≡ UNITS) → (link_kind kind ≡ true) ⊎ (link_kind kind ≡ false) → Dec (kind ≡ END) → 4 ≤ frame_bytes kind
+    go : Dec (kind ≡ UNITS) → (link_kind kind ≡ true) ⊎ (link_kind kind ≡ false) → Dec (kind ≡ END)
+        → 4 ≤ frame_bytes kind
     go (yes e) b c = rw e (omega arith)
     go (no a) (inl e) c = omega (arith, link-long kind e)
     go (no a) (inr b) (yes e) = rw e (omega arith)
@@ -115,7 +118,8 @@ module _ (s : List ℕ) (at kind : ℕ) (l : LineAt s at kind) where
   line_word : (i : ℕ) → i + 1 < frame_bytes kind → number_at (front_line (drop at s)) i ≡ word_at s (at + 2 * i)
   line_word i h = front-word (drop at s) l.front i (omega (arith, size)) ∙ word_at_drop s at (2 * i)
 
-  line_byte : (j : ℕ) → j < frame_bytes kind → slice_index (bytes_of (front_line (drop at s)).0) j ≡ byte_at s (at + 2 * j)
+  line_byte : (j : ℕ) → j < frame_bytes kind → slice_index (bytes_of (front_line (drop at s)).0) j
+      ≡ byte_at s (at + 2 * j)
   line_byte j h = front_byte-at (drop at s) l.front j (omega (arith, size)) ∙ byte_at_drop s at (2 * j)
 
   -- the level of a link's line
@@ -408,7 +412,8 @@ module _ (s old words : List ℕ) (oldLevels levels : List ℤ) (at n : ℕ)
       pub fill_link : (a b : ℕ) (z : ℤ) → a ≡ word_at s (at + 2) → b ≡ word_at s (at + 6)
           → z ≡ cond (kind == LINK) (byte_level (byte_at s (at + 10))) LOWEST
           → 2 * link_frames (lines_of s) ≤ length old → link_frames (lines_of s) ≤ length oldLevels
-          → Filled s old (slice_set (slice_set words (2 * n) a) (2 * n + 1) b) oldLevels (slice_set levels n z) (past_at at kind) (n + 1)
+          → Filled s old (slice_set (slice_set words (2 * n) a) (2 * n + 1) b) oldLevels (slice_set levels n z)
+          (past_at at kind) (n + 1)
       unfolding rest
       fill_link a b z p q r fits room =
           let ends = ends_in (lines_of s) in

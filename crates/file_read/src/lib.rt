@@ -1,4 +1,6 @@
 // Survey files read: bytes to words and levels.
+#![tactic(auto)]
+
 ghost use Rattle.std.specs.Prelude.{◌≡◌, [], ◌∷◌, length};
 ghost use Rattle.file_spec.specs.File.{unless, lines_of, units_in, link_frames, read_refusal, read_reply, read_words};
 ghost use Rattle.file_spec.specs.File.{read_levels, reading_number, reading_values};

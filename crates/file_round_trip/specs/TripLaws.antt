@@ -1,14 +1,17 @@
 -- The round trips call by call: what the first call replies, and what the second then finds.
-use Rattle.std.specs.Prelude.{◌≡◌, refl, Bool, true, false, cond, ◌||◌, List, [], ◌∷◌, ℕ, ◌*◌, ◌≤◌, ◌<◌, eqb, ltb, length, take, drop, ℤ}
+use Rattle.std.specs.Prelude.{◌≡◌, refl, Bool, true, false, cond, ◌||◌, List, [], ◌∷◌, ℕ, ◌*◌, ◌≤◌, ◌<◌, eqb, ltb}
+use Rattle.std.specs.Prelude.{length, take, drop, ℤ}
 use Rattle.std.proofs.Math.Path.{sym}
 use Rattle.std.proofs.Common.{ap, ◌∙◌, arith, take_at}
 use Rattle.std.proofs.Math.Decide.{ℕ_discrete, dec_lt}
 use borrow.Author.Tests.{eqb-true, eqb-false, ne_eqb, lt-ltb, le-ltb}
 use Rattle.table.specs.RefusalLaws.{first_some, first-none}
 use Rattle.table.specs.Table.{link_count, fresh_tests, fresh_refusal}
-use Rattle.file_spec.specs.File.{lines_of, units_in, ends_in, levels_in, link_frames, file_of, file_length, read_refusal}
+use Rattle.file_spec.specs.File.{lines_of, units_in, ends_in, levels_in, link_frames, file_of, file_length}
+use Rattle.file_spec.specs.File.{read_refusal}
 use Rattle.file_spec.specs.File.{read_reply, read_words, read_levels, write_refusal, write_reply, written_file}
-use Rattle.file_spec.specs.RoundTrip.{copy_refusal, copy_reply, copied_words, copied_levels, rewrite_refusal, rewrite_reply}
+use Rattle.file_spec.specs.RoundTrip.{copy_refusal, copy_reply, copied_words, copied_levels, rewrite_refusal}
+use Rattle.file_spec.specs.RoundTrip.{rewrite_reply}
 use Rattle.file_spec.specs.RoundTrip.{rewritten_file}
 use Rattle.file_spec.specs.LineSteps.{length-ends}
 use Rattle.file_spec.specs.ReadLaws.{unread-told, read_told}
@@ -127,7 +130,8 @@ module _ (n : ℕ) (t : List ℕ) (ls : List ℤ) (chars : ℕ) where
         let fits = le-ltb chars (file_length (link_count t)) (written-fits n t ls chars unrefused.0) in
         found.refusal places spaces ∙ sym (copy_last n t ls chars places spaces table-passes ∙ rw fits)
 
-    pub copy_read : (places spaces : ℕ) → read_reply (file_of n t ls) places spaces ≡ copy_reply n t ls chars places spaces
+    pub copy_read : (places spaces : ℕ) → read_reply (file_of n t ls) places spaces
+        ≡ copy_reply n t ls chars places spaces
     unfolding read_reply copy_reply
     copy_read places spaces =
         let b = found in

@@ -1,7 +1,10 @@
 // The round trips: what comes back is what was given.
+#![tactic(auto)]
+
 ghost use Rattle.std.specs.Prelude.{◌≡◌, [], ◌∷◌, length};
 ghost use Rattle.table.specs.Table.{link_count};
-ghost use Rattle.file_spec.specs.File.{unless, lines_of, link_frames, file_length, read_words, read_levels, written_file};
+ghost use Rattle.file_spec.specs.File.{unless, lines_of, link_frames, file_length, read_words, read_levels};
+ghost use Rattle.file_spec.specs.File.{written_file};
 ghost use Rattle.file_spec.specs.File.{reading_number, reading_values, writing_number, writing_values};
 ghost use Rattle.file_spec.specs.RoundTrip.{copy_refusal, copy_reply, copied_words, copied_levels, rewrite_refusal};
 ghost use Rattle.file_spec.specs.RoundTrip.{rewrite_reply, rewritten_file};

@@ -35,7 +35,8 @@ levelled_b =
 
 pub read-B : (read_refusal (lines_of file_b) 2048 1024 ≡ 0) × (units_in (lines_of file_b) ≡ 4)
     × (ends_in (lines_of file_b) ≡ case_b) × (levels_in (lines_of file_b) ≡ levels_b)
-unfolding case_b levels_b file_b lines_of prepend whole faulty_line in_order_after in_order link_frames stated_count units_in
+unfolding case_b levels_b file_b lines_of prepend whole faulty_line in_order_after in_order link_frames stated_count
+    units_in
     ends_in levels_in read_refusal all_digits bytes_of sum_of in_range
 read-B = (refl, refl, refl, refl)
 

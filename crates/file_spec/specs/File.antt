@@ -1,6 +1,7 @@
 -- A survey file (documents 01 and 02, T-01): kind 01 the unit count, for each link a kind 03 with its two ends and its
 -- level or a kind 02 without a level, kind 0F the number of links.
-use Rattle.std.specs.Prelude.{Bool, true, false, cond, not, ◌&&◌, ◌||◌, List, [], ◌∷◌, ◌++◌, ℕ, ◌+◌, ◌*◌, ◌%◌, ltb, eqb, length, get_or, ℤ}
+use Rattle.std.specs.Prelude.{Bool, true, false, cond, not, ◌&&◌, ◌||◌, List, [], ◌∷◌, ◌++◌, ℕ, ◌+◌, ◌*◌, ◌%◌, ltb, eqb}
+use Rattle.std.specs.Prelude.{length, get_or, ℤ}
 use Rattle.table_levels.specs.Level.{LOWEST, level_byte, byte_level}
 use Rattle.table.specs.Refusals.{first_of, written}
 use Rattle.table.specs.Table.{link_count, max_links, level_outside, fresh_tests}

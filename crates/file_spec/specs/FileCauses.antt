@@ -1,8 +1,10 @@
 -- Why reading or writing a file is refused, in the words of document 01, and that each test decides its cause: the
 -- reasons of both calls, in order.
-use Rattle.std.specs.Prelude.{◌≡◌, Bool, false, not, ◌&&◌, ◌||◌, ◌⊎◌, ◌↔◌, List, [], ◌∷◌, ◌++◌, ℕ, zero, suc, ◌+◌, ◌*◌, ◌%◌, ◌<◌, eqb, ltb, length, get_or, ℤ}
+use Rattle.std.specs.Prelude.{◌≡◌, Bool, false, not, ◌&&◌, ◌||◌, ◌⊎◌, ◌↔◌, List, [], ◌∷◌, ◌++◌, ℕ, zero, suc, ◌+◌, ◌*◌}
+use Rattle.std.specs.Prelude.{◌%◌, ◌<◌, eqb, ltb, length, get_or, ℤ}
 use Rattle.std.proofs.Math.Path.{refl, sym}
-use Rattle.std.proofs.Common.{ap, ◌∙◌, true≢false, inl, inr, suc-le-suc, le_of_suc-le-suc, not-suc-le-zero, add-one, arith, eq-eqb, ne_eqb, eqb-true, ltb-true, lt-ltb}
+use Rattle.std.proofs.Common.{ap, ◌∙◌, true≢false, inl, inr, suc-le-suc, le_of_suc-le-suc, not-suc-le-zero, add-one}
+use Rattle.std.proofs.Common.{arith, eq-eqb, ne_eqb, eqb-true, ltb-true, lt-ltb}
 use Rattle.std.proofs.Math.Bool.{true}
 use Rattle.std.proofs.lemmas.Bool.{false≢true, eqb-false, not-true, not-false}
 use Rattle.base_lists.specs.Tests.{either, or_cases, or_left, or_right, or_exact, and_left, and_right, and-true}
@@ -145,7 +147,8 @@ unfolding faulty_line
 faults-forth [] e = absurd (false≢true e)
 faults-forth (l ∷ ls) e = go (faults-forth ls) (or_cases (not (whole l)) (faulty_line ls) e)
   where
-    go : (faulty_line ls ≡ true → FaultyLine ls) → (not (whole l) ≡ true) ⊎ (faulty_line ls ≡ true) → FaultyLine (l ∷ ls)
+    go : (faulty_line ls ≡ true → FaultyLine ls) → (not (whole l) ≡ true) ⊎ (faulty_line ls ≡ true)
+        → FaultyLine (l ∷ ls)
     go later (inl h) = (zero, omega arith, faulty-forth l (not-true (whole l) h))
     go later (inr h) = let f = later h in (suc f.0, suc-le-suc f.1, f.2)
 

@@ -1,6 +1,8 @@
 -- The first line of characters: it is whole exactly when the characters begin with the line of a frame of a file kind.
-use Rattle.std.specs.Prelude.{◌≡◌, refl, true, false, not, ◌&&◌, ◌||◌, ◌⊎◌, List, [], ◌∷◌, ◌++◌, ℕ, ◌+◌, ◌*◌, ◌%◌, ◌≤◌, ◌<◌, ltb, eqb, length, get_or, take, drop}
-use Rattle.std.proofs.Common.{sym, ap, ◌∙◌, inl, inr, arith, take-append-drop, take_at, length-take-le, get_or-take, eq-eqb, ne_eqb, eqb-true}
+use Rattle.std.specs.Prelude.{◌≡◌, refl, true, false, not, ◌&&◌, ◌||◌, ◌⊎◌, List, [], ◌∷◌, ◌++◌, ℕ, ◌+◌, ◌*◌, ◌%◌, ◌≤◌}
+use Rattle.std.specs.Prelude.{◌<◌, ltb, eqb, length, get_or, take, drop}
+use Rattle.std.proofs.Common.{sym, ap, ◌∙◌, inl, inr, arith, take-append-drop, take_at, length-take-le, get_or-take}
+use Rattle.std.proofs.Common.{eq-eqb, ne_eqb, eqb-true}
 use Rattle.std.proofs.lemmas.Bool.{false≢true, eqb-false, not-true}
 use Rattle.std.proofs.Math.Decide.{ℕ_discrete, dec_lt}
 use Rattle.std.proofs.Math.ListN.{get_or-append, get_or-eq_default}
@@ -205,7 +207,8 @@ pub front-kind : (s : List ℕ) → file_front s ≡ true → kind_of (front_lin
 front-kind s h = (front_says s h).kind
 
 -- a byte of the first characters
-front_byte : (s : List ℕ) (n j : ℕ) → n ≤ length s → 2 * j + 1 < n → get_or (bytes_of (take n s)) j 0 ≡ byte_at s (2 * j)
+front_byte : (s : List ℕ) (n j : ℕ) → n ≤ length s → 2 * j + 1 < n → get_or (bytes_of (take n s)) j 0
+    ≡ byte_at s (2 * j)
 front_byte s n j l h =
     let long : length (take n s) ≡ n = length-take-le n s l in
     bytes-at (take n s) j (omega arith) ∙ rw (get_or-take n s (2 * j) 0 (omega arith), get_or-take n s (2 * j + 1) 0 h)

@@ -6,7 +6,8 @@ use Rattle.std.proofs.lemmas.Bool.{false≢true}
 use borrow.Author.Tests.{eqb-true}
 use Rattle.base_lists.specs.Tests.{either, or_cases, and_left, and_right}
 use Rattle.file_frames.specs.Kinds.{UNITS, BARE-LINK, LINK, END, link_kind}
-use Rattle.file_spec.specs.File.{Line, kind_of, number_at, in_order_after, in_order, link_frames, stated_count, units_in}
+use Rattle.file_spec.specs.File.{Line, kind_of, number_at, in_order_after, in_order, link_frames, stated_count}
+use Rattle.file_spec.specs.File.{units_in}
 use Rattle.file_spec.specs.File.{ends_in, level_of, levels_in}
 
 module _ (l : Line) (ls : List Line) where
@@ -65,7 +66,8 @@ link_no_end k e = go (or_cases (eqb k BARE-LINK) (eqb k LINK) e)
     go (inl q) = rw (eqb-true k BARE-LINK q)
     go (inr q) = rw (eqb-true k LINK q)
 
-pub after-link : (l : Line) (ls : List Line) → link_kind (kind_of l) ≡ true → in_order_after (l ∷ ls) ≡ in_order_after ls
+pub after-link : (l : Line) (ls : List Line) → link_kind (kind_of l) ≡ true → in_order_after (l ∷ ls)
+    ≡ in_order_after ls
 unfolding in_order_after
 after-link l [] e = link_no_end (kind_of l) e
 after-link l (k ∷ ls) e = rw e

@@ -1,5 +1,6 @@
 -- Reading: the reply by its tests, and what an accepted file holds.
-use Rattle.std.specs.Prelude.{◌≡◌, refl, Bool, true, false, cond, not, ◌||◌, ◌⊎◌, List, [], ◌∷◌, ◌++◌, ℕ, ◌*◌, ◌≤◌, ◌<◌, eqb, ltb, length, take, drop, ℤ}
+use Rattle.std.specs.Prelude.{◌≡◌, refl, Bool, true, false, cond, not, ◌||◌, ◌⊎◌, List, [], ◌∷◌, ◌++◌, ℕ, ◌*◌, ◌≤◌, ◌<◌}
+use Rattle.std.specs.Prelude.{eqb, ltb, length, take, drop, ℤ}
 use Rattle.std.proofs.Math.Path.{sym}
 use Rattle.std.proofs.Common.{ap, ◌∙◌, inl, inr, arith, take_at}
 use Rattle.std.proofs.Math.Bool.{or-true}
@@ -152,7 +153,8 @@ module _ (s : List ℕ) (places spaces : ℕ) (e : read_refusal (lines_of s) pla
   pub accepted-stands : 5 < length s
   accepted-stands = units_stand s sound.lines sound.order
 
-  pub read-accepted : (links : ℕ) → links ≡ link_frames (lines_of s) → Read (word_at s 2) links ≡ read_reply s places spaces
+  pub read-accepted : (links : ℕ) → links ≡ link_frames (lines_of s) → Read (word_at s 2) links
+      ≡ read_reply s places spaces
   unfolding read_reply
   read-accepted links l = rw (e, l, units-read s sound.lines sound.order)
 

@@ -1,6 +1,7 @@
 -- What was read is written back: the file made of what an accepted file holds is that file, each link line with its
 -- level.
-use Rattle.std.specs.Prelude.{◌≡◌, refl, Bool, true, false, cond, not, ◌&&◌, ◌||◌, ◌⊎◌, List, [], ◌∷◌, ◌++◌, ℕ, ◌+◌, ◌/◌, ◌%◌, ◌<◌, eqb, length, get_or, ℤ}
+use Rattle.std.specs.Prelude.{◌≡◌, refl, Bool, true, false, cond, not, ◌&&◌, ◌||◌, ◌⊎◌, List, [], ◌∷◌, ◌++◌, ℕ, ◌+◌}
+use Rattle.std.specs.Prelude.{◌/◌, ◌%◌, ◌<◌, eqb, length, get_or, ℤ}
 use Rattle.std.proofs.Common.{sym, ap, subst, ◌∙◌, inl, inr, append_assoc, append-nil, arith, eqb-true, eq-eqb, ne_eqb}
 use Rattle.std.proofs.lemmas.Bool.{false≢true, eqb-false, not-false}
 use Rattle.std.proofs.Math.Decide.{ℕ_discrete}
@@ -14,7 +15,8 @@ use Rattle.file_frames.specs.FrameLaws.{line_hexes, hexes_bytes, length-bytes, b
 use Rattle.file_frames.specs.Kinds.{UNITS, BARE-LINK, LINK, END, frame_bytes, link_kind}
 use Rattle.file_frames.specs.Bodies.{units_body, link_body, end_body}
 use Rattle.file_spec.specs.File.{Line, lines_of, kind_of, number_at, whole, faulty_line, in_order_after, in_order}
-use Rattle.file_spec.specs.File.{stated_count, units_in, ends_in, level_of, levels_in, link_lines, file_of, read_refusal}
+use Rattle.file_spec.specs.File.{stated_count, units_in, ends_in, level_of, levels_in, link_lines, file_of}
+use Rattle.file_spec.specs.File.{read_refusal}
 use Rattle.file_spec.specs.RoundTrip.{line_back, file_back}
 use Rattle.file_spec.specs.LineLaws.{Whole, whole-line, line-fed}
 use Rattle.file_spec.specs.LineSteps.{ends-link, ends-units, levels-link, levels-units, stated-later}
@@ -47,7 +49,8 @@ word-high x y hx hy = omega arith
 word_low : (x y : ℕ) → y < 256 → word_of x y % 256 ≡ y
 word_low x y hy = omega arith
 
-number-back : (p : List ℕ) → Whole p 4 → line_of (get_or (bytes_of p) 0 0 ∷ word_bytes (number_at (p, true) 1)) ≡ p ++ LF ∷ []
+number-back : (p : List ℕ) → Whole p 4 → line_of (get_or (bytes_of p) 0 0 ∷ word_bytes (number_at (p, true) 1)) ≡ p
+    ++ LF ∷ []
 number-back p w =
     let f = bytes_of p in
     let b = bytes_below p in
@@ -62,7 +65,8 @@ link-back : (p : List ℕ) → Whole p 7
 link-back p w =
     let f = bytes_of p in
     let b = bytes_below p in
-    let e : f ≡ get_or f 0 0 ∷ get_or f 1 0 ∷ get_or f 2 0 ∷ get_or f 3 0 ∷ get_or f 4 0 ∷ get_or f 5 0 ∷ get_or f 6 0 ∷ [] =
+    let e : f ≡ get_or f 0 0 ∷ get_or f 1 0 ∷ get_or f 2 0 ∷ get_or f 3 0 ∷ get_or f 4 0 ∷ get_or f 5 0 ∷ get_or f 6 0
+    ∷ [] =
     seven f (length-bytes p ∙ omega (arith, w.long)) in
     rw (
       word-high (get_or f 1 0) (get_or f 2 0) (b 1) (b 2),
@@ -70,7 +74,8 @@ link-back p w =
       word-high (get_or f 3 0) (get_or f 4 0) (b 3) (b 4),
       word_low (get_or f 3 0) (get_or f 4 0) (b 4),
     )
-    (line-back p (get_or f 0 0 ∷ get_or f 1 0 ∷ get_or f 2 0 ∷ get_or f 3 0 ∷ get_or f 4 0 ∷ get_or f 5 0 ∷ []) (get_or f 6 0) 7 w e
+    (line-back p (get_or f 0 0 ∷ get_or f 1 0 ∷ get_or f 2 0 ∷ get_or f 3 0 ∷ get_or f 4 0 ∷ get_or f 5 0
+    ∷ []) (get_or f 6 0) 7 w e
     (b 6))
 
 module _ (l : Line) (w : whole l ≡ true) where
@@ -98,7 +103,8 @@ module _ (l : Line) (w : whole l ≡ true) where
           let same : level_byte (level_of l) ≡ get_or (bytes_of l.0) 5 0 =
           rw h (twos-signed 256 (get_or (bytes_of l.0) 5 0) (bytes_below l.0 5) refl) in
           ap (λ (b : ℕ). line_of (link_body (number_at l 1) (number_at l 3) b)) same
-          ∙ ap (λ (x : ℕ). line_of (x ∷ word_bytes (number_at l 1) ++ word_bytes (number_at l 3) ++ get_or (bytes_of l.0) 5 0
+          ∙ ap (λ (x : ℕ). line_of (x ∷ word_bytes (number_at l 1) ++ word_bytes (number_at l 3)
+          ++ get_or (bytes_of l.0) 5 0
           ∷ [])) (sym h)
           ∙ link-back l.0 (body LINK 7 refl h)
           ∙ sym (rw h refl)
@@ -133,7 +139,8 @@ unfolding file_back
 more-back l ls = refl
 
 tail_more : (l m : Line) (ls : List Line) → whole l ≡ true → link_kind (kind_of l) ≡ true
-    → link_lines (ends_in (m ∷ ls)) (levels_in (m ∷ ls)) ++ line_of (end_body (stated_count (m ∷ ls))) ≡ file_back (m ∷ ls)
+    → link_lines (ends_in (m ∷ ls)) (levels_in (m ∷ ls)) ++ line_of (end_body (stated_count (m ∷ ls)))
+    ≡ file_back (m ∷ ls)
     → link_lines (ends_in (l ∷ m ∷ ls)) (levels_in (l ∷ m ∷ ls)) ++ line_of (end_body (stated_count (l ∷ m ∷ ls)))
     ≡ file_back (l ∷ m ∷ ls)
 tail_more l m ls w k t =
@@ -172,7 +179,8 @@ file-back l ls sound h count =
     let k : kind_of l ≡ UNITS = (first-units l ls h).0 in
     let t = tail-back ls (later-whole l ls sound) (first-units l ls h).1 in
     let first = line_of (units_body (number_at l 1)) in
-    let stated : link_count (ends_in (l ∷ ls)) ≡ stated_count ls = sym count ∙ stated-after l ls (first-units l ls h).1 in
+    let stated : link_count (ends_in (l ∷ ls)) ≡ stated_count ls = sym count
+    ∙ stated-after l ls (first-units l ls h).1 in
     rw (stated, units-first l ls, ends-units l ls k, levels-units l ls k)
     (append_assoc first (link_lines (ends_in ls) (levels_in ls)) (line_of (end_body (stated_count ls)))
     ∙ ap (λ (r : List ℕ). first ++ r) t
@@ -213,5 +221,6 @@ same_lines (l ∷ ls) sound h =
     )
     (append_assoc l.0 (LF ∷ []) (joined ls))
 
-pub same-file : (s : List ℕ) → faulty_line (lines_of s) ≡ false → bare_in (lines_of s) ≡ false → file_back (lines_of s) ≡ s
+pub same-file : (s : List ℕ) → faulty_line (lines_of s) ≡ false → bare_in (lines_of s) ≡ false → file_back (lines_of s)
+    ≡ s
 same-file s sound h = same_lines (lines_of s) sound h ∙ (lines-right s).whole

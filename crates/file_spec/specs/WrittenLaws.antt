@@ -1,5 +1,6 @@
 -- What is written is read back: the lines of a file that was written, and what is read from them.
-use Rattle.std.specs.Prelude.{◌≡◌, true, false, cond, ◌||◌, ℕ, zero, suc, ◌+◌, ◌*◌, ◌/◌, ◌%◌, ◌≤◌, ◌<◌, ltb, length, get_or, ℤ}
+use Rattle.std.specs.Prelude.{◌≡◌, true, false, cond, ◌||◌, ℕ, zero, suc, ◌+◌, ◌*◌, ◌/◌, ◌%◌, ◌≤◌, ◌<◌, ltb, length}
+use Rattle.std.specs.Prelude.{get_or, ℤ}
 use Rattle.std.proofs.Math.Path.{refl}
 use Rattle.std.proofs.Common.{sym, ap, ◌∙◌, arith, length-append}
 use mathlib.Core.List.{List, [], ◌∷◌, ◌++◌, append_assoc, append-nil}
@@ -102,7 +103,8 @@ abbrev link_frame : ℕ → ℕ → ℤ → Line
 link_frame a b z = frame_line (link_body a b (level_byte z))
 
 module _ (a b : ℕ) (z : ℤ) where
-  read-bytes : bytes_of (link_frame a b z).0 ≡ link_body a b (level_byte z) ++ check_byte (link_body a b (level_byte z)) ∷ []
+  read-bytes : bytes_of (link_frame a b z).0 ≡ link_body a b (level_byte z) ++ check_byte (link_body a b (level_byte z))
+      ∷ []
   read-bytes = line-bytes (link_body a b (level_byte z)) (link-bytes a b z)
 
   link-kind : kind_of (link_frame a b z) ≡ LINK
@@ -131,7 +133,8 @@ link_frames_of (a ∷ []) ls = []
 link_frames_of (a ∷ b ∷ t) [] = []
 link_frames_of (a ∷ b ∷ t) (z ∷ ls) = link_frame a b z ∷ link_frames_of t ls
 
-links-lines : (t : List ℕ) (ls : List ℤ) (s : List ℕ) → lines_of (link_lines t ls ++ s) ≡ link_frames_of t ls ++ lines_of s
+links-lines : (t : List ℕ) (ls : List ℤ) (s : List ℕ) → lines_of (link_lines t ls ++ s) ≡ link_frames_of t ls
+    ++ lines_of s
 unfolding link_lines link_frames_of
 links-lines [] ls s = refl
 links-lines (a ∷ []) ls s = refl

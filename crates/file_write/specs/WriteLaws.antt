@@ -1,5 +1,6 @@
 -- Writing: the reply by its tests, and the lines of the links laid down one after the other.
-use Rattle.std.specs.Prelude.{◌≡◌, refl, List, [], ◌∷◌, ◌++◌, ℕ, zero, suc, ◌+◌, ◌*◌, ◌/◌, ◌≤◌, ◌<◌, get_or, take, drop, ℤ, pos}
+use Rattle.std.specs.Prelude.{◌≡◌, refl, List, [], ◌∷◌, ◌++◌, ℕ, zero, suc, ◌+◌, ◌*◌, ◌/◌, ◌≤◌, ◌<◌, get_or, take, drop}
+use Rattle.std.specs.Prelude.{ℤ, pos}
 use Rattle.std.proofs.Math.Path.{sym}
 use Rattle.std.proofs.Common.{ap, ◌∙◌, append_assoc, append-nil, ne_eqb, lt-ltb, le-ltb, length-take-le}
 use Rattle.std.proofs.Math.Decide.{ℕ_discrete, dec_lt}
@@ -53,7 +54,8 @@ link_line a b z = line_of (link_body a b (level_byte z))
 length-link_line : (a b : ℕ) (z : ℤ) → length (link_line a b z) ≡ 15
 length-link_line a b z = length-line (link_body a b (level_byte z))
 
-pub length-link_lines : (t : List ℕ) (ls : List ℤ) → length ls ≡ link_count t → length (link_lines t ls) ≡ 15 * link_count t
+pub length-link_lines : (t : List ℕ) (ls : List ℤ) → length ls ≡ link_count t → length (link_lines t ls)
+    ≡ 15 * link_count t
 unfolding link_lines
 length-link_lines [] ls e = refl
 length-link_lines (a ∷ []) ls e = refl
@@ -131,7 +133,8 @@ module _ (n : ℕ) (t : List ℕ) (ls : List ℤ) (out : List ℕ) (one : length
       (length-line (units_body n)) refl
 
   -- then their number
-  laid_end : back (9 + 15 * link_count t) ((line_of (units_body n) ++ link_lines t ls) ++ drop (9 + 15 * link_count t) out)
+  laid_end : back (9 + 15 * link_count t) ((line_of (units_body n) ++ link_lines t ls)
+      ++ drop (9 + 15 * link_count t) out)
       (line_over (end_body (link_count t))
       (lent (9 + 15 * link_count t) ((line_of (units_body n) ++ link_lines t ls) ++ drop (9 + 15 * link_count t) out)))
       ≡ file_of n t ls ++ drop (file_length (link_count t)) out
@@ -141,7 +144,8 @@ module _ (n : ℕ) (t : List ℕ) (ls : List ℤ) (out : List ℕ) (one : length
       let long : length (u ++ link_lines t ls) ≡ 9 + 15 * link_count t =
       length-append u (link_lines t ls) ∙ omega (arith, length-line (units_body n), length-link_lines t ls one) in
       let e : 9 + 15 * link_count t + 9 ≡ file_length (link_count t) = omega arith in
-      rw (← e) (line-next (end_body (link_count t)) (u ++ link_lines t ls) out (9 + 15 * link_count t) long (omega arith))
+      rw (← e) (line-next (end_body (link_count t)) (u ++ link_lines t ls) out (9
+      + 15 * link_count t) long (omega arith))
 
   pub file-laid : back (9 + 15 * link_count t)
       (back 9 (line_over (units_body n) out)

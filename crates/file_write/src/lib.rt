@@ -1,4 +1,6 @@
 // Survey files written: words and levels to bytes.
+#![tactic(auto)]
+
 ghost use Rattle.std.specs.Prelude.{◌≡◌, [], ◌∷◌, length};
 ghost use Rattle.table.specs.Table.{link_count};
 ghost use Rattle.file_spec.specs.File.{unless, file_length, write_refusal, write_reply, written_file, writing_number};

@@ -58,5 +58,6 @@ pub record Handsets : Type 0 where
   pub foreman : (s : State) (out : List ℕ) → Shows FOREMAN-LINE (foreman_line s) s out
   pub service : (s : State) (out : List ℕ) → Shows SERVICE-LINE (service_line s) s out
   pub same : (s r : State) → Agree s r → SameForeman s r
-  pub foreman_says : (s : State) → Kept s → Says 0x20 5 (foreman_line s) (foreman_read (foreman_line s)) (take 2 (told s))
+  pub foreman_says : (s : State) → Kept s
+      → Says 0x20 5 (foreman_line s) (foreman_read (foreman_line s)) (take 2 (told s))
   pub service_says : (s : State) → Kept s → Says 0x21 9 (service_line s) (service_read (service_line s)) (told s)

@@ -2,5 +2,4 @@ pub mod Lines
 pub mod LineLaws
 pub mod ReadBack
 pub mod Handsets
-pub mod HandsetsProof
 pub mod Example

@@ -5,7 +5,8 @@ use Rattle.std.proofs.Common.{sym, ap, ap₂, ◌∙◌, arith, length-append}
 use mathlib.Core.List.{List, [], ◌∷◌, ◌++◌}
 use Rattle.std.proofs.Math.ListN.{get_or-append}
 use Rattle.std.proofs.Math.Seq.{take_at, get_or_at}
-use Rattle.file_frames.specs.Frame.{LF, word_bytes, word_of, byte_of, byte_at, word_at, hexes_of, check_byte, line_of, bytes_of}
+use Rattle.file_frames.specs.Frame.{LF, word_bytes, word_of, byte_of, byte_at, word_at, hexes_of, check_byte, line_of}
+use Rattle.file_frames.specs.Frame.{bytes_of}
 use Rattle.file_frames.specs.Frame.{line_front}
 use Rattle.file_frames.specs.FrameLaws.{Bytes, length_hexes, bytes_hexes, hexes_digits, bytes-at, check_below}
 use Rattle.file_frames.specs.FrameLaws.{check_sum, line_hexes}
@@ -61,7 +62,8 @@ module _ (f : List ℕ) (all : Bytes f) where
       let p = hexes_of frame in
       let within : 2 * i + 1 < length p = omega (arith, digits_long, h) in
       let first : 2 * i < length p = omega (arith, within) in
-      let read : get_or (bytes_of p) i 0 ≡ byte_of (get_or p (2 * i) 0) (get_or p (2 * i + 1) 0) = bytes-at p i within in
+      let read : get_or (bytes_of p) i 0 ≡ byte_of (get_or p (2 * i) 0) (get_or p (2 * i + 1) 0) =
+      bytes-at p i within in
       rw (line_hexes f, get_or-append p (LF ∷ []) 0 (2 * i) first, get_or-append p (LF ∷ []) 0 (2 * i + 1) within)
       (sym read ∙ (ap (λ (g : List ℕ). get_or g i 0) (bytes_hexes frame frame-bytes)
       ∙ get_or-append f (check_byte f ∷ []) 0 i h))
@@ -70,7 +72,8 @@ module _ (f : List ℕ) (all : Bytes f) where
   pub line_word : (i : ℕ) → i + 1 < length f → word_at (line_of f) (2 * i) ≡ word_of (get_or f i 0) (get_or f (i + 1) 0)
   line_word i h =
       let later : 2 * i + 2 ≡ 2 * (i + 1) = omega arith in
-      let low : byte_at (line_of f) (2 * i + 2) ≡ get_or f (i + 1) 0 = ap (byte_at (line_of f)) later ∙ line_byte (i + 1) h in
+      let low : byte_at (line_of f) (2 * i + 2) ≡ get_or f (i + 1) 0 = ap (byte_at (line_of f)) later
+      ∙ line_byte (i + 1) h in
       ap₂ word_of (line_byte i (omega (arith, h))) low
 
 pub word_back : (w : ℕ) → w < 65536 → word_of (w / 256 % 256) (w % 256) ≡ w

@@ -1,4 +1,6 @@
 // The lines of the two handsets (T-06), both written from one status record.
+#![tactic(auto)]
+
 pub mod foreman;
 pub mod service;
 
@@ -8,7 +10,7 @@ ghost use Rattle.file_frames.specs.Frame.{line_of};
 ghost use Rattle.handset_lines.specs.Lines.{line_needed, line_body, room_refusal};
 
 // What a status tells.
-#[derive(Drop)]
+#[derive(Clone, Copy)]
 pub struct Status {
     pub stage: u16,
     pub countdown: u16,

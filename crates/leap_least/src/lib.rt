@@ -1,11 +1,13 @@
 // Leaps: many rounds of the least value at once, of stage 1 over links and of stage 9 over joins.
+#![tactic(auto)]
+
 ghost use Rattle.std.specs.Prelude.{◌≡◌, true, false, ◌+◌, ◌≤◌, min};
 ghost use Rattle.leap_least.specs.Leapt.{Leapt, rounds_in, passed};
 
 use spec_state::Clock;
 
 // What a run of a stage leaves that ends within its budget, and whether that is right.
-#[derive(Drop)]
+#[derive(Clone, Copy)]
 pub struct Landed {
     pub right: bool,
     pub value: [u16; 256],

@@ -1,6 +1,7 @@
 -- What a walk finds of an object is one number, its key: the rank times 65,536 and the sum. The tests that code makes
 -- of these numbers, and that they say what Found asks.
-use Rattle.std.specs.Prelude.{◌≡◌, ℕ, ◌+◌, ◌/◌, ◌%◌, ◌<◌, ◌≤◌, max, Bool, true, cond, ◌&&◌, ◌⊎◌, List, length, ◌==◌, ◌≢◌, nat_lt, refl}
+use Rattle.std.specs.Prelude.{◌≡◌, ℕ, ◌+◌, ◌/◌, ◌%◌, ◌<◌, ◌≤◌, max, Bool, true, cond, ◌&&◌, ◌⊎◌, List, length, ◌==◌}
+use Rattle.std.specs.Prelude.{◌≢◌, nat_lt, refl}
 use Rattle.std.proofs.Common.{sym, ap, ◌∙◌, inl, inr, add-one, arith}
 use Rattle.std.proofs.Math.Decide.{ℕ_discrete}
 use borrow.Author.Tests.{eqb-true, eq-eqb, ne_eqb, ltb-true, leb-true}
@@ -92,7 +93,8 @@ module _ (k : ℕ) (jump sum key ended : List ℕ) (few : k ≤ 512) (jumps : k 
 
   module _ (ranks : List ℕ) (ranked : ranks ≡ over k (λ (a : ℕ). rank_in (at key a)) sum) where
     rank-at : (a : ℕ) → a < k → digits_at ranks a ≡ digits (rank_in (at key a))
-    rank-at a l = ap digits (rw ranked (get_d_over k (λ (a : ℕ). rank_in (at key a)) sum a 0 l (omega (arith, l, sums))))
+    rank-at a l = ap digits
+        (rw ranked (get_d_over k (λ (a : ℕ). rank_in (at key a)) sum a 0 l (omega (arith, l, sums))))
 
     found-keys : (requests rounds : ℕ) → requests ≡ Folds.sum k (digits_at ranks) →
         rounds ≡ fold max k (digits_at ranks) 0 → Found k jump sum ended requests rounds

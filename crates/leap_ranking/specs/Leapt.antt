@@ -1,6 +1,7 @@
 -- The rounds of a ranking that a leap stands for, and that a run of the stage leaves what the leap gives. One law for
 -- stages 4 and 6.
-use Rattle.std.specs.Prelude.{◌≡◌, ℕ, zero, suc, ◌+◌, ◌-◌, ◌*◌, ◌/◌, ◌<◌, ◌≤◌, min, Bool, true, false, cond, ◌&&◌, ◌⊎◌, List, nat_le}
+use Rattle.std.specs.Prelude.{◌≡◌, ℕ, zero, suc, ◌+◌, ◌-◌, ◌*◌, ◌/◌, ◌<◌, ◌≤◌, min, Bool, true, false, cond, ◌&&◌, ◌⊎◌}
+use Rattle.std.specs.Prelude.{List, nat_le}
 use Rattle.std.proofs.Math.Path.{refl, sym, ap}
 use Rattle.std.proofs.Common.{◌∙◌, inl, inr, leb-true}
 use Rattle.std.proofs.Math.Decide.{ℕ_discrete}

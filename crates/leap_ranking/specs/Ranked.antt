@@ -1,6 +1,7 @@
 -- Objects ranked ahead: for each the objects that stand before it in its list, and the sum over these and itself, right
 -- over every object. A round leaves the sums right and halves the ranks; where they come from does not matter.
-use Rattle.std.specs.Prelude.{◌≡◌, ℕ, zero, suc, ◌+◌, ◌/◌, ◌^◌, ◌<◌, ◌≤◌, true, false, cond, ◌⊎◌, List, length, ◌==◌, refl}
+use Rattle.std.specs.Prelude.{◌≡◌, ℕ, zero, suc, ◌+◌, ◌/◌, ◌^◌, ◌<◌, ◌≤◌, true, false, cond, ◌⊎◌, List, length, ◌==◌}
+use Rattle.std.specs.Prelude.{refl}
 use Rattle.std.proofs.Math.Path.{sym, ap}
 use Rattle.std.proofs.Common.{◌∙◌, inl, inr, le_antisymm, arith}
 use borrow.Author.Tests.{eq-eqb, ne_eqb}

@@ -1,5 +1,7 @@
 // Rankings at once: all rounds of stage 4, or of stage 6. A walk along the lists of objects gives each its rank and its
 // sum; tests over every object say whether these are right. The walk is proved safe and no more.
+#![tactic(auto)]
+
 ghost use Rattle.std.specs.Prelude.{◌≡◌, ◌+◌, ◌≤◌, true, false};
 ghost use Rattle.spec_rules.specs.Ceilings.{ranking_ceiling};
 ghost use Rattle.leap_ranking.specs.Leapt.{tried, cleared, passed, Found, Leapt};
@@ -21,7 +23,7 @@ struct Summed {
 }
 
 // What a run of a ranking leaves that ends within its budget, and whether that is right.
-#[derive(Drop)]
+#[derive(Clone, Copy)]
 pub struct Landed {
     pub right: bool,
     pub jump: [u16; 512],

@@ -1,5 +1,7 @@
 // Rounds of the least value, found by a search: the values that units end with, over any table of pairs of units. The
 // search is proved safe and no more; tests say whether what it finds is right.
+#![tactic(auto)]
+
 ghost use Rattle.std.specs.Prelude.{◌≡◌, true, false};
 ghost use Rattle.leap_tests.specs.Found.{Found};
 

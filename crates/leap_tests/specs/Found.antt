@@ -1,6 +1,7 @@
 -- What a search finds of a unit is one number: the value that it ends with times 65,536 and the rounds in which it gets
 -- there. The tests that code makes of these numbers, and that they say what Settling asks.
-use Rattle.std.specs.Prelude.{◌≡◌, ℕ, suc, ◌+◌, ◌-◌, ◌*◌, ◌/◌, ◌%◌, ◌<◌, ◌≤◌, max, Bool, true, cond, ◌&&◌, ◌||◌, ltb, ◌⊎◌, List, length, take, ◌==◌, nat_lt, slice_index}
+use Rattle.std.specs.Prelude.{◌≡◌, ℕ, suc, ◌+◌, ◌-◌, ◌*◌, ◌/◌, ◌%◌, ◌<◌, ◌≤◌, max, Bool, true, cond, ◌&&◌, ◌||◌, ltb}
+use Rattle.std.specs.Prelude.{◌⊎◌, List, length, take, ◌==◌, nat_lt, slice_index}
 use Rattle.std.proofs.Math.Path.{refl}
 use Rattle.std.proofs.Common.{sym, ◌∙◌, inl, inr, add-one, arith, length-take, get_or-take}
 use borrow.Author.Tests.{eqb-true, eq-eqb, ne_eqb, ltb-true}
@@ -182,7 +183,8 @@ within_all n m ends room e = (room, below)
     below i h =
         let t = take (2 * m) ends in
         let in-t : i < length t = rw (length-take (2 * m) ends) (omega (arith, h, room)) in
-        rw (get_or-take (2 * m) ends i 0 h) at (ltb-true (slice_index t i) n (every-at (λ (x : ℕ). ltb x n) t i 0 e in-t))
+        rw (get_or-take (2 * m) ends i 0 h) at
+        (ltb-true (slice_index t i) n (every-at (λ (x : ℕ). ltb x n) t i 0 e in-t))
 
 -- units that exist are below 256
 pub within-few : (n m : ℕ) (ends : List ℕ) → n ≤ 256 → EndsWithin n m ends → EndsWithin 256 m ends

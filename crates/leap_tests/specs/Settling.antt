@@ -49,7 +49,8 @@ heard-above m ends value v z own pairs =
     least-greatest m (λ (j : ℕ). heard value (end_a ends j) (end_b ends j) v) (at value v) z own
     (λ (j : ℕ) (l : j < m). go j l (ℕ_discrete (end_a ends j) v) (ℕ_discrete (end_b ends j) v))
   where
-    go : (j : ℕ) → j < m → Dec (end_a ends j ≡ v) → Dec (end_b ends j ≡ v) → z ≤ heard value (end_a ends j) (end_b ends j) v
+    go : (j : ℕ) → j < m → Dec (end_a ends j ≡ v) → Dec (end_b ends j ≡ v)
+        → z ≤ heard value (end_a ends j) (end_b ends j) v
     go j l (yes d) e = rw (eq-eqb (end_a ends j) v d) (pairs j (end_b ends j) l (inl (d, refl)))
     go j l (no d) (yes e) = rw (
       ne_eqb (end_a ends j) v d,

@@ -1,5 +1,7 @@
 // Whether what a search found of the least value's rounds is right: of each unit one number, the value that it ends
 // with times 65,536 and the rounds in which it gets there. Tests over every pair and every unit.
+#![tactic(auto)]
+
 ghost use Rattle.std.specs.Prelude.{◌≡◌, ℕ, ◌-◌, ◌<◌, ◌≤◌, max, true, false, length, slice_index};
 ghost use Rattle.base_lists.specs.Folds.{fold};
 ghost use Rattle.base_lists.specs.Tables.{over};
@@ -10,7 +12,7 @@ ghost use Rattle.leap_tests.specs.Found.{last_in, wait_in, Close, leads, led, un
 use table_values::bounds;
 
 // Whether the units end with the values that they have now, and after how many rounds that change something.
-#[derive(Drop)]
+#[derive(Clone, Copy)]
 pub struct Arrived {
     pub right: bool,
     pub rounds: u16,

@@ -2,7 +2,8 @@
 -- holds the same.
 use Rattle.std.specs.Prelude.{◌≡◌, Bool, true, false, cond, ◌⊎◌, ◌≢◌, List, eqb, length, get_or, set}
 use Rattle.std.proofs.Math.Path.{refl, sym}
-use Rattle.std.proofs.Common.{ap, ◌∙◌, inl, inr, add-one, arith, get_or-set_same, get_or-set_other, eqb-true, eq-eqb, ne_eqb}
+use Rattle.std.proofs.Common.{ap, ◌∙◌, inl, inr, add-one, arith, get_or-set_same, get_or-set_other, eqb-true, eq-eqb}
+use Rattle.std.proofs.Common.{ne_eqb}
 use Prim.Native.Nat.{ℕ, zero, suc, ◌+◌, ◌-◌, ◌≤◌, ◌<◌}
 use Rattle.std.proofs.Math.Decide.{ℕ_discrete}
 use Rattle.base_lists.specs.Tests.{either}
@@ -37,7 +38,8 @@ unfolding last_before
 last-holds t v zero i e = absurd (omega arith)
 last-holds t v (suc c) i e = go (either (eqb (get_or t c 0) v)) (last-holds t v c i)
   where
-    go : (eqb (get_or t c 0) v ≡ true) ⊎ (eqb (get_or t c 0) v ≡ false) → (last_before t v c ≡ suc i → get_or t i 0 ≡ v) →
+    go : (eqb (get_or t c 0) v ≡ true) ⊎ (eqb (get_or t c 0) v ≡ false) → (last_before t v c ≡ suc i → get_or t i 0 ≡ v)
+        →
         get_or t i 0 ≡ v
     go (inl q) later = let r : suc c ≡ suc i = rw q at e in let s : i ≡ c =
         omega arith in rw s (eqb-true (get_or t c 0) v q)
@@ -52,7 +54,8 @@ chained_none t last next h = record { begins = h; goes = λ k l. absurd (omega a
 -- one word more: its place goes on where the chain of what it holds began, which begins at it now
 pub chained_more : (t last next last' next' : List ℕ) (i : ℕ) → Words t → i < length t → length last ≡ 256 →
     length next ≡ 2048
-    → Chained t last next i → next' ≡ set next i (get_or last (get_or t i 0) 0) → last' ≡ set last (get_or t i 0) (i + 1) →
+    → Chained t last next i → next' ≡ set next i (get_or last (get_or t i 0) 0) → last'
+    ≡ set last (get_or t i 0) (i + 1) →
     Chained t last' next' (i + 1)
 unfolding last_before
 chained_more t last next last' next' i w l a b c en el =

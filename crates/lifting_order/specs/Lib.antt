@@ -8,5 +8,4 @@ pub mod Chains
 pub mod Marking
 pub mod Standing
 pub mod Written
-pub mod WrittenLaws
 pub mod Example

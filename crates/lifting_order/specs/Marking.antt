@@ -39,7 +39,8 @@ pub set_at : (x : List ℕ) (i w y : ℕ) → w < length x → get_or (set x i y
 set_at x i w y l = go (ℕ_discrete w i)
   where
     go : Dec (w ≡ i) → get_or (set x i y) w 0 ≡ cond (eqb i w) y (get_or x w 0)
-    go (yes e) = rw (eq-eqb i w (sym e)) (ap (λ (z : ℕ). get_or (set x i y) z 0) e ∙ get_or-set_same x i y 0 (rw (sym e) l))
+    go (yes e) = rw (eq-eqb i w (sym e)) (ap (λ (z : ℕ). get_or (set x i y) z 0) e
+        ∙ get_or-set_same x i y 0 (rw (sym e) l))
     go (no e) = rw (ne_eqb i w (λ q. e (sym q))) (get_or-set_other x i w y 0 e)
 
 even-other : (j : ℕ) → other_of (2 * j) ≡ 2 * j + 1
@@ -82,7 +83,8 @@ module _ (t : List ℕ) (v : ℕ) (f : ℕ → ℕ → ℕ) where
 
   -- the entry of w after place i
   place_at : (i o w : ℕ) (x : List ℕ) → w < length x → other_of i ≡ o
-      → get_or (at_place i x) w 0 ≡ cond (eqb (get_or t i 0) v && eqb (get_or t o 0) w) (f i (get_or x w 0)) (get_or x w 0)
+      → get_or (at_place i x) w 0
+      ≡ cond (eqb (get_or t i 0) v && eqb (get_or t o 0) w) (f i (get_or x w 0)) (get_or x w 0)
   place_at i o w x l e = rw (sym e) (go (eqb (get_or t i 0) v))
     where
       u : ℕ
@@ -111,7 +113,8 @@ module _ (t : List ℕ) (v : ℕ) (f : ℕ → ℕ → ℕ) where
 
 -- ---- the store of a walk
 
-pub walk_store : (mark : Bool) (t x new : List ℕ) (i o w y z u : ℕ) → o ≡ other_of i → w ≡ get_or t o 0 → y ≡ get_or x w 0 →
+pub walk_store : (mark : Bool) (t x new : List ℕ) (i o w y z u : ℕ) → o ≡ other_of i → w ≡ get_or t o 0 → y
+    ≡ get_or x w 0 →
     z ≡ y - i % 2
     → u ≡ cond mark 1 z → new ≡ set x w u → new ≡ acts t (does mark) i x
 walk_store mark t x new i o w y z u eo ew ey ez eu en = rw (en, eu, ez, ey, ew, eo) refl

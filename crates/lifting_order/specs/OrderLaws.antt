@@ -75,7 +75,8 @@ free-exact p s v = (to, from)
     from : ((y : ℕ) → Pair p v y → Mem y s) → free p s v ≡ true
     from f = none.1 (λ c. let (k, h, q) = c in let r = (test k).0 q in r.1 (f (end_b p k) (k, h, r.0, refl)))
 
-pub may-exact : (n : ℕ) (t p s : List ℕ) (v : ℕ) → v < n → (may_stand t p s v ≡ true) ↔ MayStand n (Joins t) (Pair p) s v
+pub may-exact : (n : ℕ) (t p s : List ℕ) (v : ℕ) → v < n
+    → (may_stand t p s v ≡ true) ↔ MayStand n (Joins t) (Pair p) s v
 may-exact n t p s v l = (
   λ e. let r = all.0 e in record { unit = l; down = r.0; held = r.1.0; free = r.1.1 },
   λ q. all.1 (q.down, (q.held, q.free)),

@@ -1,8 +1,10 @@
 -- What is kept of the units while they come to stand: whether each is within reach, how much it waits for, and the
 -- order so far. One unit more stands.
-use Rattle.std.specs.Prelude.{◌≡◌, Bool, cond, not, ◌&&◌, ◌||◌, ◌⊎◌, ◌≢◌, List, [], ◌∷◌, ◌++◌, ℕ, zero, suc, ◌+◌, ◌-◌, ◌*◌, ◌≤◌, ◌<◌, min, eqb, length, set, drop}
+use Rattle.std.specs.Prelude.{◌≡◌, Bool, cond, not, ◌&&◌, ◌||◌, ◌⊎◌, ◌≢◌, List, [], ◌∷◌, ◌++◌, ℕ, zero, suc, ◌+◌, ◌-◌}
+use Rattle.std.specs.Prelude.{◌*◌, ◌≤◌, ◌<◌, min, eqb, length, set, drop}
 use Rattle.std.proofs.Math.Path.{refl, sym, ap}
-use Rattle.std.proofs.Common.{ap₂, ◌∙◌, inl, inr, add-one, arith, length-set, get_or-set_same, get_or-set_other, eqb-true, eq-eqb, ne_eqb, lt-ltb, le-ltb}
+use Rattle.std.proofs.Common.{ap₂, ◌∙◌, inl, inr, add-one, arith, length-set, get_or-set_same, get_or-set_other}
+use Rattle.std.proofs.Common.{eqb-true, eq-eqb, ne_eqb, lt-ltb, le-ltb}
 use Rattle.std.proofs.Math.Bool.{true, false, or_assoc}
 use Rattle.std.proofs.Math.Decide.{ℕ_discrete}
 use Rattle.std.proofs.Math.ListN.{get_or}
@@ -96,7 +98,8 @@ pub record Tables (t p near wait s : List ℕ) : Type 0 where
 abbrev pub ready : List ℕ → List ℕ → ℕ → Bool
 ready near wait v = not (eqb (get_or near v 0) 0) && eqb (get_or wait v 0) 0
 
-ready-may : (t p near wait s : List ℕ) (v : ℕ) → Tables t p near wait s → v < 256 → ready near wait v ≡ may_stand t p s v
+ready-may : (t p near wait s : List ℕ) (v : ℕ) → Tables t p near wait s → v < 256 → ready near wait v
+    ≡ may_stand t p s v
 ready-may t p near wait s v h l =
     rw (h.reach v l, h.way v l, free-waits p s v) (go (held t s v) (memb s v) (ℕ_discrete (waits p s v) 0))
   where
@@ -111,7 +114,7 @@ ready-may t p near wait s v h l =
 pub next-ready : (n : ℕ) (t p near wait s : List ℕ) → n ≤ 256 → Tables t p near wait s →
     next_up n (ready near wait) ≡ next_up n (may_stand t p s)
 next-ready n t p near wait s l h =
-    fold_cong _ n (λ v. cond (ready near wait v) v n) (λ v. cond (may_stand t p s v) v n) n
+    fold_cong min n (λ v. cond (ready near wait v) v n) (λ v. cond (may_stand t p s v) v n) n
     (λ v b. ap (λ (z : Bool). cond z v n) (ready-may t p near wait s v h (omega arith)))
 
 -- a turn of the loop that looks for it
@@ -173,7 +176,8 @@ tables_more t p near wait s near' wait₁ wait₂ v et ep l may h en e1 e2 =
         go true false = refl
         go false c = refl
 
-    way_at : (w : ℕ) → w < 256 → Dec (w ≡ v) → get_or (set wait₁ v 1) w 0 ≡ waits p (v ∷ s) w + cond (memb (v ∷ s) w) 1 0
+    way_at : (w : ℕ) → w < 256 → Dec (w ≡ v) → get_or (set wait₁ v 1) w 0 ≡ waits p (v ∷ s) w
+        + cond (memb (v ∷ s) w) 1 0
     way_at w b (yes e) =
         let z : waits p (v ∷ s) v ≡ 0 = omega (arith, waits-less p s v v fresh, none) in
         rw (e, eq-eqb v v refl, z) (get_or-set_same wait₁ v 1 0 (omega (arith, long)))
@@ -209,7 +213,8 @@ waiting-more p wait new k g l long h e w b =
         ≡ count k (λ j. eqb (end_a p j) w) + cond (eqb (end_a p k) w) 1 0
     go (yes q) =
         let few : count k (λ j. eqb (end_a p j) w) ≤ k = count_le k (λ j. eqb (end_a p j) w) in
-        rw (eq-eqb (end_a p k) w q) (ap (λ (u : ℕ). min (get_or wait u 0 + 1) 2048) q ∙ omega (arith, h w b, few, g.few))
+        rw (eq-eqb (end_a p k) w q) (ap (λ (u : ℕ). min (get_or wait u 0 + 1) 2048) q
+        ∙ omega (arith, h w b, few, g.few))
     go (no q) = rw (ne_eqb (end_a p k) w q) (h w b ∙ omega arith)
 
 -- ---- the order so far
@@ -306,7 +311,8 @@ module _ (n : ℕ) (t p : List ℕ) (g : Given n t p) where
           ∙ ap (λ (b : Bool). eqb w 0 || b) (sym (unreached w (link_count t))))
 
       in_way : (w : ℕ) → count (link_count p) (λ k. eqb (end_a p k) w) ≡ waits p [] w + 0
-      in_way w = count_cong (link_count p) (λ k. eqb (end_a p k) w) (blocks p [] w) (λ k l. and-true (eqb (end_a p k) w))
+      in_way w = count_cong (link_count p) (λ k. eqb (end_a p k) w) (blocks p [] w)
+          (λ k l. and-true (eqb (end_a p k) w))
           ∙ omega arith
 
   -- a turn: v comes to stand

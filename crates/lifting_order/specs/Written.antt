@@ -11,7 +11,8 @@ site_fits n m ends = leb n max_units && (leb (2 * m) (length ends) && links_fit 
 
 -- 10: no site; 14: fewer places than units; 19: bad pairs
 unfoldable pub given_refusal : ℕ → ℕ → List ℕ → List ℕ → ℕ → ℕ
-given_refusal n m ends p places = first_of ((10, not (site_fits n m ends)) ∷ (14, ltb places n) ∷ (19, bad_pairs n p) ∷ [])
+given_refusal n m ends p places =
+    first_of ((10, not (site_fits n m ends)) ∷ (14, ltb places n) ∷ (19, bad_pairs n p) ∷ [])
 
 -- the same, and 20: no order exists
 unfoldable pub order_refusal : ℕ → ℕ → List ℕ → List ℕ → ℕ → ℕ

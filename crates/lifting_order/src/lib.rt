@@ -1,4 +1,6 @@
 // The lifting order (T-07) over plain tables: nothing is written before it is known whole.
+#![tactic(auto)]
+
 ghost use Rattle.std.specs.Prelude.{◌≡◌, ℕ, length, get_or};
 ghost use Rattle.base_lists.specs.Tables.{over};
 ghost use Rattle.lifting_order.specs.Order.{bad_pairs};

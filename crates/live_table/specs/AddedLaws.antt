@@ -1,5 +1,6 @@
 -- A link at the end of a table that passes is refused exactly as load refuses the lists with it.
-use Rattle.std.specs.Prelude.{◌≡◌, refl, Bool, true, false, not, ◌&&◌, ◌||◌, List, [], ◌∷◌, ◌++◌, ℕ, suc, ◌+◌, ◌%◌, ◌≤◌, eqb, ltb, length, ℤ}
+use Rattle.std.specs.Prelude.{◌≡◌, refl, Bool, true, false, not, ◌&&◌, ◌||◌, List, [], ◌∷◌, ◌++◌, ℕ, suc, ◌+◌, ◌%◌, ◌≤◌}
+use Rattle.std.specs.Prelude.{eqb, ltb, length, ℤ}
 use Rattle.std.proofs.Common.{sym, ap₂, ◌∙◌, inl, inr, arith, length-append, lt-ltb, le-ltb, le-leb, ne_eqb, eq-eqb}
 use Rattle.std.proofs.Math.Path.{ap}
 use Rattle.std.proofs.Math.Bool.{or_assoc, or-false}
@@ -11,7 +12,8 @@ use Rattle.base_lists.specs.All.{every_append}
 use Rattle.base_lists.specs.Tests.{same_test, or_swap}
 use Rattle.table_levels.specs.Level.{in_range}
 use Rattle.table.specs.Passes.{Passes, passes, table-alone, table-levelled}
-use Rattle.table.specs.Table.{max_links, link_count, odd_words, too_many_links, levels_differ, level_outside, end_missing}
+use Rattle.table.specs.Table.{max_links, link_count, odd_words, too_many_links, levels_differ, level_outside}
+use Rattle.table.specs.Table.{end_missing}
 use Rattle.table.specs.Table.{equal_ends, same_ends, joined_in, repeated_by, repeated_link, stored_refusal}
 use Rattle.table.specs.TableCauses.{SameEnds, same_ends-exact}
 use Rattle.spec_machine.specs.Load.{Input}

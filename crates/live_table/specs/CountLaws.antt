@@ -1,5 +1,6 @@
 -- Counts as a loop over the links makes them, and as another compares them.
-use Rattle.std.specs.Prelude.{◌≡◌, refl, Bool, true, false, not, ◌||◌, ◌↔◌, List, ℕ, zero, suc, ◌+◌, ◌≤◌, ◌<◌, min, length, set}
+use Rattle.std.specs.Prelude.{◌≡◌, refl, Bool, true, false, not, ◌||◌, ◌↔◌, List, ℕ, zero, suc, ◌+◌, ◌≤◌, ◌<◌, min}
+use Rattle.std.specs.Prelude.{length, set}
 use Rattle.std.proofs.Common.{sym, ◌∙◌, le_antisymm, add-one, arith, ext_get_or, get_or-set_same, get_or-set_other}
 use Rattle.std.proofs.Math.Bool.{cond}
 use Rattle.std.proofs.Math.Decide.{ℕ_discrete}
@@ -65,18 +66,22 @@ module _ (counts : List ℕ) (a b v : ℕ) (h : v < length counts) (l : get_or c
       go : Dec (a ≡ v) → Dec (b ≡ v) → get_or (raised_at (raised_at counts a 1) b (cond (eqb a b) 0 1)) v 0
           ≡ get_or counts v 0 + cond (eqb a v || eqb b v) 1 0
       go (yes p) (yes q) =
-          let first : get_or (raised_at counts v 1) v 0 ≡ get_or counts v 0 + 1 = raised-same counts v 1 h (omega arith) in
+          let first : get_or (raised_at counts v 1) v 0 ≡ get_or counts v 0 + 1 =
+          raised-same counts v 1 h (omega arith) in
           let again : get_or (raised_at (raised_at counts v 1) v 0) v 0 ≡ get_or (raised_at counts v 1) v 0 + 0 =
-          raised-same (raised_at counts v 1) v 0 (omega (arith, length-set counts v (min (get_or counts v 0 + 1) 65535)))
+          raised-same (raised_at counts v 1) v 0
+          (omega (arith, length-set counts v (min (get_or counts v 0 + 1) 65535)))
           (omega (arith, first)) in
           rw (p, q, eq-eqb v v refl) (omega (arith, again, first))
       go (yes p) (no q) =
           rw (p, ne_eqb b v q, eq-eqb v v refl)
           (raised-other (raised_at counts v 1) b v _ (λ e. q (sym e)) ∙ raised-same counts v 1 h (omega arith))
       go (no p) (yes q) =
-          let same : get_or (raised_at counts a 1) v 0 ≡ get_or counts v 0 = raised-other counts a v 1 (λ e. p (sym e)) in
+          let same : get_or (raised_at counts a 1) v 0 ≡ get_or counts v 0 =
+          raised-other counts a v 1 (λ e. p (sym e)) in
           let again : get_or (raised_at (raised_at counts a 1) v 1) v 0 ≡ get_or (raised_at counts a 1) v 0 + 1 =
-          raised-same (raised_at counts a 1) v 1 (omega (arith, length-set counts a (min (get_or counts a 0 + 1) 65535)))
+          raised-same (raised_at counts a 1) v 1
+          (omega (arith, length-set counts a (min (get_or counts a 0 + 1) 65535)))
           (omega (arith, same)) in
           rw (q, ne_eqb a v p, eq-eqb v v refl) (omega (arith, again, same))
       go (no p) (no q) =

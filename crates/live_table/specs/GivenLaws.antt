@@ -5,7 +5,8 @@ use Rattle.std.proofs.Common.{◌∙◌, arith, length-take-le}
 use borrow.Author.Tests.{lt-ltb, le-ltb, ltb-false, eq-eqb, ne_eqb}
 use Rattle.table.specs.Refusals.{first_of}
 use Rattle.table.specs.RefusalLaws.{first_some, first-none, passed-test}
-use Rattle.table.specs.Table.{max_links, bad_unit_count, odd_words, too_many_links, levels_differ, stored_tests, stored_refusal}
+use Rattle.table.specs.Table.{max_links, bad_unit_count, odd_words, too_many_links, levels_differ, stored_tests}
+use Rattle.table.specs.Table.{stored_refusal}
 use Rattle.spec_machine.specs.Load.{links_in}
 use Rattle.live_table.specs.Counts.{miscounted}
 use Rattle.live_table.specs.Live.{Live, held}

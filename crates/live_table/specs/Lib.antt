@@ -11,5 +11,4 @@ pub mod WithdrawnLaws
 pub mod HeldLaws
 pub mod GivenLaws
 pub mod LiveRight
-pub mod LiveProof
 pub mod Example

@@ -2,7 +2,8 @@
 use Rattle.std.specs.Prelude.{Bool, cond, not, ◌||◌, List, [], ◌∷◌, ◌++◌, ℕ, eqb, leb, ltb, ℤ}
 use Rattle.table_levels.specs.Level.{in_range}
 use Rattle.table.specs.Refusals.{first_of}
-use Rattle.table.specs.Table.{max_links, bad_unit_count, level_outside, end_missing, equal_ends, repeated_link, same_ends}
+use Rattle.table.specs.Table.{max_links, bad_unit_count, level_outside, end_missing, equal_ends, repeated_link}
+use Rattle.table.specs.Table.{same_ends}
 use Rattle.table.specs.Table.{joined_in, stored_refusal}
 use Rattle.spec_machine.specs.Load.{Input, links_in}
 use Rattle.live_table.specs.Counts.{miscounted}

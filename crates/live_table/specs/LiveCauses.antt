@@ -6,7 +6,8 @@ use Rattle.base_lists.specs.Tests.{or_exact, not_exact}
 use Rattle.table_levels.specs.Level.{in_range}
 use Rattle.table_levels.specs.LevelLaws.{InRange, range-exact}
 use Rattle.table.specs.RefusalLaws.{Reason}
-use Rattle.table.specs.Table.{max_units, max_links, link_count, end_a, end_b, bad_unit_count, level_outside, end_missing}
+use Rattle.table.specs.Table.{max_units, max_links, link_count, end_a, end_b, bad_unit_count, level_outside}
+use Rattle.table.specs.Table.{end_missing}
 use Rattle.table.specs.Table.{equal_ends, repeated_link, same_ends, joined_in}
 use Rattle.table.specs.TableCauses.{SameEnds, LevelOutside, unit_count_exact, level_outside-exact, end_missing-exact}
 use Rattle.table.specs.TableCauses.{equal_ends-exact, repeated_exact}

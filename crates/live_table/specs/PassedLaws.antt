@@ -3,7 +3,8 @@ use Rattle.std.specs.Prelude.{◌≡◌, false, List, ℕ, ℤ}
 use Rattle.std.proofs.Math.Decide.{ℕ_discrete}
 use Rattle.std.proofs.Common.{arith}
 use Rattle.table.specs.RefusalLaws.{SomeCause, passed-test}
-use Rattle.table.specs.Table.{bad_unit_count, odd_words, too_many_links, levels_differ, level_outside, end_missing, equal_ends}
+use Rattle.table.specs.Table.{bad_unit_count, odd_words, too_many_links, levels_differ, level_outside, end_missing}
+use Rattle.table.specs.Table.{equal_ends}
 use Rattle.table.specs.Table.{repeated_link, stored_refusal}
 use Rattle.table.specs.TableCauses.{stored_reasons, stored-some_cause}
 
@@ -39,7 +40,8 @@ passed n t ls e =
       nine = i.0;
     }
 
-pub passes_none : (n : ℕ) (t : List ℕ) (ls : List ℤ) → (SomeCause (stored_reasons n t ls) → ⊥) → stored_refusal n t ls ≡ 0
+pub passes_none : (n : ℕ) (t : List ℕ) (ls : List ℤ) → (SomeCause (stored_reasons n t ls) → ⊥) → stored_refusal n t ls
+    ≡ 0
 passes_none n t ls none = go (ℕ_discrete (stored_refusal n t ls) 0)
   where
     go : Dec (stored_refusal n t ls ≡ 0) → stored_refusal n t ls ≡ 0

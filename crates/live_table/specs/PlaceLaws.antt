@@ -1,5 +1,6 @@
 -- The search for the position of a link, and that it finds one exactly where some link joins the two units.
-use Rattle.std.specs.Prelude.{◌≡◌, refl, Bool, true, false, cond, ◌||◌, ◌↔◌, List, [], ◌∷◌, ℕ, zero, suc, ◌+◌, ◌/◌, ◌≤◌, ◌<◌, ltb, length, get_or, drop}
+use Rattle.std.specs.Prelude.{◌≡◌, refl, Bool, true, false, cond, ◌||◌, ◌↔◌, List, [], ◌∷◌, ℕ, zero, suc, ◌+◌, ◌/◌, ◌≤◌}
+use Rattle.std.specs.Prelude.{◌<◌, ltb, length, get_or, drop}
 use Rattle.std.proofs.Common.{sym, ◌∙◌, arith, length-drop, lt-ltb, le-ltb, ltb-true}
 use Rattle.std.proofs.Math.Decide.{dec_lt}
 use Rattle.base_lists.specs.Rests.{rest-two}
@@ -12,7 +13,8 @@ use Rattle.live_table.specs.Live.{place_of}
 -- ---- the search from a word on
 
 module _ (a b : ℕ) (t : List ℕ) (i : ℕ) where
-  pub place_here : i + 1 < length t → same_ends a b (get_or t i 0) (get_or t (i + 1) 0) ≡ true → place_of a b (drop i t) ≡ 0
+  pub place_here : i + 1 < length t → same_ends a b (get_or t i 0) (get_or t (i + 1) 0) ≡ true → place_of a b (drop i t)
+      ≡ 0
   unfolding place_of
   place_here h e = rw (rest-two t i 0 h, e)
 
@@ -79,7 +81,8 @@ place-joins a b (c ∷ d ∷ t) h = go (same_ends a b c d) refl h (place-joins a
         → same_ends a b (end_a (c ∷ d ∷ t) (cond e 0 (suc (place_of a b t))))
         (end_b (c ∷ d ∷ t) (cond e 0 (suc (place_of a b t)))) ≡ true
     go true p l later = p
-    go false p l later = rw (end_a-later c d t (place_of a b t), end_b-later c d t (place_of a b t)) (later (omega arith))
+    go false p l later =
+        rw (end_a-later c d t (place_of a b t), end_b-later c d t (place_of a b t)) (later (omega arith))
 
 -- some link joins a and b, whichever way round
 abbrev pub Joined : ℕ → ℕ → List ℕ → Type 0
@@ -101,7 +104,8 @@ joined-exact a b t = (forth, λ w. joined_back a b t w.0 w.1 w.2)
   where
     forth : joined_in same_ends a b t ≡ true → Joined a b t
     forth e =
-        let l : place_of a b t < link_count t = ltb-true (place_of a b t) (link_count t) (sym (place_found a b t) ∙ e) in (
+        let l : place_of a b t < link_count t = ltb-true (place_of a b t) (link_count t) (sym (place_found a b t)
+        ∙ e) in (
           place_of a b t,
           l,
           (same_ends-exact a b (end_a t (place_of a b t)) (end_b t (place_of a b t))).0

@@ -71,6 +71,7 @@ module _ (n : ℕ) (t : List ℕ) (ls : List ℤ) (e : stored_refusal n t ls ≡
       whole.once (moved j w.0) (moved j w.1) (moved_apart j w.0 w.1 w.2) (few w.0 w.3)
       (few w.1 w.4)
       (rw (← m.0, ← m.1, ← k.0, ← k.1) w.5)
+  none (inr (inr (inr (inr (inr (inr (inr (inr z)))))))) = elim z [ ]
 
   pub less-passes : stored_refusal n less fewer ≡ 0
   less-passes = passes_none n less fewer none

@@ -1,4 +1,6 @@
 // The counts of a table of links, and the search for one link, over plain tables (document 02, T-09).
+#![tactic(auto)]
+
 ghost use Rattle.std.specs.Prelude.{◌≡◌, ℕ, ◌<◌, get_or};
 ghost use Rattle.table.specs.Table.{same_ends};
 ghost use Rattle.live_table.specs.Counts.{counts_to, miscounted};

@@ -1,4 +1,6 @@
 // What a load sets: each group of a state before any round. Names and distances are absent, all else is 0.
+#![tactic(auto)]
+
 ghost use Rattle.std.specs.Prelude.{◌≡◌, ◌++◌, ◌≤◌, length, drop, take};
 ghost use Rattle.spec_machine.specs.Load.{absents, silences, first_clock, blank_components, blank_plan, blank_tree};
 ghost use Rattle.spec_machine.specs.Load.{blank_tour, blank_ranking, blank_order, blank_range, blank_global, blank_aux};

@@ -1,7 +1,9 @@
 -- Units whose parent is a neighbour, by marks: one pass over the links, each of which marks an end whose parent is the
 -- other.
-use Rattle.std.specs.Prelude.{◌≡◌, refl, Bool, true, false, cond, not, ◌&&◌, ◌||◌, List, ℕ, zero, suc, ◌+◌, ◌≤◌, ◌<◌, eqb, length, get_or, set}
-use Rattle.std.proofs.Common.{sym, ap, ◌∙◌, le_antisymm, add-one, arith, length-set, get_or-set_same, get_or-set_other, eqb-true, eq-eqb, ne_eqb}
+use Rattle.std.specs.Prelude.{◌≡◌, refl, Bool, true, false, cond, not, ◌&&◌, ◌||◌, List, ℕ, zero, suc, ◌+◌, ◌≤◌, ◌<◌}
+use Rattle.std.specs.Prelude.{eqb, length, get_or, set}
+use Rattle.std.proofs.Common.{sym, ap, ◌∙◌, le_antisymm, add-one, arith, length-set, get_or-set_same, get_or-set_other}
+use Rattle.std.proofs.Common.{eqb-true, eq-eqb, ne_eqb}
 use Rattle.std.proofs.Math.Decide.{ℕ_discrete}
 use Rattle.base_lists.specs.Folds.{some}
 use Rattle.base_lists.specs.Tests.{same_test}
@@ -35,7 +37,8 @@ mark-entry parents a w t v l = go (ℕ_discrete a v)
     go : Dec (a ≡ v) → get_or (set t a (cond (eqb (at parents a) w) 1 (at t a))) v 0
         ≡ cond (eqb a v && eqb w (at parents v)) 1 (get_or t v 0)
     go (yes e) = rw (e, eq-eqb v v refl, get_or-set_same t v (cond (eqb (at parents v) w) 1 (at t v)) 0 l, turned) refl
-    go (no e) = rw (ne_eqb a v e, get_or-set_other t a v (cond (eqb (at parents a) w) 1 (at t a)) 0 (λ q. e (sym q))) refl
+    go (no e) = rw (ne_eqb a v e, get_or-set_other t a v (cond (eqb (at parents a) w) 1 (at t a)) 0 (λ q. e (sym q)))
+        refl
 
 mark_or : (s p q : Bool) → ◌≡◌ {A = ℕ} (cond q 1 (cond p 1 (cond s 1 0))) (cond (s || (p || q)) 1 0)
 mark_or true true true = refl

@@ -57,4 +57,5 @@ module _ (n m : ℕ) (table parents near tops : List ℕ) (few : n ≤ 256) (end
       (some_cong m (tops_differ table tops) (splits n table parents)
       (λ j l. ap not (ap₂ eqb (top (end_a table j) (ends.1 (2 * j) (omega arith)))
       (top (end_b table j) (ends.1 (2 * j + 1) (omega arith))))))
-      ∙ or_assoc (some n (stray_parent m table parents)) (some n (stray_top n parents)) (some m (splits n table parents))
+      ∙ or_assoc (some n (stray_parent m table parents)) (some n (stray_top n parents))
+      (some m (splits n table parents))

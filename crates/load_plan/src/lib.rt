@@ -1,4 +1,6 @@
 // The checks of the load with a table of parents drawn by the planner (document 02, T-05).
+#![tactic(auto)]
+
 use table::ABSENT;
 use table_values::tables;
 

@@ -1,5 +1,6 @@
 -- What the call refuses, by the checks passed and the one that fails, and each number bound to its cause.
-use Rattle.std.specs.Prelude.{◌≡◌, ℕ, zero, suc, ◌<◌, ◌≤◌, false, cond, ◌↔◌, List, [], ◌∷◌, ◌++◌, length, ◌==◌, ◌≢◌, nat_le, nat_lt, refl}
+use Rattle.std.specs.Prelude.{◌≡◌, ℕ, zero, suc, ◌<◌, ◌≤◌, false, cond, ◌↔◌, List, [], ◌∷◌, ◌++◌, length, ◌==◌, ◌≢◌}
+use Rattle.std.specs.Prelude.{nat_le, nat_lt, refl}
 use Rattle.std.proofs.Math.Path.{sym}
 use Rattle.std.proofs.Common.{◌∙◌, inl, inr, arith, ltb-true, lt-ltb, le-ltb, ltb-false, leb-false, ne_eqb}
 use Rattle.std.proofs.Math.Decide.{ℕ_discrete}
@@ -8,7 +9,8 @@ use Rattle.base_lists.specs.Tests.{or_false-left, or_false-right}
 use Rattle.table.specs.Refusals.{first_of}
 use Rattle.table.specs.RefusalLaws.{Reason, FirstCause, SomeCause, tests, first-cause, some-cause, first_some}
 use Rattle.table.specs.RefusalLaws.{first-none, passed-test}
-use Rattle.table.specs.Table.{max_units, bad_unit_count, odd_words, too_many_links, end_missing, equal_ends, repeated_pair}
+use Rattle.table.specs.Table.{max_units, bad_unit_count, odd_words, too_many_links, end_missing, equal_ends}
+use Rattle.table.specs.Table.{repeated_pair}
 use Rattle.table.specs.Table.{pair_tests, pair_refusal}
 use Rattle.table.specs.TableCauses.{pair_reasons}
 use Rattle.theory_min_label.specs.MinLabel.{min_label}
@@ -41,7 +43,8 @@ module _ (n : ℕ) (t : List ℕ) (words : ℕ) where
 -- 4 to 9 of ordered pairs, then 14: the slice has fewer than n words
 unfoldable pub strong_reasons : ℕ → List ℕ → ℕ → List Reason
 strong_reasons n t words = pair_reasons n t
-    ++ (record { number = 14; test = nat_lt words n; cause = words < n; exact = (ltb-true words n, lt-ltb words n) } ∷ [])
+    ++ (record { number = 14; test = nat_lt words n; cause = words < n; exact = (ltb-true words n, lt-ltb words n) }
+    ∷ [])
 
 strong_refusal-tests : (n : ℕ) (t : List ℕ) (words : ℕ) →
     strong_refusal n t words ≡ first_of (tests (strong_reasons n t words))

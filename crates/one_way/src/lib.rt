@@ -1,5 +1,7 @@
 // One-way links (document 02, T-11): to each unit the least number of its strongly connected group, by the min-label
 // method.
+#![tactic(auto)]
+
 ghost use Rattle.std.specs.Prelude.{◌≡◌, cond, [], ◌∷◌, length, ◌==◌};
 ghost use Rattle.theory_min_label.specs.MinLabel.{min_label};
 ghost use Rattle.one_way.specs.Numbering.{strong_refusal, strong_reply, strong_numbers, number_of, values_of};
@@ -9,7 +11,7 @@ mod order;
 mod pass;
 
 // What the survey replies: the number of passes, or the number of a refusal.
-#[derive(Drop)]
+#[derive(Clone, Copy)]
 pub enum Numbering {
     Passes(u16),
     Refused(u8),

@@ -1,5 +1,7 @@
 // The tables of a pass over one-way links (T-11): the labels that it begins with, the marks and the keys that it
 // leaves.
+#![tactic(auto)]
+
 ghost use Rattle.std.specs.Prelude.{◌≡◌, cond, ℕ, ◌+◌, ◌*◌, ◌<◌, eqb};
 ghost use Rattle.base_lists.specs.Tables.{over};
 ghost use Rattle.theory_min_label.specs.MinLabel.{NONE, at, source, marked, unfinished};

@@ -32,7 +32,8 @@ and_again a = bin_ind (λ (n : ℕ). (b : ℕ) → bit_and (bit_and n b) b ≡ b
 pub or_again : (a b : ℕ) → bit_or (bit_or a b) b ≡ bit_or a b
 or_again a = bin_ind (λ (n : ℕ). (b : ℕ) → bit_or (bit_or n b) b ≡ bit_or n b) or_self step a
   where
-    step : (n : ℕ) → ((b : ℕ) → bit_or (bit_or (n / 2) b) b ≡ bit_or (n / 2) b) → (b : ℕ) → bit_or (bit_or n b) b ≡ bit_or n b
+    step : (n : ℕ) → ((b : ℕ) → bit_or (bit_or (n / 2) b) b ≡ bit_or (n / 2) b) → (b : ℕ) → bit_or (bit_or n b) b
+        ≡ bit_or n b
     step n again b =
         let z = bit_or n b in
         let half : z / 2 ≡ bit_or (n / 2) (b / 2) = omega (arith, or_step n b) in

@@ -1,5 +1,6 @@
 -- A table of flags, one a number: 1 where a test passes, else 0.
-use Rattle.std.specs.Prelude.{◌≡◌, ℕ, ◌+◌, ◌<◌, ◌≤◌, Bool, true, false, cond, List, length, replicate, ◌==◌, nat_eq, slice_index, slice_set, refl}
+use Rattle.std.specs.Prelude.{◌≡◌, ℕ, ◌+◌, ◌<◌, ◌≤◌, Bool, true, false, cond, List, length, replicate, ◌==◌, nat_eq}
+use Rattle.std.specs.Prelude.{slice_index, slice_set, refl}
 use Rattle.std.proofs.Common.{sym, ◌∙◌, add-one, arith}
 use Rattle.std.proofs.Math.Decide.{dec_lt}
 use Rattle.std.proofs.lemmas.List.{length-replicate}
@@ -16,7 +17,8 @@ length_flags : (size n : ℕ) (p : ℕ → Bool) → length (flag_table size n p
 unfolding flag_table
 length_flags size n p = length_over n (λ (i : ℕ). cond (p i) 1 0) (replicate size 0) ∙ length-replicate {A = ℕ} size 0
 
-pub flag_at : (size n : ℕ) (p : ℕ → Bool) (i : ℕ) → i < n → i < size → slice_index (flag_table size n p) i ≡ cond (p i) 1 0
+pub flag_at : (size n : ℕ) (p : ℕ → Bool) (i : ℕ) → i < n → i < size → slice_index (flag_table size n p) i
+    ≡ cond (p i) 1 0
 unfolding flag_table
 flag_at size n p i h l = get_d_over n (λ (i : ℕ). cond (p i) 1 0) (replicate size 0) i 0 h
     (omega (arith, length-replicate {A = ℕ} size 0))

@@ -1,6 +1,7 @@
 -- The bits that all labels at a unit have, and those that any has. A single point is a unit where they differ: one pass
 -- over the links finds them, by one operation a table, where the definition goes over pairs of links.
-use Rattle.std.specs.Prelude.{◌≡◌, ℕ, ◌+◌, ◌<◌, ◌≤◌, Bool, true, false, cond, not, ◌&&◌, ◌||◌, ltb, ◌⊎◌, List, length, replicate, ◌==◌, bit_and, bit_or, nat_eq, nat_lt, slice_index, slice_set}
+use Rattle.std.specs.Prelude.{◌≡◌, ℕ, ◌+◌, ◌<◌, ◌≤◌, Bool, true, false, cond, not, ◌&&◌, ◌||◌, ltb, ◌⊎◌, List, length}
+use Rattle.std.specs.Prelude.{replicate, ◌==◌, bit_and, bit_or, nat_eq, nat_lt, slice_index, slice_set}
 use Rattle.std.proofs.Math.Path.{refl}
 use Rattle.std.proofs.Common.{sym, ◌∙◌, inl, inr, add-one, arith, length-set, get_or-set_same, get_or-set_other}
 use Rattle.std.proofs.Math.Decide.{ℕ_discrete}
@@ -27,7 +28,8 @@ start_of false = ABSENT
 
 -- of the labels at u among the first m links
 unfoldable pub label_bits : Bool → ℕ → List ℕ → List ℕ → ℕ → ℕ
-label_bits b m ends label u = fold (op_of b) m (λ (j : ℕ). cond (touches ends u j) (at label j) (start_of b)) (start_of b)
+label_bits b m ends label u =
+    fold (op_of b) m (λ (j : ℕ). cond (touches ends u j) (at label j) (start_of b)) (start_of b)
 
 -- ---- one link more
 

@@ -1,5 +1,7 @@
 // What a finished survey says of links and units.
 
+#![tactic(auto)]
+
 mod flags;
 mod links;
 mod units;

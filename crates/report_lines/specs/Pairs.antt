@@ -1,6 +1,7 @@
 -- The two characters of a byte as one word, a table of them for all bytes, and a line laid down by stores of pairs, one
 -- after the other.
-use Rattle.std.specs.Prelude.{◌≡◌, ℕ, ◌+◌, ◌-◌, ◌*◌, ◌/◌, ◌%◌, ◌<◌, ◌≤◌, List, [], ◌∷◌, ◌++◌, length, drop, set, replicate, slice_index, slice_set, refl}
+use Rattle.std.specs.Prelude.{◌≡◌, ℕ, ◌+◌, ◌-◌, ◌*◌, ◌/◌, ◌%◌, ◌<◌, ◌≤◌, List, [], ◌∷◌, ◌++◌, length, drop, set}
+use Rattle.std.specs.Prelude.{replicate, slice_index, slice_set, refl}
 use Rattle.std.proofs.Common.{◌∙◌, append_assoc, add-one, arith, length-append, lt-ltb, le-ltb}
 use Rattle.std.proofs.Math.Decide.{dec_lt}
 use Rattle.std.proofs.lemmas.List.{length-replicate}
@@ -119,11 +120,13 @@ row-closed f out at e h = rw (← e) (line-laid f out (omega arith))
 abbrev unit_stored : ℕ → ℕ → ℕ → ℕ → ℕ → ℕ → List ℕ → List ℕ
 unit_stored sum unit color parent place single out =
     set (hex_at 20 ((256 - sum) % 256) (hex_at 18 single
-    (word_hex_at 14 place (word_hex_at 10 parent (word_hex_at 6 color (word_hex_at 2 unit (hex_at 0 UNIT out))))))) 22 LF
+    (word_hex_at 14 place (word_hex_at 10 parent (word_hex_at 6 color (word_hex_at 2 unit (hex_at 0 UNIT out))))))) 22
+    LF
 
 abbrev label_stored : ℕ → ℕ → ℕ → ℕ → List ℕ → List ℕ
 label_stored sum position label lone out =
-    set (hex_at 12 ((256 - sum) % 256) (hex_at 10 lone (word_hex_at 6 label (word_hex_at 2 position (hex_at 0 LABEL out))))) 14
+    set (hex_at 12 ((256 - sum) % 256)
+    (hex_at 10 lone (word_hex_at 6 label (word_hex_at 2 position (hex_at 0 LABEL out))))) 14
     LF
 
 pub unit-laid : (unit color parent place single : ℕ) (out : List ℕ) → 23 ≤ length out

@@ -1,5 +1,7 @@
 // The lines of a report. Those of all units and of all links stand one after the other: each is written to the rest of
 // the slice, past those before it.
+#![tactic(auto)]
+
 ghost use Rattle.std.specs.Prelude.{◌≡◌, ◌≤◌, length};
 ghost use Rattle.file_frames.specs.Frame.{line_over};
 ghost use Rattle.report_lines.specs.Lines.{unit_row, label_row, lines_over};

@@ -1,5 +1,7 @@
 // What the program prints: definitions, the statement about any input and its proof; and in code what both faces share,
 // the input taken and the line of a refusal.
+#![tactic(auto)]
+
 ghost use Rattle.std.specs.Prelude.{◌≡◌, cond, ◌≤◌, eqb, length};
 ghost use Rattle.table.specs.Refusals.{written};
 ghost use Rattle.file_spec.specs.File.{lines_of, link_frames};
@@ -14,7 +16,7 @@ pub const MAX_INPUT: usize = 65535;
 pub const MAX_OUTPUT: usize = 21274;
 
 // What was found: the number of a refusal, else 0; the unit count and the number of links.
-#[derive(Drop)]
+#[derive(Clone, Copy)]
 pub struct Found {
     pub unread: u8,
     pub units: u16,

@@ -186,7 +186,8 @@ module _ (s : State) (out : List ℕ) (n : units s ≤ max_units) (m : links s �
   unfolding report tail_line
   after_tail =
       let e : link_end s + 13 ≡ report_length (units s) (links s) = omega arith in
-      rw (← e) (line-next (tail_says s) ((head_line s ++ unit_part) ++ link_part) out (link_end s) links_end (omega arith))
+      rw (← e) (line-next (tail_says s) ((head_line s ++ unit_part) ++ link_part) out (link_end s) links_end
+      (omega arith))
 
   pub report-laid : parts_down (units s) (links s) s.clock.rounds s.clock.requests s.table.ends
       s.labels.label s.components.color s.tree.parent s.order.pre out

@@ -1,5 +1,7 @@
 // What both faces share of the calls that ask: why a report, or a call that names two links, is refused, and a report's
 // lines from plain tables.
+#![tactic(auto)]
+
 ghost use Rattle.std.specs.Prelude.{◌≡◌, not, [], ◌∷◌, eqb, ltb};
 ghost use Rattle.table.specs.Refusals.{first_of};
 ghost use Rattle.spec_machine.specs.Report.{report_length};

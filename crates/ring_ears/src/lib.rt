@@ -1,5 +1,7 @@
 // The order that grows by ears: from the two ends of the first link, until no link ties two units that hang on
 // different units of it.
+#![tactic(auto)]
+
 ghost use Rattle.std.specs.Prelude.{◌≡◌, ◌+◌, min, length};
 ghost use Rattle.theory_ears.specs.Present.{sure};
 ghost use Rattle.theory_ears.specs.Steps.{hanging, ties, moved};

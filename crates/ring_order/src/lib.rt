@@ -1,5 +1,7 @@
 // The order that a ring is taken from (T-04): from the ends of a link, over the tree of the links that count, by its
 // ears.
+#![tactic(auto)]
+
 ghost use Rattle.std.specs.Prelude.{◌≡◌, length};
 ghost use Rattle.theory_ears.specs.Present.{sure};
 ghost use Rattle.theory_ears.specs.Found.{Ordered};

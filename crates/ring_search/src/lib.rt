@@ -1,5 +1,7 @@
 // The ring through two links (T-04), over plain tables and a test of which links count (T-08): a link counts where its
 // mark is 0 or missing.
+#![tactic(auto)]
+
 ghost use Rattle.std.specs.Prelude.{◌≡◌, drop};
 ghost use Rattle.theory_ears.specs.Present.{sure};
 ghost use Rattle.theory_ears.specs.Found.{RingTold};

@@ -1,5 +1,7 @@
 // What the search of a ring (T-04) reads of its tables, with a test of which links count (T-08): a link counts where
 // its mark is 0 or missing.
+#![tactic(auto)]
+
 ghost use Rattle.std.specs.Prelude.{◌≡◌, ℕ, ◌<◌, get_or};
 ghost use Rattle.table.specs.Table.{end_a, end_b};
 ghost use Rattle.theory_ears.specs.Present.{sure};

@@ -1,7 +1,8 @@
 -- The line of a site from what the calls tell of it.
 use Rattle.std.proofs.Math.Path.{◌≡◌, refl, sym, ap}
 use Rattle.std.proofs.Common.{◌∙◌, inl, inr, append-nil, add-one, take_at}
-use Rattle.std.specs.Prelude.{Bool, not, ◌&&◌, ◌⊎◌, ◌↔◌, List, [], ◌∷◌, ◌++◌, ltb, ℤ, pos, get_or, take, drop, replicate}
+use Rattle.std.specs.Prelude.{Bool, not, ◌&&◌, ◌⊎◌, ◌↔◌, List, [], ◌∷◌, ◌++◌, ltb, ℤ, pos, get_or, take, drop}
+use Rattle.std.specs.Prelude.{replicate}
 use Rattle.std.proofs.Math.Bool.{true, false, cond}
 use Rattle.std.proofs.lemmas.Bool.{false≢true}
 use Prim.Native.Nat.{ℕ, zero, suc, ◌+◌, ◌*◌, ◌/◌, ◌%◌, ◌^◌, ◌≤◌, ◌<◌, min}
@@ -177,7 +178,8 @@ flag-right s a v = go (dec_lt v s.0) (λ l. (surveyed-right (input_of s) a).sing
   where
     go : Dec (v < s.0)
         → (v < s.0
-        → (unit_single (surveyed (input_of s)) v ≡ true) ↔ Articulation (Link (links_in (input_of s)) (input_of s).words) v)
+        → (unit_single (surveyed (input_of s)) v
+        ≡ true) ↔ Articulation (Link (links_in (input_of s)) (input_of s).words) v)
         → ((ltb v s.0 && unit_single (surveyed (input_of s)) v) ≡ true)
         ↔ ((v < s.0) × Articulation (Link (links_in (input_of s)) (input_of s).words) v)
     go (yes l) r = rw (lt-ltb v s.0 l) (λ e. (l, (r l).0 e), λ p. (r l).1 p.1)

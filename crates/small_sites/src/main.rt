@@ -1,5 +1,7 @@
 // T-13: every set of links among one to five units, opened as a stored table and surveyed by the library; a line for
 // each with its single points.
+#![tactic(auto)]
+
 ghost use Rattle.std.specs.Prelude.{◌≡◌, ◌∷◌, [], ◌&&◌, ◌++◌, ◌≤◌, ◌<◌, length, take, drop};
 ghost use Rattle.table.specs.Table.{link_count};
 ghost use Rattle.file_frames.specs.Frame.{line_over};
@@ -10,9 +12,9 @@ ghost use Rattle.report_program.specs.Printed.{surveyed};
 ghost use Rattle.small_tables.specs.Listing.{site_at};
 ghost use Rattle.small_sites.specs.Sites.{opened, singles_in, body_of, printed, PRINTED, told_single};
 
-use libc::STDOUT_FILENO;
 use small_tables::listing;
 use small_tables::listing::SITES;
+use std::io;
 use survey::{Reply, Survey};
 
 // The characters of a line, and of all.
@@ -118,8 +120,8 @@ fn lines(out: &mut [u8])
     }
 }
 
-fn main() {
+fn main(rt: HostRuntime) -> io::Result<()> {
     let mut out = [0u8; 16485];
     lines(&mut out);
-    io::write_all(STDOUT_FILENO, &out);
+    base_io::write_all(&rt, &out)
 }

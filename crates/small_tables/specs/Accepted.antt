@@ -1,6 +1,7 @@
 -- A small site passes every check of a stored table, whatever its number: its links are pairs of its units, the lower
 -- first, and no pair stands twice.
-use Rattle.std.specs.Prelude.{◌≡◌, Bool, true, false, cond, not, ◌&&◌, ◌||◌, ◌⊎◌, List, [], ◌∷◌, ℕ, zero, suc, ◌*◌, ◌/◌, ◌%◌, ◌≤◌, ◌<◌, eqb, ltb, leb, ℤ, pos, length, replicate}
+use Rattle.std.specs.Prelude.{◌≡◌, Bool, true, false, cond, not, ◌&&◌, ◌||◌, ◌⊎◌, List, [], ◌∷◌, ℕ, zero, suc, ◌*◌, ◌/◌}
+use Rattle.std.specs.Prelude.{◌%◌, ◌≤◌, ◌<◌, eqb, ltb, leb, ℤ, pos, length, replicate}
 use Rattle.std.proofs.Math.Path.{refl}
 use Rattle.std.proofs.Common.{sym, ap, ◌∙◌, inl, inr, arith, eqb-true, eq-eqb, ne_eqb, le-ltb}
 use Rattle.std.proofs.lemmas.List.{length-replicate}
@@ -9,7 +10,8 @@ use Rattle.base_lists.specs.Tests.{either}
 use Rattle.base_lists.specs.Folds.{every}
 use Rattle.table_levels.specs.Level.{in_range}
 use Rattle.table_levels.specs.LevelLaws.{zero_range}
-use Rattle.table.specs.Table.{link_count, bad_unit_count, odd_words, too_many_links, levels_differ, level_outside, end_missing}
+use Rattle.table.specs.Table.{link_count, bad_unit_count, odd_words, too_many_links, levels_differ, level_outside}
+use Rattle.table.specs.Table.{end_missing}
 use Rattle.table.specs.Table.{equal_ends, same_ends, joined_in, repeated_by, repeated_link, stored_refusal}
 use Rattle.small_tables.specs.Small.{pairs_of, chosen, words_of, table_of}
 use Rattle.small_tables.specs.SmallLaws.{few-pairs}

@@ -1,5 +1,6 @@
 -- The proof of EachOnce: a number is the list of its bits, and no pair stands twice among the pairs of n units.
-use Rattle.std.specs.Prelude.{◌≡◌, refl, Bool, true, false, cond, ◌⊎◌, ◌↔◌, List, [], ◌∷◌, ◌++◌, ℕ, zero, suc, ◌+◌, ◌*◌, ◌/◌, ◌%◌, ◌^◌, ◌≤◌, ◌<◌, eqb, length}
+use Rattle.std.specs.Prelude.{◌≡◌, refl, Bool, true, false, cond, ◌⊎◌, ◌↔◌, List, [], ◌∷◌, ◌++◌, ℕ, zero, suc, ◌+◌, ◌*◌}
+use Rattle.std.specs.Prelude.{◌/◌, ◌%◌, ◌^◌, ◌≤◌, ◌<◌, eqb, length}
 use Rattle.std.proofs.Common.{sym, ap, ◌∙◌, inl, inr, arith, eqb-true, eq-eqb, ne_eqb}
 use Rattle.std.proofs.lemmas.Bool.{false≢true, eqb-false}
 use Rattle.base_lists.specs.Tests.{either}
@@ -42,7 +43,8 @@ of_with y a b (suc k) l h = go (either (eqb y b)) (λ m. of_with y a (suc b) k m
 
 pub from-of : (x y a k : ℕ) → Listed x y (pairs_from a k) → (a ≤ x) × (x < y) × (y < a + k)
 from-of x y a zero h = absurd h
-from-of x y a (suc k) h = go (listed-cases x y (pairs_with a (suc a) k) (pairs_from (suc a) k) h) (from-of x y (suc a) k)
+from-of x y a (suc k) h =
+    go (listed-cases x y (pairs_with a (suc a) k) (pairs_from (suc a) k) h) (from-of x y (suc a) k)
   where
     go : Listed x y (pairs_with a (suc a) k) ⊎ Listed x y (pairs_from (suc a) k)
         → (Listed x y (pairs_from (suc a) k) → (suc a ≤ x) × (x < y) × (y < suc a + k)) →
@@ -64,7 +66,8 @@ of-from x y a (suc k) l h u = go (either (eqb x a)) (λ m. of-from x y (suc a) k
         let q = eqb-true x a e in
         listed-left x y (pairs_with a (suc a) k) (pairs_from (suc a) k)
         (rw q (of_with y a (suc a) k (omega arith) (omega arith)))
-    go (inr e) ih = listed-right x y (pairs_with a (suc a) k) (pairs_from (suc a) k) (ih (omega (arith, eqb-false x a e)))
+    go (inr e) ih = listed-right x y (pairs_with a (suc a) k) (pairs_from (suc a) k)
+        (ih (omega (arith, eqb-false x a e)))
 
 -- no pair stands twice
 unfoldable pub Apart : List (ℕ × ℕ) → Type 0

@@ -1,5 +1,6 @@
 -- The listing has every site once, and the site at each place by arithmetic.
-use Rattle.std.specs.Prelude.{◌≡◌, refl, Bool, true, ◌⊎◌, ◌↔◌, List, [], ◌∷◌, ◌++◌, ℕ, zero, suc, ◌+◌, ◌-◌, ◌≤◌, ◌<◌, length, get_or}
+use Rattle.std.specs.Prelude.{◌≡◌, refl, Bool, true, ◌⊎◌, ◌↔◌, List, [], ◌∷◌, ◌++◌, ℕ, zero, suc, ◌+◌, ◌-◌, ◌≤◌, ◌<◌}
+use Rattle.std.specs.Prelude.{length, get_or}
 use Rattle.std.proofs.Common.{sym, ap, ap₂, subst, ◌∙◌, inl, inr, arith, length-append, get_or-append-add}
 use Rattle.std.proofs.Math.Decide.{dec_lt, ℕ_discrete}
 use Rattle.std.proofs.Math.ListN.{get_or-append, get_or-eq_default}
@@ -196,7 +197,8 @@ all_listed =
 -- ---- the site at a place: the unit counts start at the places 0, 1, 3, 11 and 75
 
 -- past the sites of n units
-skip : (n k i j : ℕ) → tables n + j ≡ i → get_or (sites_from n (suc k)) i (0, 0) ≡ get_or (sites_from (suc n) k) j (0, 0)
+skip : (n k i j : ℕ) → tables n + j ≡ i → get_or (sites_from n (suc k)) i (0, 0)
+    ≡ get_or (sites_from (suc n) k) j (0, 0)
 skip n k i j e =
     let q : i - tables n ≡ j = omega arith in
     site-later n k i (0, 0) (omega arith) ∙ ap (λ (x : ℕ). get_or (sites_from (suc n) k) x (0, 0)) q

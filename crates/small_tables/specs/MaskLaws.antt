@@ -1,5 +1,6 @@
 -- The bits of a mask are the units' flags.
-use Rattle.std.specs.Prelude.{◌≡◌, refl, Bool, true, false, cond, ◌↔◌, List, ℕ, zero, suc, ◌+◌, ◌*◌, ◌/◌, ◌%◌, ◌^◌, ◌≤◌, ◌<◌, get_or}
+use Rattle.std.specs.Prelude.{◌≡◌, refl, Bool, true, false, cond, ◌↔◌, List, ℕ, zero, suc, ◌+◌, ◌*◌, ◌/◌, ◌%◌, ◌^◌, ◌≤◌}
+use Rattle.std.specs.Prelude.{◌<◌, get_or}
 use Rattle.std.proofs.Common.{ap, sym, ◌∙◌}
 use native.Mathlib.Omega.{arith}
 use Rattle.base_lists.specs.Folds.{sum}
@@ -47,7 +48,8 @@ module _ (singles : List Bool) where
   mask-bit v l =
       go v l
       (bits_of (mask_of singles) _ _ _ _ _ (bit-small (get_or singles 0 false)) (bit-small (get_or singles 1 false))
-      (bit-small (get_or singles 2 false)) (bit-small (get_or singles 3 false)) (bit-small (get_or singles 4 false)) parts)
+      (bit-small (get_or singles 2 false)) (bit-small (get_or singles 3 false)) (bit-small (get_or singles 4 false))
+      parts)
     where
       Bit : ℕ → Type 0
       Bit u = mask_of singles / 2 ^ u % 2 ≡ bit (get_or singles u false)

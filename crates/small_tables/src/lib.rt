@@ -1,4 +1,6 @@
 // T-13: the table of a number among those of a few units, the mask of its single points, and the line that tells both.
+#![tactic(auto)]
+
 ghost use Rattle.std.specs.Prelude.{◌≡◌, ◌+◌, ◌-◌, ◌≤◌, ◌<◌, min, length};
 ghost use Rattle.file_frames.specs.Frame.{line_over};
 ghost use Rattle.small_tables.specs.Small.{table_of, mask_of, small_body};
@@ -15,7 +17,7 @@ pub const MOST: u16 = 5;
 pub const KIND: u8 = 0x22;
 
 // A table: its words stand first, 0 past them.
-#[derive(Drop)]
+#[derive(Clone, Copy)]
 pub struct Small {
     pub words: [u16; 20],
     pub count: u16,

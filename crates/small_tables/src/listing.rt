@@ -6,7 +6,7 @@ ghost use Rattle.small_tables.specs.Listing.{site_at};
 pub const SITES: u16 = 1099;
 
 // A unit count, and a number among the tables of so many units.
-#[derive(Drop)]
+#[derive(Clone, Copy)]
 pub struct Site {
     pub units: u16,
     pub number: u16,

@@ -1,11 +1,2 @@
 pub mod Turns
-pub mod TurnLaws
 pub mod Office
-pub mod OfficeLaws
-pub mod LoadingLaws
-pub mod TickLaws
-pub mod Fairness
-pub mod TickCauses
-pub mod Channel
-pub mod ChannelProof
-pub mod Vacant

@@ -4,7 +4,8 @@ use Rattle.std.specs.Prelude.{◌≡◌, Bool, cond, not, ◌&&◌, ◌||◌, Li
 use Rattle.base_lists.specs.Folds.{some}
 use Rattle.table.specs.Refusals.{first_of}
 use Rattle.spec_machine.specs.State.{State, units, finished}
-use Rattle.spec_machine.specs.Load.{Input, load_refusal, stored_load_refusal, loaded, planned_load_refusal, planned_loaded}
+use Rattle.spec_machine.specs.Load.{Input, load_refusal, stored_load_refusal, loaded, planned_load_refusal}
+use Rattle.spec_machine.specs.Load.{planned_loaded}
 use Rattle.spec_machine.specs.Load.{unloaded}
 use Rattle.spec_machine.specs.WellFormed.{well_formed}
 use Rattle.spec_machine.specs.Step.{step}

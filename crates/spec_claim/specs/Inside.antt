@@ -7,7 +7,8 @@ use Rattle.spec_machine.specs.State.{State, FINISHED}
 use Rattle.spec_machine.specs.Load.{Input, links_in}
 use Rattle.spec_machine.specs.Step.{countdown}
 use Rattle.spec_machine.specs.RunLaws.{total}
-use Rattle.spec_machine.specs.Report.{unit_color, unit_parent, unit_place, unit_single, link_label, link_lone, report_length}
+use Rattle.spec_machine.specs.Report.{unit_color, unit_parent, unit_place, unit_single, link_label, link_lone}
+use Rattle.spec_machine.specs.Report.{report_length}
 use Rattle.spec_machine.specs.Report.{report as reportOf}
 use Rattle.spec_claim.specs.Play.{Call, round, run, status, unit, link, report, answer_to, slice_after, play, used}
 use Rattle.spec_claim.specs.Claim.{Loaded, EndRight}

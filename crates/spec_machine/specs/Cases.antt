@@ -1,6 +1,7 @@
 -- The proved cases A to K of document 01 and those of document 02's T-05 and T-10: rows of one table, held by one
 -- theorem. Every figure stands here once, and is compared with what the definitions compute.
-use Rattle.std.specs.Prelude.{◌≡◌, refl, Bool, true, false, cond, ◌&&◌, List, [], ◌∷◌, ◌++◌, ℕ, zero, suc, ◌+◌, eqb, take, drop, replicate}
+use Rattle.std.specs.Prelude.{◌≡◌, refl, Bool, true, false, cond, ◌&&◌, List, [], ◌∷◌, ◌++◌, ℕ, zero, suc, ◌+◌, eqb}
+use Rattle.std.specs.Prelude.{take, drop, replicate}
 use Rattle.std.proofs.Common.{ap₂, eqb-true}
 use Rattle.std.proofs.lemmas.Bool.{false≢true}
 use Rattle.base_lists.specs.Tests.{and_left, and_right}
@@ -14,14 +15,16 @@ use Rattle.file_spec.specs.Example.{case_b}
 use Rattle.spec_rules.specs.Basics.{ABSENT}
 use Rattle.spec_rules.specs.Ceilings
 use Rattle.spec_rules.specs.Components.{least_heard, color_round, color_ends}
-use Rattle.spec_rules.specs.Tree.{better, prefer, best_neighbor, chosen_parent, visits, parent_round, dist_round, tree_ends}
+use Rattle.spec_rules.specs.Tree.{better, prefer, best_neighbor, chosen_parent, visits, parent_round, dist_round}
+use Rattle.spec_rules.specs.Tree.{tree_ends}
 use Rattle.spec_rules.specs.Planned.{planned_parents, planned_dists, plan_unfit}
 use Rattle.spec_rules.specs.Tour.{least_neighbor, greater_neighbor, neighbor_after, follower, is_start, predecessor}
 use Rattle.spec_rules.specs.Tour.{next_round, pred_round, first_sums, first_jumps}
 use Rattle.spec_rules.specs.Ranking.{sum_round, jump_round, requests_of, ranking_ends}
 use Rattle.spec_rules.specs.Order.{forward_round, descendants, nd_round, second_sums, second_jumps, place_of, pre_round}
 use Rattle.spec_rules.specs.Range
-use Rattle.spec_rules.specs.Range.{local_of, unit_at, local_at, global_first, range_first, little_first, big_first, with_little}
+use Rattle.spec_rules.specs.Range.{local_of, unit_at, local_at, global_first, range_first, little_first, big_first}
+use Rattle.spec_rules.specs.Range.{with_little}
 use Rattle.spec_rules.specs.Range.{with_big, range_later, little_later, big_later, global_later, range_ends}
 use Rattle.spec_rules.specs.Aux.{link_joins_round, joins_parent, parent_joins_round, least_joined, aux_round, aux_ends}
 use Rattle.spec_rules.specs.Labels.{naming_unit, class_round, label_of, label_round, lone, single}
@@ -116,7 +119,8 @@ holds (site n t figures) =
     let r = surveyed s in
     eqb (stored_load_refusal (bare n t)) 0 && finished r.0 && shows_all s r.0 r.1 figures
 holds (checks n t stored fresh) = eqb (stored_load_refusal (bare n t)) stored && eqb (load_refusal (bare n t)) fresh
-holds (opens n t countdown) = eqb (stored_load_refusal (bare n t)) 0 && eqb (Step.countdown (loaded (bare n t))) countdown
+holds (opens n t countdown) = eqb (stored_load_refusal (bare n t)) 0
+    && eqb (Step.countdown (loaded (bare n t))) countdown
 holds (plans n t ps figures) =
     let s = planned_loaded (bare n t) ps in
     let r = surveyed s in
@@ -215,17 +219,24 @@ cases =
     ∷ []
 
 pub cases_hold : hold_all cases ≡ true
-unfolding case_b in_range stored_refusal fresh_refusal end_missing equal_ends joined_in repeated_link is_end unlinked_below lg
-    lg_from line_of hexes_of sum_of check_byte Ceilings.countdown least_heard color_round color_ends better prefer best_neighbor
-    chosen_parent visits parent_round dist_round tree_ends least_neighbor greater_neighbor neighbor_after follower is_start
+unfolding case_b in_range stored_refusal fresh_refusal end_missing equal_ends joined_in repeated_link is_end
+    unlinked_below lg
+    lg_from line_of hexes_of sum_of check_byte Ceilings.countdown least_heard color_round color_ends better prefer
+    best_neighbor
+    chosen_parent visits parent_round dist_round tree_ends least_neighbor greater_neighbor neighbor_after follower
+    is_start
     predecessor next_round pred_round first_sums first_jumps sum_round jump_round requests_of ranking_ends forward_round
     descendants nd_round second_sums second_jumps place_of pre_round local_of unit_at local_at global_first range_first
-    little_first big_first with_little with_big range_later little_later big_later global_later range_ends link_joins_round
-    joins_parent parent_joins_round least_joined aux_round aux_ends naming_unit class_round label_of label_round lone single parts
-    groups loaded begun absents zeros silences plan_unfit planned_load_refusal planned_loaded planned_parents planned_dists
+    little_first big_first with_little with_big range_later little_later big_later global_later range_ends
+    link_joins_round
+    joins_parent parent_joins_round least_joined aux_round aux_ends naming_unit class_round label_of label_round lone
+    single parts
+    groups loaded begun absents zeros silences plan_unfit planned_load_refusal planned_loaded planned_parents
+    planned_dists
     Step.components Step.tree_searched Step.tree_planned Step.tree Step.tour_next Step.tour_pred Step.tour Step.ranking
     Step.marks_forward Step.marks_descendants Step.marks Step.places Step.range_begun Step.range_doubled Step.range
-    Step.aux_edges Step.aux_components Step.label_classes Step.label_positions Step.labels Step.rule_ends Step.last_round
+    Step.aux_edges Step.aux_components Step.label_classes Step.label_positions Step.labels Step.rule_ends
+    Step.last_round
     Step.round_tables Step.round_requests Step.next_clock Step.step ran report head_line unit_line link_line tail_line
 cases_hold = refl
 
@@ -250,7 +261,8 @@ figure_shown s e k (g ∷ front) f back h =
     figure_shown s e k front f back (and_right (shows s e k g) (shows_all s e k (front ++ f ∷ back)) h)
 
 -- case B: its table passes, and what the definitions report of it, run with the first countdown as its budget
-parts-B : (stored_load_refusal site_b ≡ 0) × (report (ran (Step.countdown (loaded site_b)) 0 (loaded site_b)).0 ≡ report_b)
+parts-B : (stored_load_refusal site_b ≡ 0) × (report (ran (Step.countdown (loaded site_b)) 0 (loaded site_b)).0
+    ≡ report_b)
 parts-B =
     let s = loaded site_b in
     let e = (surveyed s).0 in

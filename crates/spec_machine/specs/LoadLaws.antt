@@ -1,5 +1,6 @@
 -- Laws of loading, and of the state that was never loaded.
-use Rattle.std.specs.Prelude.{◌≡◌, refl, true, false, List, ◌++◌, ℕ, ◌+◌, ◌≤◌, ◌<◌, min, length, get_or, set, take, drop, ℤ}
+use Rattle.std.specs.Prelude.{◌≡◌, refl, true, false, List, ◌++◌, ℕ, ◌+◌, ◌≤◌, ◌<◌, min, length, get_or, set, take}
+use Rattle.std.specs.Prelude.{drop, ℤ}
 use Rattle.std.proofs.Common.{sym, ◌∙◌, add-one, arith, length-take-le, take-suc, take_all}
 use Rattle.std.proofs.Math.Decide.{dec_le}
 use Rattle.std.proofs.lemmas.List.{length-replicate}
@@ -30,7 +31,8 @@ module _ {A : Type 0} where
       go (no l) = let all : count ≡ size = omega (arith, e) in rw all refl
 
 -- a table that passes fits the array
-pub passed-fits : (n : ℕ) (t : List ℕ) (ls : List ℤ) → stored_refusal n t ls ≡ 0 → (length t ≤ 2048) × (length ls ≤ 1024)
+pub passed-fits : (n : ℕ) (t : List ℕ) (ls : List ℤ) → stored_refusal n t ls ≡ 0 → (length t ≤ 2048)
+    × (length ls ≤ 1024)
 passed-fits n t ls e =
     let p = passes n t (table-alone n t ls e) in
     (omega (arith, p.pairs, p.few_links), omega (arith, table-levelled n t ls e, p.few_links))

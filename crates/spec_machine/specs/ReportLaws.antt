@@ -63,7 +63,8 @@ link_at s rest j l =
     (rw (
       drop_at (head_line s) (gathered (units s) (unit_line s)
           ++ (gathered (links s) (link_line s) ++ (tail_line s ++ rest))) 13 (length-head s),
-      drop_at (gathered (units s) (unit_line s)) (gathered (links s) (link_line s) ++ (tail_line s ++ rest)) (23 * units s)
+      drop_at (gathered (units s) (unit_line s)) (gathered (links s) (link_line s)
+          ++ (tail_line s ++ rest)) (23 * units s)
           (units-long s),
     )
     (gathered-at (links s) 15 (link_line s) (tail_line s ++ rest) (λ u q. length-link s u) j l)))

@@ -1,7 +1,8 @@
 -- Laws of steps and runs: a run makes as many steps as it says, stops at its budget or at the end and not before, and
 -- from a well-formed state as many rounds as the countdown shows come to the end.
 use Rattle.std.specs.Prelude.{◌≡◌, refl, Bool, true, false, cond, ◌⊎◌, ◌↔◌, ℕ, zero, suc, ◌+◌, ◌-◌, ◌≤◌, ◌<◌}
-use Rattle.std.proofs.Common.{sym, ap, ◌∙◌, inl, inr, add-suc, suc-add, add-zero, zero-add, not-suc-le-zero, add-one, arith, eqb-true, eq-eqb}
+use Rattle.std.proofs.Common.{sym, ap, ◌∙◌, inl, inr, add-suc, suc-add, add-zero, zero-add, not-suc-le-zero, add-one}
+use Rattle.std.proofs.Common.{arith, eqb-true, eq-eqb}
 use Rattle.std.proofs.Math.Decide.{dec_lt, dec_le, ℕ_discrete}
 use Rattle.std.proofs.lemmas.Bool.{eqb-false}
 use Rattle.base_lists.specs.Tests.{either, not_both, cond_true, cond_false}
@@ -66,7 +67,8 @@ ran-before (suc budget) k s = go (either (finished s)) (λ i. ran-before budget 
     go : (finished s ≡ true) ⊎ (finished s ≡ false)
         → ((i : ℕ) → ((ran budget i (step s)).0 ≡ (ran budget 0 (step s)).0)
         × ((ran budget i (step s)).1 ≡ (ran budget 0 (step s)).1 + i))
-        → ((ran (suc budget) k s).0 ≡ (ran (suc budget) 0 s).0) × ((ran (suc budget) k s).1 ≡ (ran (suc budget) 0 s).1 + k)
+        → ((ran (suc budget) k s).0 ≡ (ran (suc budget) 0 s).0)
+        × ((ran (suc budget) k s).1 ≡ (ran (suc budget) 0 s).1 + k)
     go (inl f) later = rw f (refl, sym (zero-add k))
     go (inr f) later = rw f ((later (suc k)).0 ∙ sym (later 1).0, omega (arith, (later (suc k)).1, (later 1).1))
 

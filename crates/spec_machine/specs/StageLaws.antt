@@ -70,7 +70,8 @@ each-round P s r =
 
 -- no round touches the table of links
 kept_table : (s : State) → (Step.round_tables s).table ≡ s.table
-unfolding Step.components Step.tree_searched Step.tree_planned Step.tour_next Step.tour_pred Step.ranking Step.marks_forward
+unfolding Step.components Step.tree_searched Step.tree_planned Step.tour_next Step.tour_pred Step.ranking
+    Step.marks_forward
     Step.marks_descendants Step.places Step.range_begun Step.range_doubled Step.aux_edges Step.aux_components
     Step.label_classes Step.label_positions
 kept_table s =
@@ -99,7 +100,8 @@ step-table s = cond-keeps (λ (z : State). z.table ≡ s.table) (finished s) s _
 
 -- nor the planner's tree
 kept-plan : (s : State) → (Step.round_tables s).plan ≡ s.plan
-unfolding Step.components Step.tree_searched Step.tree_planned Step.tour_next Step.tour_pred Step.ranking Step.marks_forward
+unfolding Step.components Step.tree_searched Step.tree_planned Step.tour_next Step.tour_pred Step.ranking
+    Step.marks_forward
     Step.marks_descendants Step.places Step.range_begun Step.range_doubled Step.aux_edges Step.aux_components
     Step.label_classes Step.label_positions
 kept-plan s =

@@ -1,6 +1,7 @@
 -- One round: the tables of its stage by the rules, then the clock. All units of a round read the state that the round
 -- before left.
-use Rattle.std.specs.Prelude.{Bool, true, false, cond, not, ◌&&◌, ◌||◌, List, ℕ, zero, suc, ◌+◌, ◌*◌, ◌-◌, min, max, eqb, leb}
+use Rattle.std.specs.Prelude.{Bool, true, false, cond, not, ◌&&◌, ◌||◌, List, ℕ, zero, suc, ◌+◌, ◌*◌, ◌-◌, min, max}
+use Rattle.std.specs.Prelude.{eqb, leb}
 use Rattle.spec_rules.specs.Ceilings.{ceiling}
 use Rattle.spec_rules.specs.Ceilings as Ceilings
 use Rattle.spec_rules.specs.Components.{color_round, color_ends}
@@ -9,7 +10,8 @@ use Rattle.spec_rules.specs.Planned.{planned_parents, planned_dists}
 use Rattle.spec_rules.specs.Tour.{next_round, pred_round, first_sums, first_jumps}
 use Rattle.spec_rules.specs.Ranking.{sum_round, jump_round, requests_of, ranking_ends}
 use Rattle.spec_rules.specs.Order.{forward_round, nd_round, second_sums, second_jumps, pre_round}
-use Rattle.spec_rules.specs.Range.{global_first, range_first, little_first, big_first, range_later, little_later, big_later}
+use Rattle.spec_rules.specs.Range.{global_first, range_first, little_first, big_first, range_later, little_later}
+use Rattle.spec_rules.specs.Range.{big_later}
 use Rattle.spec_rules.specs.Range.{global_later, range_ends}
 use Rattle.spec_rules.specs.Aux.{link_joins_round, parent_joins_round, aux_round, aux_ends}
 use Rattle.spec_rules.specs.Labels.{class_round, label_round}

@@ -1,6 +1,7 @@
 -- What document 01 says of every kept state: a load makes one, a round leaves one, and the countdown falls with each
 -- round and is zero only at the end.
-use Rattle.std.specs.Prelude.{◌≡◌, refl, Bool, true, false, cond, ◌⊎◌, ◌↔◌, List, ◌++◌, ℕ, ◌+◌, ◌*◌, ◌≤◌, ◌<◌, eqb, length, get_or, drop, take}
+use Rattle.std.specs.Prelude.{◌≡◌, refl, Bool, true, false, cond, ◌⊎◌, ◌↔◌, List, ◌++◌, ℕ, ◌+◌, ◌*◌, ◌≤◌, ◌<◌, eqb}
+use Rattle.std.specs.Prelude.{length, get_or, drop, take}
 use Rattle.std.proofs.Common.{sym, ap, ◌∙◌, inl, inr, arith, take_at, eqb-true, eq-eqb, ne_eqb}
 use Rattle.std.proofs.lemmas.Bool.{eqb-false}
 use Rattle.base_lists.specs.All.{All, all_of, all_append, all_drop, all_replicate, every-exact}

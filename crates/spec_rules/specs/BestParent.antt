@@ -25,7 +25,8 @@ pub record Best (m made : ℕ) (ends : List ℕ) (levels : List ℤ) (dist : Lis
   pub least : (i w : ℕ) → Offers m made ends dist v i w → level_at levels i ≡ level_at levels link → c ≤ w
 
 module _ (m made : ℕ) (ends : List ℕ) (levels : List ℤ) (dist : List ℕ)
-    (small_a : (j : ℕ) → j < m → end_a ends j < ABSENT) (small_b : (j : ℕ) → j < m → end_b ends j < ABSENT) (v : ℕ) where
+    (small_a : (j : ℕ) → j < m → end_a ends j < ABSENT) (small_b : (j : ℕ) → j < m → end_b ends j
+    < ABSENT) (v : ℕ) where
   pub chosen-best : chosen_parent m made ends levels dist v ≢ ABSENT →
       Best m made ends levels dist v (chosen_parent m made ends levels dist v)
   unfolding chosen_parent

@@ -1,6 +1,7 @@
 -- Laws of stage 3's order round a unit: what the neighbour after another is, that each neighbour comes after one, and
 -- what the cyclic order looks like when it is cut open at a neighbour of choice.
-use Rattle.std.specs.Prelude.{◌≡◌, refl, Bool, true, false, cond, ◌&&◌, ◌⊎◌, ◌≢◌, List, ℕ, zero, suc, ◌+◌, ◌≤◌, ◌<◌, eqb, ltb}
+use Rattle.std.specs.Prelude.{◌≡◌, refl, Bool, true, false, cond, ◌&&◌, ◌⊎◌, ◌≢◌, List, ℕ, zero, suc, ◌+◌, ◌≤◌, ◌<◌}
+use Rattle.std.specs.Prelude.{eqb, ltb}
 use Rattle.std.proofs.Common.{◌∙◌, inl, inr, le_refl, arith, eqb-true, ltb-true, lt-ltb, le-ltb}
 use Rattle.std.proofs.Math.Nat.{le_step}
 use Rattle.std.proofs.Math.Decide.{ℕ_discrete, dec_lt}
@@ -103,7 +104,8 @@ next-onto nb n w l t = go (last-passing nb w) (last-passing nb n)
         from : (x : ℕ) → nb x ≡ true → u < x → Dec (x < w) → w ≤ x
         from x q j (yes i) = absurd (omega (arith, h x i q))
         from x q j (no i) = omega arith
-    go (inr h) (inl (u, b, s, g)) = (u, b, s, wrapped g (λ (x : ℕ) (k : x < n) (q : nb x ≡ true). from x q (dec_lt x w)))
+    go (inr h) (inl (u, b, s, g)) =
+        (u, b, s, wrapped g (λ (x : ℕ) (k : x < n) (q : nb x ≡ true). from x q (dec_lt x w)))
       where
         from : (x : ℕ) → nb x ≡ true → Dec (x < w) → w ≤ x
         from x q (yes i) = absurd (h x i q)

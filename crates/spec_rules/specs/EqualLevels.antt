@@ -70,7 +70,8 @@ module _ (made : ℕ) (ends : List ℕ) (levels : List ℤ) (dist : List ℕ) (v
   -- all links
   links_match : (m : ℕ) → ((j : ℕ) → j < m → end_a ends j < ABSENT) → ((j : ℕ) → j < m → end_b ends j < ABSENT) →
       ((j : ℕ) → j < m → level_at levels j ≡ z)
-      → Matches z (best_neighbor (visited_before made dist) m ends levels v) (least m (neighbor made ends dist v) ABSENT)
+      → Matches z (best_neighbor (visited_before made dist) m ends levels v)
+      (least m (neighbor made ends dist v) ABSENT)
   unfolding best_neighbor
   links_match zero sa sb e = neither refl refl
   links_match (suc m) sa sb e =

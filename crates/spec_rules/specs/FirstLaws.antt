@@ -2,7 +2,7 @@
 -- class's least position).
 use Rattle.std.specs.Prelude.{◌≡◌, true, ◌⊎◌, List, ℕ, zero, suc, ◌+◌, ◌≤◌, ◌<◌, min, eqb, length, get_or}
 use Rattle.std.proofs.Math.Bool.{false, cond}
-use Rattle.std.proofs.Common.{inl, inr, le_antisymm, arith}
+use Rattle.std.proofs.Common.{sym, subst, inl, inr, le_antisymm, arith}
 use Rattle.std.proofs.Math.Decide.{dec_lt}
 use Rattle.std.proofs.Math.Numerals.{add-one}
 use Rattle.base_lists.specs.Tests.{either}
@@ -31,9 +31,9 @@ module _ (key : List ℕ) where
       → new ≡ bucket_table (first_at (k + 1) key) old
   unfolding bucket_table first_at
   first_more k old t new was put =
-      rw (put, was, add-one k)
+      subst (λ (z : ℕ). new ≡ bucket_table (first_at z key) old) (sym (add-one k)) (rw (put, was)
       (single-over false BUCKETS (first_at k key) (λ (q : ℕ). ABSENT) old (at key k) k
-      (λ (q : ℕ). fold_again false k (λ (i : ℕ). cond (eqb (at key i) q) i ABSENT) ABSENT))
+      (λ (q : ℕ). fold_again false k (λ (i : ℕ). cond (eqb (at key i) q) i ABSENT) ABSENT)))
 
   pub first-all : (m k : ℕ) (old t : List ℕ) → length old ≡ BUCKETS → t ≡ bucket_table (first_at k key) old → k ≤ m →
       m ≤ k

@@ -92,7 +92,10 @@ better-behind z w y u e = go (or_cases (lt_z y z) (le_z y z && ltb w u) e)
 
 pub not_better : (z : ℤ) (w : ℕ) (y : ℤ) (u : ℕ) → better z w y u ≡ false → Behind z w y u
 unfolding better
-not_better z w y u e = (lt_z_not y z (or_false-left (lt_z y z) (le_z y z && ltb w u) e), λ q. least q (either (ltb w u)))
+not_better z w y u e = (
+  lt_z_not y z (or_false-left (lt_z y z) (le_z y z && ltb w u) e),
+  λ q. least q (either (ltb w u)),
+)
   where
     least : z ≡ y → (ltb w u ≡ true) ⊎ (ltb w u ≡ false) → u ≤ w
     least q (inl h) =
@@ -161,7 +164,8 @@ module _ (passes : ℕ → Bool) (ends : List ℕ) (levels : List ℤ) (v : ℕ)
       go (inl t) = rw t
           (by m (le_refl (suc m), h, g) s refl
           (λ i x k.
-          below_suc (λ (n : ℕ). Joins ends n v x → passes x ≡ true → Behind (level_at levels n) x (level_at levels m) w) m
+          below_suc (λ (n : ℕ). Joins ends n v x → passes x ≡ true → Behind (level_at levels n) x (level_at levels m) w)
+          m
           (λ n l j p. behind_trans (level_at levels n) best.level (level_at levels m) x best.unit w
           (low n x (l, j, p)) (better-behind (level_at levels m) w best.level best.unit t))
           (λ j p. rw (alone x j p) (behind_refl (level_at levels m) w)) i k.0 k.1 k.2))
@@ -218,7 +222,8 @@ module _ (passes : ℕ → Bool) (ends : List ℕ) (levels : List ℤ) (v : ℕ)
 
   -- of those that pass the same tests the same is the best
   pub best_cong : (other : ℕ → Bool) (m : ℕ) →
-      ((j : ℕ) → j < m → (passes (end_a ends j) ≡ other (end_a ends j)) × (passes (end_b ends j) ≡ other (end_b ends j)))
+      ((j : ℕ) → j < m → (passes (end_a ends j) ≡ other (end_a ends j))
+      × (passes (end_b ends j) ≡ other (end_b ends j)))
       → best_neighbor passes m ends levels v ≡ best_neighbor other m ends levels v
   unfolding best_neighbor
   best_cong other zero h = refl
@@ -244,7 +249,8 @@ best-ends passes (suc m) ends other levels v h =
 -- ---- the parent
 
 module _ (m made : ℕ) (ends : List ℕ) (levels : List ℤ) (dist : List ℕ)
-    (small_a : (j : ℕ) → j < m → end_a ends j < ABSENT) (small_b : (j : ℕ) → j < m → end_b ends j < ABSENT) (v : ℕ) where
+    (small_a : (j : ℕ) → j < m → end_a ends j < ABSENT) (small_b : (j : ℕ) → j < m → end_b ends j
+    < ABSENT) (v : ℕ) where
   pub chosen : Choice m made ends dist v (chosen_parent m made ends levels dist v)
   unfolding chosen_parent
   chosen = go (best_neighbor (visited_before made dist) m ends levels v)

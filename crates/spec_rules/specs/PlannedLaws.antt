@@ -1,5 +1,6 @@
 -- What a planner's tree leaves is within bounds, and 18's test in words.
-use Rattle.std.specs.Prelude.{◌≡◌, refl, Bool, true, false, cond, not, ◌&&◌, ◌||◌, ◌⊎◌, ◌↔◌, ◌≢◌, List, ℕ, zero, suc, ◌+◌, ◌≤◌, ◌<◌, eqb, ltb}
+use Rattle.std.specs.Prelude.{◌≡◌, refl, Bool, true, false, cond, not, ◌&&◌, ◌||◌, ◌⊎◌, ◌↔◌, ◌≢◌, List, ℕ, zero, suc}
+use Rattle.std.specs.Prelude.{◌+◌, ◌≤◌, ◌<◌, eqb, ltb}
 use Rattle.std.proofs.Common.{inl, inr, arith, eqb-true, eq-eqb, ltb-true, lt-ltb}
 use Rattle.std.proofs.lemmas.Bool.{eqb-false}
 use Rattle.base_lists.specs.All.{All, all-over, cond-keeps}

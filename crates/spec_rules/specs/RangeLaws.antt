@@ -1,7 +1,8 @@
 -- Stage 7 as code makes it: local values by one pass over the links, places by buckets, and a round's moves by the
 -- segments' length.
-use Rattle.std.specs.Prelude.{◌≡◌, refl, Bool, true, false, cond, ◌&&◌, ◌⊎◌, List, ℕ, ◌+◌, ◌-◌, ◌≤◌, ◌<◌, min, length, get_or}
-use Rattle.std.proofs.Common.{inl, inr, arith, leb-true, eq-eqb}
+use Rattle.std.specs.Prelude.{◌≡◌, refl, Bool, true, false, cond, ◌&&◌, ◌⊎◌, List, ℕ, ◌+◌, ◌-◌, ◌≤◌, ◌<◌, min, length}
+use Rattle.std.specs.Prelude.{get_or}
+use Rattle.std.proofs.Common.{sym, subst, inl, inr, arith, leb-true, eq-eqb}
 use Rattle.std.proofs.Math.Nat.{le_antisymm}
 use Rattle.std.proofs.Math.Numerals.{add-one}
 use Rattle.std.proofs.Math.Dec.{eqb, leb}
@@ -29,20 +30,25 @@ module _ (g : Bool) (ends parent pre : List ℕ) where
   local-none = over-same 0 max_units _ pre (λ (v : ℕ) (l : v < max_units). refl)
 
   pub local-more : (j : ℕ) (t new : List ℕ) → t ≡ local_table g j ends parent pre
-      → new ≡ cond (off_tree parent (end_a ends j) (end_b ends j)) (hears g max_units pre (end_a ends j) (end_b ends j) t) t
+      → new ≡ cond (off_tree parent (end_a ends j) (end_b ends j))
+      (hears g max_units pre (end_a ends j) (end_b ends j) t) t
       → new ≡ local_table g (j + 1) ends parent pre
   unfolding local_table Range.local_of
   local-more j t new was put =
-      rw (put, was, add-one j)
+      subst (λ (z : ℕ). new ≡ local_table g z ends parent pre) (sym (add-one j)) (rw (put, was)
       (hears-over_if (off_tree parent (end_a ends j) (end_b ends j)) g max_units pre (end_a ends j) (end_b ends j)
       (Range.local_of (op_of g) j ends parent pre) pre
-      (λ (v : ℕ). fold_again g j (Range.place_heard ends parent pre v) (at pre v)))
+      (λ (v : ℕ). fold_again g j (Range.place_heard ends parent pre v) (at pre v))))
 
   pub local-all : (j m : ℕ) (t : List ℕ) → length pre ≡ max_units → t ≡ local_table g j ends parent pre → j ≤ m → m ≤ j
       → (v : ℕ) → v < max_units → get_or t v 0 ≡ Range.local_of (op_of g) m ends parent pre v
   unfolding local_table
   local-all j m t full was l h v b =
-      rw (was, get_d_over max_units (Range.local_of (op_of g) j ends parent pre) pre v 0 b (omega arith), le_antisymm l h)
+      rw (
+        was,
+        get_d_over max_units (Range.local_of (op_of g) j ends parent pre) pre v 0 b (omega arith),
+        le_antisymm l h,
+      )
 
 -- ---- local values by place
 

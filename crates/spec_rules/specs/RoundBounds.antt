@@ -1,5 +1,6 @@
 -- A round leaves every entry within its bounds: for each rule, from the bounds of the tables that it reads.
-use Rattle.std.specs.Prelude.{◌≡◌, refl, Bool, true, false, cond, not, ◌&&◌, ◌||◌, ◌⊎◌, List, ℕ, zero, suc, ◌+◌, ◌*◌, ◌-◌, ◌/◌, ◌^◌, ◌≤◌, ◌<◌, min, eqb, ℤ}
+use Rattle.std.specs.Prelude.{◌≡◌, refl, Bool, true, false, cond, not, ◌&&◌, ◌||◌, ◌⊎◌, List, ℕ, zero, suc, ◌+◌, ◌*◌}
+use Rattle.std.specs.Prelude.{◌-◌, ◌/◌, ◌^◌, ◌≤◌, ◌<◌, min, eqb, ℤ}
 use Rattle.std.proofs.Common.{inl, inr, arith, eq-eqb}
 use Rattle.std.proofs.Math.Dec.{leb, ltb}
 use Rattle.std.proofs.lemmas.Bool.{eqb-false}
@@ -51,7 +52,8 @@ color_names n m made ends color h w = all-over (Names n) n _ color (λ (v : ℕ)
 
     entry : (v : ℕ) → Names n (least_heard m ends (color_said n made color) v)
     entry v =
-        fold-picks (Names n) min min_picks m (λ (j : ℕ). heard (color_said n made color) (end_a ends j) (end_b ends j) v)
+        fold-picks (Names n) min min_picks m (λ (j : ℕ). heard (color_said n made color) (end_a ends j) (end_b ends j)
+        v)
         (at (color_said n made color) v)
         (λ (j : ℕ) (l : j < m). heard-names n (color_said n made color) (end_a ends j) (end_b ends j) v h said)
         (names_at n (color_said n made color) v h said)
@@ -161,7 +163,8 @@ unfolding follower
 follower-names n parent a small w l = go (names_at n parent (arc_unit a) (omega arith) w)
     (either (is_root parent (arc_unit a)))
   where
-    go : Names n (at parent (arc_unit a)) → (is_root parent (arc_unit a) ≡ true) ⊎ (is_root parent (arc_unit a) ≡ false) →
+    go : Names n (at parent (arc_unit a)) → (is_root parent (arc_unit a) ≡ true) ⊎ (is_root parent (arc_unit a) ≡ false)
+        →
         Names (2 * n) (follower n parent a)
     go p (inl e) = rw e (inr refl)
     go (inl p) (inr e) =
@@ -285,7 +288,8 @@ module _ (op : ℕ → ℕ → ℕ) (picks : Picks op) where
       (λ (j : ℕ) (l : j < m).
       cond-keeps Number (off_tree parent (end_a ends j) (end_b ends j))
       (heard pre (end_a ends j) (end_b ends j) (unit_at n pre q)) (at pre (unit_at n pre q))
-      (cond-keeps Number (eqb (end_a ends j) (unit_at n pre q)) (at pre (end_b ends j)) _ (number_at pre (end_b ends j) w)
+      (cond-keeps Number (eqb (end_a ends j) (unit_at n pre q)) (at pre (end_b ends j)) _
+      (number_at pre (end_b ends j) w)
       (cond-keeps Number (eqb (end_b ends j) (unit_at n pre q)) (at pre (end_a ends j)) (at pre (unit_at n pre q))
       (number_at pre (end_a ends j) w) (number_at pre (unit_at n pre q) w)))
       (number_at pre (unit_at n pre q) w))
@@ -319,7 +323,8 @@ module _ (op : ℕ → ℕ → ℕ) (picks : Picks op) where
     where
       first : (v : ℕ) → Number (with_little op i n global little big v (at range v))
       first v =
-          cond-keeps Number (moves_little i little big v) (op (at range v) (segment n global (at little v))) (at range v)
+          cond-keeps Number (moves_little i little big v) (op (at range v) (segment n global (at little v)))
+          (at range v)
           (picks-keep Number op picks (at range v) (segment n global (at little v)) (number_at range v w)
           (segment-number n global (at little v) g))
           (number_at range v w)
@@ -354,7 +359,8 @@ pub big-first-numbers : (n : ℕ) (nd pre big : List ℕ) → All Number big →
 unfolding big_first
 big-first-numbers n nd pre big w = all-over Number n _ big (λ (v : ℕ) (l : v < n). bounded-number _) w
 
-pub little-later-numbers : (i n : ℕ) (big little : List ℕ) → All Number little → All Number (little_later i n big little)
+pub little-later-numbers : (i n : ℕ) (big little : List ℕ) → All Number little
+    → All Number (little_later i n big little)
 unfolding little_later
 little-later-numbers i n big little w =
     all-over Number n _ little
@@ -396,7 +402,8 @@ aux-names n m made ends parent linkJoins parentJoins color h w =
 
     over-join : (mark a b v : ℕ) → Names n (heard_over parent (aux_said n made color) mark a b v)
     over-join mark a b v =
-        cond-keeps (Names n) (joined parent mark a b) (heard (aux_said n made color) a b v) (at (aux_said n made color) v)
+        cond-keeps (Names n) (joined parent mark a b) (heard (aux_said n made color) a b v)
+        (at (aux_said n made color) v)
         (heard-names n (aux_said n made color) a b v h said) (names_at n (aux_said n made color) v h said)
 
     entry : (v : ℕ) → Names n (least_joined n m ends parent linkJoins parentJoins (aux_said n made color) v)

@@ -1,5 +1,6 @@
 -- Stage 3 as code makes it: both arcs of a unit in one turn, predecessors and starts by buckets.
-use Rattle.std.specs.Prelude.{◌≡◌, refl, Bool, true, false, not, ◌&&◌, List, ℕ, ◌+◌, ◌*◌, ◌/◌, ◌%◌, ◌≤◌, ◌<◌, min, eqb, get_or}
+use Rattle.std.specs.Prelude.{◌≡◌, refl, Bool, true, false, not, ◌&&◌, List, ℕ, ◌+◌, ◌*◌, ◌/◌, ◌%◌, ◌≤◌, ◌<◌, min, eqb}
+use Rattle.std.specs.Prelude.{get_or}
 use Rattle.std.proofs.Common.{sym, ap, ◌∙◌, arith}
 use Rattle.std.proofs.Math.Bool.{cond, and-true, or-false}
 use borrow.Author.Tests.{eqb-true, eq-eqb, ne_eqb}
@@ -83,7 +84,8 @@ abbrev pub pred_out : List ℕ → List ℕ → ℕ → ℕ
 pred_out parent first v = cond (not (is_root parent v)) (at first (2 * v + 1)) ABSENT
 
 module _ (n : ℕ) (parent next child first : List ℕ) (lost : ℕ) (small : n ≤ ABSENT)
-    (children : (q : ℕ) → q < BUCKETS → get_or child q 0 ≡ first_at n parent q) (orphans : lost ≡ first_at n parent ABSENT)
+    (children : (q : ℕ) → q < BUCKETS → get_or child q 0 ≡ first_at n parent q) (orphans : lost
+    ≡ first_at n parent ABSENT)
     (firsts : (q : ℕ) → q < BUCKETS → get_or first q 0 ≡ first_at (min (2 * n) ABSENT) next q) where
   start-go : (v : ℕ) (b : Bool) → is_root parent (at parent v) ≡ b
       → (b && eqb (lookup (first_at n parent) child lost (at parent v)) v)
@@ -104,11 +106,13 @@ module _ (n : ℕ) (parent next child first : List ℕ) (lost : ℕ) (small : n 
   unfolding first_at
   first-same q h = firsts q h ∙ first_clamp (2 * n) next q
 
-  pub pred_in_lem : (v : ℕ) → 2 * v < BUCKETS → pred_in n parent child lost first v ≡ Tour.predecessor n parent next (2 * v)
+  pub pred_in_lem : (v : ℕ) → 2 * v < BUCKETS → pred_in n parent child lost first v
+      ≡ Tour.predecessor n parent next (2 * v)
   unfolding Tour.predecessor
   pred_in_lem v h = rw (start-same v, first-same (2 * v) h, unit-into v)
 
-  pub pred_out_lem : (v : ℕ) → 2 * v + 1 < BUCKETS → pred_out parent first v ≡ Tour.predecessor n parent next (2 * v + 1)
+  pub pred_out_lem : (v : ℕ) → 2 * v + 1 < BUCKETS → pred_out parent first v
+      ≡ Tour.predecessor n parent next (2 * v + 1)
   unfolding Tour.predecessor Tour.is_start
   pred_out_lem v h = rw (
     unit-out v,

@@ -1,8 +1,10 @@
 -- Stage 2 as code makes it: a table of the chosen parents, with one of the levels of their links, by one pass over the
 -- links, then entry by entry.
-use Rattle.std.specs.Prelude.{◌≡◌, Bool, true, false, not, ◌&&◌, ◌||◌, List, ℕ, zero, suc, ◌+◌, ◌≤◌, ◌<◌, eqb, ℤ, pos, set}
+use Rattle.std.specs.Prelude.{◌≡◌, Bool, true, false, not, ◌&&◌, ◌||◌, List, ℕ, zero, suc, ◌+◌, ◌≤◌, ◌<◌, eqb, ℤ, pos}
+use Rattle.std.specs.Prelude.{set}
 use Rattle.std.proofs.Math.Path.{refl}
-use Rattle.std.proofs.Common.{sym, ap, subst, ◌∙◌, le_antisymm, add-one, arith, length-set, get_or-set_same, get_or-set_other, eq-eqb, ne_eqb}
+use Rattle.std.proofs.Common.{sym, ap, subst, ◌∙◌, le_antisymm, add-one, arith, length-set, get_or-set_same}
+use Rattle.std.proofs.Common.{get_or-set_other, eq-eqb, ne_eqb}
 use Rattle.std.proofs.Math.Bool.{cond}
 use Rattle.std.proofs.Math.Decide.{ℕ_discrete, dec_lt}
 use Rattle.std.proofs.Math.ListN.{length, get_or-eq_default}
@@ -177,7 +179,8 @@ module _ (passes : ℕ → ℕ → Bool) (ends : List ℕ) (levels : List ℤ) w
   best-all m j held best h l g v k = rw (le_antisymm g l) (ap (λ (x : Neighbor). x.unit) (h.each v k))
 
 pub chosen-all : (m j made : ℕ) (ends : List ℕ) (levels : List ℤ) (dist : List ℕ) (held : List ℤ) (best : List ℕ)
-    → Holds held best (best_neighbor (visited_before made dist) j ends levels) → j ≤ m → m ≤ j → (v : ℕ) → v < max_units →
+    → Holds held best (best_neighbor (visited_before made dist) j ends levels) → j ≤ m → m ≤ j → (v : ℕ) → v < max_units
+    →
     at best v ≡ chosen_parent m made ends levels dist v
 unfolding chosen_parent
 chosen-all m j made ends levels dist held best h l g v k =

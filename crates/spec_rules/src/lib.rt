@@ -1,1 +1,3 @@
 // The ten stages as rules over tables: specs only.
+
+#![tactic(auto)]

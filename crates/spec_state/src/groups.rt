@@ -3,7 +3,7 @@
 // position, segments by place.
 
 // The table of links: the two ends of link j stand at 2j and 2j + 1, its level at j.
-#[derive(Drop)]
+#[derive(Clone, Copy)]
 pub struct Table {
     pub units: u16,
     pub links: u16,
@@ -12,7 +12,7 @@ pub struct Table {
 }
 
 // The stage, 1 to 10 or 11 at the end; the rounds of this stage; all rounds; all requests of the rankings.
-#[derive(Drop)]
+#[derive(Clone, Copy)]
 pub struct Clock {
     pub stage: u16,
     pub made: u16,
@@ -31,41 +31,41 @@ impl Clock {
 }
 
 // Stage 1: colour.
-#[derive(Drop)]
+#[derive(Clone, Copy)]
 pub struct Components {
     pub color: [u16; 256],
 }
 
 // Stage 2: parent and distance.
-#[derive(Drop)]
+#[derive(Clone, Copy)]
 pub struct Tree {
     pub parent: [u16; 256],
     pub dist: [u16; 256],
 }
 
 // A tree drawn by the planner (document 02, T-05): its parents, and whether it was given, any number but 0.
-#[derive(Drop)]
+#[derive(Clone, Copy)]
 pub struct Plan {
     pub given: u16,
     pub parent: [u16; 256],
 }
 
 // Stage 3: follower and predecessor of each arc.
-#[derive(Drop)]
+#[derive(Clone, Copy)]
 pub struct Tour {
     pub next: [u16; 512],
     pub pred: [u16; 512],
 }
 
 // Stages 4 and 6: working predecessor and sum of each arc.
-#[derive(Drop)]
+#[derive(Clone, Copy)]
 pub struct Ranking {
     pub jump: [u16; 512],
     pub sum: [u16; 512],
 }
 
 // Stages 5 and 6: forward marks of arcs, descendants and place of units.
-#[derive(Drop)]
+#[derive(Clone, Copy)]
 pub struct Order {
     pub forward: [u16; 512],
     pub nd: [u16; 256],
@@ -73,7 +73,7 @@ pub struct Order {
 }
 
 // Stage 7: least and greatest of each unit, with little and big.
-#[derive(Drop)]
+#[derive(Clone, Copy)]
 pub struct Range {
     pub low: [u16; 256],
     pub high: [u16; 256],
@@ -82,14 +82,14 @@ pub struct Range {
 }
 
 // Stage 7: the segments, least and greatest.
-#[derive(Drop)]
+#[derive(Clone, Copy)]
 pub struct Global {
     pub low: [u16; 256],
     pub high: [u16; 256],
 }
 
 // Stages 8 and 9: the joins of units with their parents and of links, and the class of each tree link.
-#[derive(Drop)]
+#[derive(Clone, Copy)]
 pub struct Aux {
     pub parents: [u16; 256],
     pub links: [u16; 1024],
@@ -97,7 +97,7 @@ pub struct Aux {
 }
 
 // Stage 10: the class and the label of each link.
-#[derive(Drop)]
+#[derive(Clone, Copy)]
 pub struct Labels {
     pub class: [u16; 1024],
     pub label: [u16; 1024],

@@ -1,4 +1,6 @@
 // The types that a state and a call's reply are made of: declarations, no functions.
+#![tactic(auto)]
+
 mod groups;
 mod reply;
 

@@ -1,5 +1,5 @@
 // What a call answers, or only the number of a refusal.
-#[derive(Drop)]
+#[derive(Clone, Copy)]
 pub enum Reply {
     // Only the number comes back.
     Refused(u8),

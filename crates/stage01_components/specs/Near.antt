@@ -35,7 +35,8 @@ less-self h = omega arith
 -- what is no less than an entry leaves it as it is
 unheard : (n : ℕ) (t : List ℕ) (v x : ℕ) → v < n → get_or t v 0 ≤ x → takes_in min n t v x ≡ t
 unfolding takes_in
-unheard n t v x h l = let own : min (get_or t v 0) x ≡ get_or t v 0 = omega arith in rw (lt-ltb v n h, own) (set-get_or t v 0)
+unheard n t v x h l = let own : min (get_or t v 0) x ≡ get_or t v 0 = omega arith in
+    rw (lt-ltb v n h, own) (set-get_or t v 0)
 
 taken : (n : ℕ) (t : List ℕ) (v x : ℕ) → v < n → set t v (min (get_or t v 0) x) ≡ takes_in min n t v x
 unfolding takes_in
@@ -48,18 +49,21 @@ chosen-within m false a b ha hb = ha
 
 -- the end that says less hears nothing
 module _ (n : ℕ) (said t : List ℕ) (a b : ℕ) (ha : Hearer n said t a) (hb : Hearer n said t b) where
-  hears-second : get_or said a 0 < get_or said b 0 → (new : List ℕ) → new ≡ set t b (min (get_or t b 0) (get_or said a 0)) →
+  hears-second : get_or said a 0 < get_or said b 0 → (new : List ℕ) → new
+      ≡ set t b (min (get_or t b 0) (get_or said a 0)) →
       new ≡ hears false n said a b t
   unfolding hears
   hears-second h new put =
       rw (put, unheard n t a (get_or said b 0) ha.0 (omega (arith, ha.1.1.1))) (taken n t b (get_or said a 0) hb.0)
 
-  hears-first : get_or said b 0 < get_or said a 0 → (new : List ℕ) → new ≡ set t a (min (get_or t a 0) (get_or said b 0)) →
+  hears-first : get_or said b 0 < get_or said a 0 → (new : List ℕ) → new
+      ≡ set t a (min (get_or t a 0) (get_or said b 0)) →
       new ≡ hears false n said a b t
   unfolding hears
   hears-first h new put =
       let apart : b ≡ a → ⊥ = λ q. less-self (rw q at h) in
-      let kept : get_or new b 0 ≡ get_or t b 0 = rw put (get_or-set_other t a b (min (get_or t a 0) (get_or said b 0)) 0 apart) in
+      let kept : get_or new b 0 ≡ get_or t b 0 =
+      rw put (get_or-set_other t a b (min (get_or t a 0) (get_or said b 0)) 0 apart) in
       let same : new ≡ takes_in min n t a (get_or said b 0) = put ∙ taken n t a (get_or said b 0) ha.0 in
       let rest : takes_in min n new b (get_or said a 0) ≡ new =
       unheard n new b (get_or said a 0) hb.0 (omega (arith, hb.1.1.1, kept)) in
@@ -71,7 +75,8 @@ module _ (n : ℕ) (said t : List ℕ) (a b : ℕ) (ha : Hearer n said t a) (hb 
       rw (unheard n t a (get_or said b 0) ha.0 (omega (arith, ha.1.1.1, h)))
       (sym (unheard n t b (get_or said a 0) hb.0 (omega (arith, hb.1.1.1, h))))
 
-  hears-same : get_or said a 0 ≡ get_or said b 0 → (new : List ℕ) → new ≡ set t a (min (get_or t a 0) (get_or said b 0)) →
+  hears-same : get_or said a 0 ≡ get_or said b 0 → (new : List ℕ) → new ≡ set t a (min (get_or t a 0) (get_or said b 0))
+      →
       new ≡ hears false n said a b t
   hears-same h new put =
       put ∙ taken n t a (get_or said b 0) ha.0 ∙ unheard n t a (get_or said b 0) ha.0 (omega (arith, ha.1.1.1, h))
@@ -88,7 +93,8 @@ module _ (n : ℕ) (said t : List ℕ) (a b : ℕ) (ha : Hearer n said t a) (hb 
   hears_lesser i x which least new put =
       go (dec_lt (get_or said a 0) (get_or said b 0)) (dec_lt (get_or said b 0) (get_or said a 0))
     where
-      go : Dec (get_or said a 0 < get_or said b 0) → Dec (get_or said b 0 < get_or said a 0) → new ≡ hears false n said a b t
+      go : Dec (get_or said a 0 < get_or said b 0) → Dec (get_or said b 0 < get_or said a 0) → new
+          ≡ hears false n said a b t
       go (yes h) _ =
           let to : i ≡ b = rw (lt-ltb (get_or said a 0) (get_or said b 0) h) at which in
           let what : x ≡ get_or said a 0 = omega (arith, least, h) in

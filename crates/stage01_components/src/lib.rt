@@ -1,4 +1,6 @@
 // Stage 1, colour: the least unit of each component, by propagation.
+#![tactic(auto)]
+
 ghost use Rattle.std.specs.Prelude.{◌≡◌, true, false, ◌<◌, ◌≤◌, min, length, get_or, set};
 ghost use Rattle.base_lists.specs.Tables.{over};
 ghost use Rattle.spec_rules.specs.Components.{least_heard, color_round};
@@ -14,7 +16,7 @@ use spec_state::Clock;
 use table_values::{bounds, propagation};
 
 // The table of the stage, the clock, and the rounds made.
-#[derive(Drop)]
+#[derive(Clone, Copy)]
 pub struct Ran {
     pub color: [u16; 256],
     pub clock: Clock,

@@ -1,5 +1,6 @@
 -- Distances found ahead of the rounds of stage 2: when they are right, and the tables that they give.
-use Rattle.std.specs.Prelude.{◌≡◌, ℕ, ◌+◌, ◌<◌, ◌≤◌, Bool, cond, not, ◌&&◌, ◌≢◌, ◌⊎◌, List, length, ℤ, ◌==◌, nat_le, nat_lt}
+use Rattle.std.specs.Prelude.{◌≡◌, ℕ, ◌+◌, ◌<◌, ◌≤◌, Bool, cond, not, ◌&&◌, ◌≢◌, ◌⊎◌, List, length, ℤ, ◌==◌, nat_le}
+use Rattle.std.specs.Prelude.{nat_lt}
 use Rattle.base_lists.specs.Tables.{over}
 use Rattle.table.specs.Table.{end_a, end_b}
 use Rattle.spec_rules.specs.Basics.{ABSENT, at}

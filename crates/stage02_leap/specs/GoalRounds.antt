@@ -1,5 +1,6 @@
 -- What the next round of breadth first leaves where distances found ahead are right.
-use Rattle.std.specs.Prelude.{◌≡◌, ℕ, zero, suc, ◌+◌, ◌-◌, ◌<◌, ◌≤◌, true, false, cond, not, ◌&&◌, ◌≢◌, ◌⊎◌, List, length, ℤ, ◌==◌, nat_le}
+use Rattle.std.specs.Prelude.{◌≡◌, ℕ, zero, suc, ◌+◌, ◌-◌, ◌<◌, ◌≤◌, true, false, cond, not, ◌&&◌, ◌≢◌, ◌⊎◌, List}
+use Rattle.std.specs.Prelude.{length, ℤ, ◌==◌, nat_le}
 use Rattle.std.proofs.Math.Path.{refl, ap}
 use Rattle.std.proofs.Common.{sym, ◌∙◌, inl, inr, arith}
 use Rattle.std.proofs.Math.Decide.{ℕ_discrete, dec_lt}
@@ -11,7 +12,8 @@ use Rattle.base_lists.specs.Tables.{over, length_over, get_d_over, over_cong, ov
 use Rattle.base_lists.specs.Tests.{refuted}
 use Rattle.table.specs.Table.{end_a, end_b}
 use Rattle.spec_rules.specs.Basics.{ABSENT, at}
-use Rattle.spec_rules.specs.Tree.{visited_before, Neighbor, best_neighbor, chosen_parent, visits, parent_round, dist_round}
+use Rattle.spec_rules.specs.Tree.{visited_before, Neighbor, best_neighbor, chosen_parent, visits, parent_round}
+use Rattle.spec_rules.specs.Tree.{dist_round}
 use Rattle.spec_rules.specs.Tree.{tree_ends}
 use Rattle.spec_rules.specs.ParentChoice.{Joins, Found, by, lacking, found, best_cong, Choice, nearer, nobody, chosen}
 use Rattle.spec_rules.specs.ParentChoice.{visits-later}

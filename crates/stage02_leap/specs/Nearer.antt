@@ -1,7 +1,9 @@
 -- The tests of distances found ahead: link by link whether its ends are at most one apart, with the best neighbours one
 -- nearer, then unit by unit.
-use Rattle.std.specs.Prelude.{◌≡◌, ℕ, ◌+◌, ◌*◌, ◌<◌, ◌≤◌, Bool, true, false, cond, not, ◌&&◌, ◌||◌, ◌≢◌, ◌⊎◌, List, length, ℤ, ◌==◌, nat_eq, nat_le, nat_lt, slice_set, refl}
-use Rattle.std.proofs.Common.{sym, ap, ◌∙◌, true≢false, inl, inr, arith, eqb-true, eq-eqb, ne_eqb, ltb-true, le-ltb, leb-true}
+use Rattle.std.specs.Prelude.{◌≡◌, ℕ, ◌+◌, ◌*◌, ◌<◌, ◌≤◌, Bool, true, false, cond, not, ◌&&◌, ◌||◌, ◌≢◌, ◌⊎◌, List}
+use Rattle.std.specs.Prelude.{length, ℤ, ◌==◌, nat_eq, nat_le, nat_lt, slice_set, refl}
+use Rattle.std.proofs.Common.{sym, ap, ◌∙◌, true≢false, inl, inr, arith, eqb-true, eq-eqb, ne_eqb, ltb-true, le-ltb}
+use Rattle.std.proofs.Common.{leb-true}
 use Rattle.std.proofs.Math.Decide.{ℕ_discrete}
 use Rattle.std.proofs.lemmas.Bool.{eqb-false, not-true, not-false}
 use Rattle.base_lists.specs.Folds.{some}
@@ -177,7 +179,8 @@ goal_tested n m made last tip ends levels dist far cand few full within nearest-
       small = omega (arith, room, few);
       known = λ v h. known_by made last (at far v) (at cand v) (at dist v)
           (some-none n (strays_at made last far cand dist) right v h);
-      beside = λ j l. beside-by (at far (end_a ends j)) (at far (end_b ends j)) (some-none m (apart_at ends far) near j l);
+      beside = λ j l. beside-by (at far (end_a ends j)) (at far (end_b ends j))
+          (some-none m (apart_at ends far) near j l);
       led = λ v h l. rw (← nearest-is v (omega (arith, h, few)))
           (led-by made last (at far v) (at cand v) (at dist v)
           (some-none n (strays_at made last far cand dist) right v h) l);
@@ -197,13 +200,15 @@ leapt_tested n m made tip top ends levels parent dist far cand new-parent new-di
     under room is nearest-is near parents dists at_home tests all =
     let tested : ((nat_le 1 made && nat_le made (top + 1)) && not (wide || stray)) ≡ true = sym tests ∙ all in
     let begun = and_left (nat_le 1 made && nat_le made (top + 1)) (not (wide || stray)) tested in
-    let none = not-true (wide || stray) (and_right (nat_le 1 made && nat_le made (top + 1)) (not (wide || stray)) tested) in
+    let none = not-true (wide
+    || stray) (and_right (nat_le 1 made && nat_le made (top + 1)) (not (wide || stray)) tested) in
     record {
       far = far;
       goal =
           goal_tested n m made (top + 1) tip ends levels dist far cand few full within nearest-is
           (leb-true 1 made (and_left (nat_le 1 made) (nat_le made (top + 1)) begun))
-          (leb-true made (top + 1) (and_right (nat_le 1 made) (nat_le made (top + 1)) begun)) (omega (arith, room)) under
+          (leb-true made (top + 1) (and_right (nat_le 1 made) (nat_le made (top + 1)) begun)) (omega (arith, room))
+          under
           (omega (arith, is))
           (sym near ∙ or_false-left wide stray none) (sym at_home ∙ or_false-right wide stray none);
       room = omega (arith, room);

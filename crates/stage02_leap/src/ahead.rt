@@ -6,7 +6,7 @@ use table::ABSENT;
 use table_values::tables;
 
 // A distance for each unit, and the unit reached last; absent where all had one.
-#[derive(Drop)]
+#[derive(Clone, Copy)]
 pub struct Found {
     pub far: [u16; 256],
     pub tip: u16,

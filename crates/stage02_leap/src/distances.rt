@@ -14,7 +14,7 @@ use table::ABSENT;
 use table_values::bounds;
 
 // The tables after round `last`, which ends the stage, if that is right.
-#[derive(Drop)]
+#[derive(Clone, Copy)]
 pub struct Leap {
     pub parent: [u16; 256],
     pub dist: [u16; 256],

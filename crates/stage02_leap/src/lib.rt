@@ -1,5 +1,7 @@
 // The rest of stage 2's rounds at once: a search finds distances ahead of them, and tests say whether these are right.
 // The search is proved to end and to stay within its tables, no more.
+#![tactic(auto)]
+
 ghost use Rattle.std.specs.Prelude.{◌≡◌, true, false};
 ghost use Rattle.stage02_leap.specs.Goal.{Leapt};
 

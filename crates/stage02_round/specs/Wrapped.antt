@@ -39,7 +39,8 @@ module _ (m made : ℕ) (ends : List ℕ) (levels : List ℤ) (color dist : List
   visits-wrapped v = rw (chosen-wrapped v) refl
 
   pub parents-wrapped : (n : ℕ) (parent : List ℕ) →
-      parent_round n m made (wrapped ends) levels color dist parent ≡ parent_round n m made ends levels color dist parent
+      parent_round n m made (wrapped ends) levels color dist parent
+      ≡ parent_round n m made ends levels color dist parent
   unfolding parent_round
   parents-wrapped n parent = over_cong n _ _ parent
       (λ (v : ℕ) (h : v < n). rw (visits-wrapped v, chosen-wrapped v) refl)

@@ -1,5 +1,7 @@
 // A round of breadth first (stage 2): one pass over the links gives each unit the parent that it would take, one over
 // the units both tables and the end.
+#![tactic(auto)]
+
 pub mod choice;
 pub mod planned;
 
@@ -14,7 +16,7 @@ ghost use Rattle.stage02_round.specs.Wrapped.{wrapped};
 use table::ABSENT;
 
 // The tables after a round, and whether the stage ends with it.
-#[derive(Drop)]
+#[derive(Clone, Copy)]
 pub struct After {
     pub parent: [u16; 256],
     pub dist: [u16; 256],

@@ -5,7 +5,7 @@ ghost use Rattle.spec_rules.specs.Planned.{planned_parents, planned_dists};
 mod climb;
 
 // The tables of stage 2 after it.
-#[derive(Drop)]
+#[derive(Clone, Copy)]
 pub struct Planned {
     pub parent: [u16; 256],
     pub dist: [u16; 256],

@@ -80,7 +80,8 @@ on-onward n c h l =
       requests = omega arith;
     }) (stands n 2 c h)
 
-off-ended : (n rounds requests : ℕ) → in_stage n 2 (record { stage = 3; made = 0; rounds = rounds; requests = requests })
+off-ended : (n rounds requests : ℕ)
+    → in_stage n 2 (record { stage = 3; made = 0; rounds = rounds; requests = requests })
     ≡ false
 off-ended n rounds requests =
     refuted (in_stage n 2 (record { stage = 3; made = 0; rounds = rounds; requests = requests }))

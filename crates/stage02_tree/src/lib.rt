@@ -1,4 +1,6 @@
 // Stage 2, tree: breadth first, or taken over from the planner (document 02, T-05).
+#![tactic(auto)]
+
 ghost use Rattle.std.specs.Prelude.{◌≡◌, true, ◌+◌, ◌<◌, ◌≤◌};
 ghost use Rattle.spec_rules.specs.Fits.{links_fit, EndsWithin};
 ghost use Rattle.spec_machine.specs.InStage.{in_stage};
@@ -14,7 +16,7 @@ use table_values::bounds;
 const LEAP_AFTER: u16 = 1;
 
 // The tables of the stage, the clock, and the rounds made.
-#[derive(Drop)]
+#[derive(Clone, Copy)]
 pub struct Ran {
     pub parent: [u16; 256],
     pub dist: [u16; 256],

@@ -2,7 +2,8 @@
 -- kinds is the lesser of two.
 use Rattle.std.specs.Prelude.{◌≡◌, Bool, true, false, cond, ◌&&◌, ◌||◌, ◌⊎◌, List, leb, length}
 use Rattle.std.proofs.Math.Path.{refl, ap₂}
-use Rattle.std.proofs.Common.{sym, ◌∙◌, inl, inr, le_antisymm, add-one, arith, ltb-true, le-leb, eqb-true, eq-eqb, ne_eqb}
+use Rattle.std.proofs.Common.{sym, ◌∙◌, inl, inr, le_antisymm, add-one, arith, ltb-true, le-leb, eqb-true, eq-eqb}
+use Rattle.std.proofs.Common.{ne_eqb}
 use Prim.Native.Nat.{ℕ, zero, suc, ◌+◌, ◌*◌, ◌≤◌, ◌<◌, min}
 use Rattle.std.proofs.Math.Decide.{ℕ_discrete}
 use Rattle.std.proofs.Math.Dec.{eqb, ltb}
@@ -159,7 +160,8 @@ in_by parent eldest past v =
 abbrev pub out_by : List ℕ → List ℕ → List ℕ → ℕ → ℕ
 out_by parent eldest later v =
     cond (eqb (at parent v) ABSENT) ABSENT
-    (min (Tour.arc_from parent (at parent v) (turn_to (at later v) (at eldest (at parent v)) (at parent (at parent v)) v))
+    (min (Tour.arc_from parent (at parent v) (turn_to (at later v) (at eldest (at parent v)) (at parent (at parent v))
+    v))
     ABSENT)
 
 module _ (n : ℕ) (parent eldest later past : List ℕ) (fit : Parents n parent) (eldests : Eldest 256 n 0 parent eldest)

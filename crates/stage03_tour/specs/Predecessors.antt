@@ -44,7 +44,8 @@ module _ (n : ℕ) (parent next child first : List ℕ) (fit : Parents n parent)
   pub into-right : into_by parent child first v ≡ Tour.predecessor n parent next (2 * v)
   into-right =
       into-same n parent child first (first_at n parent ABSENT) v fit below (ℕ_discrete (at parent v) ABSENT)
-      ∙ pred_in_lem n parent next child first (first_at n parent ABSENT) small children refl known v (omega (arith, fit.0))
+      ∙ pred_in_lem n parent next child first (first_at n parent ABSENT) small children refl known v
+      (omega (arith, fit.0))
 
   pub out-right : pred_out parent first v ≡ Tour.predecessor n parent next (2 * v + 1)
   out-right = pred_out_lem n parent next child first (first_at n parent ABSENT) small children refl known v

@@ -77,7 +77,8 @@ module _ (n : ℕ) (parent : List ℕ) where
             (get_or-set_same t q (cond (ltb (at parent q) j) j (get_or t q 0)) 0 (omega (arith, h, full)))
         go (no e) =
             rw (put, from-turn n (is_past parent q) j below small, ne_eqb (at parent j) q (λ i. e (sym i)), ← down)
-            (get_or-set_other t (at parent j) q (cond (ltb (at parent (at parent j)) j) j (get_or t (at parent j) 0)) 0 e
+            (get_or-set_other t (at parent j) q (cond (ltb (at parent (at parent j)) j) j (get_or t (at parent j) 0)) 0
+            e
             ∙ was q h)
 
     pub later-turn : (eldest t new : List ℕ) → length t ≡ 256 → Eldest 256 n k parent eldest → Later n k parent t

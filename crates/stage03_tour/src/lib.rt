@@ -1,5 +1,7 @@
 // Stage 3, tour: the Euler tour of each tree. Its first round finds the followers of arcs, its second their
 // predecessors, with the start of the first ranking.
+#![tactic(auto)]
+
 mod followers;
 mod predecessors;
 
@@ -11,7 +13,7 @@ use spec_state::Clock;
 use table_values::bounds;
 
 // The tables of the stage and of the first ranking, the clock, and the rounds made.
-#[derive(Drop)]
+#[derive(Clone, Copy)]
 pub struct Ran {
     pub next: [u16; 512],
     pub pred: [u16; 512],

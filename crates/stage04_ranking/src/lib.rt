@@ -1,4 +1,6 @@
 // Stage 4, ranking: the rank of each arc in its tour, by doubling. Stage 6 ranks by the same rounds.
+#![tactic(auto)]
+
 ghost use Rattle.std.specs.Prelude.{◌≡◌, true, min, length};
 ghost use Rattle.spec_rules.specs.Ranking.{sum_round, jump_round, requests_of};
 ghost use Rattle.spec_machine.specs.InStage.{in_stage};
@@ -9,7 +11,7 @@ use spec_state::Clock;
 use table::ABSENT;
 
 // The tables of the stage, the clock, and the rounds made.
-#[derive(Drop)]
+#[derive(Clone, Copy)]
 pub struct Ran {
     pub jump: [u16; 512],
     pub sum: [u16; 512],

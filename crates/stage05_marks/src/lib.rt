@@ -1,4 +1,6 @@
 // Stage 5, marks: forward arcs; then descendants, and the start of the second ranking.
+#![tactic(auto)]
+
 ghost use Rattle.std.specs.Prelude.{◌≡◌, cond, not, ◌&&◌, ◌≤◌, eqb, ltb};
 ghost use Rattle.spec_rules.specs.Order.{forward_round, nd_round, second_sums, second_jumps};
 ghost use Rattle.spec_machine.specs.StageRun.{stage_run};
@@ -9,7 +11,7 @@ use table::ABSENT;
 use table_values::counts;
 
 // The tables of the stage, the clock, and the rounds made.
-#[derive(Drop)]
+#[derive(Clone, Copy)]
 pub struct Ran {
     pub forward: [u16; 512],
     pub nd: [u16; 256],

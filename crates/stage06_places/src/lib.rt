@@ -1,4 +1,6 @@
 // Stage 6, places: the second ranking; with its last round the place of each unit.
+#![tactic(auto)]
+
 ghost use Rattle.std.specs.Prelude.{◌≡◌, true, cond, ◌≤◌};
 ghost use Rattle.spec_rules.specs.Order.{pre_round};
 ghost use Rattle.spec_machine.specs.InStage.{in_stage};
@@ -10,7 +12,7 @@ use table::ABSENT;
 use table_values::counts;
 
 // The tables of the stage, the clock, and the rounds made.
-#[derive(Drop)]
+#[derive(Clone, Copy)]
 pub struct Ran {
     pub pre: [u16; 256],
     pub jump: [u16; 512],

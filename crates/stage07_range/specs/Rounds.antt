@@ -8,7 +8,8 @@ use Rattle.base_log2.specs.Lg.{lg}
 use Rattle.base_log2.specs.LgLaws.{lg-least}
 use Rattle.table.specs.Passes.{passes}
 use Rattle.spec_rules.specs.Fits.{links_fit}
-use Rattle.spec_rules.specs.Range.{global_first, range_first, little_first, big_first, range_later, little_later, big_later}
+use Rattle.spec_rules.specs.Range.{global_first, range_first, little_first, big_first, range_later, little_later}
+use Rattle.spec_rules.specs.Range.{big_later}
 use Rattle.spec_rules.specs.Range.{global_later, range_ends}
 use Rattle.spec_state.specs.declared.groups.Clock.{Clock}
 use Rattle.spec_machine.specs.State

@@ -1,4 +1,6 @@
 // Stage 7, range: low and high over all descendants, by segments whose length doubles.
+#![tactic(auto)]
+
 mod local;
 
 ghost use Rattle.std.specs.Prelude.{◌≡◌};
@@ -9,7 +11,7 @@ use spec_state::Clock;
 use table_values::bounds;
 
 // The tables of the stage, those of the segments last, the clock, and the rounds made.
-#[derive(Drop)]
+#[derive(Clone, Copy)]
 pub struct Ran {
     pub low: [u16; 256],
     pub high: [u16; 256],

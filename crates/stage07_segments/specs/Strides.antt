@@ -1,6 +1,8 @@
 -- The segments of a later round by strides: between two multiples of twice the span no segment changes.
-use Rattle.std.specs.Prelude.{◌≡◌, refl, Bool, true, false, not, cond, ◌&&◌, List, ℕ, ◌+◌, ◌-◌, ◌%◌, ◌≤◌, ◌<◌, eqb, length, get_or, set}
-use Rattle.std.proofs.Common.{sym, ◌∙◌, le_refl, arith, length-set, get_or-set_same, get_or-set_other, lt-ltb, le-ltb, ne_eqb}
+use Rattle.std.specs.Prelude.{◌≡◌, refl, Bool, true, false, not, cond, ◌&&◌, List, ℕ, ◌+◌, ◌-◌, ◌%◌, ◌≤◌, ◌<◌, eqb}
+use Rattle.std.specs.Prelude.{length, get_or, set}
+use Rattle.std.proofs.Common.{sym, ◌∙◌, le_refl, arith, length-set, get_or-set_same, get_or-set_other, lt-ltb, le-ltb}
+use Rattle.std.proofs.Common.{ne_eqb}
 use Rattle.std.proofs.Math.Decide.{dec_lt, ℕ_discrete}
 use Rattle.base_lists.specs.Multiples.{Multiple, multiple_step, no_remainder, multiple_remainder}
 use Rattle.base_lists.specs.Tables.{over, length_over, get_d_over}

@@ -1,6 +1,8 @@
 // A later round of stage 7: `span` is the length of a segment and `mask` one less than twice that. `greatest` asks for
 // high, else low. Rounds past the sixteenth, which no state makes, count as the sixteenth: a segment then is longer
 // than any table.
+#![tactic(auto)]
+
 ghost use Rattle.std.specs.Prelude.{◌≡◌, not, cond, ◌+◌, ◌-◌, ◌^◌, ◌≤◌, min, max, eqb, leb, ltb};
 ghost use Rattle.std.specs.Int.Bits.{bit_and};
 ghost use Rattle.base_lists.specs.Scatter.{op_of};

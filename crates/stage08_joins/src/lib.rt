@@ -1,4 +1,6 @@
 // Stage 8, joins: the edges of the auxiliary graph, whose vertices are the tree links, each named by its lower unit.
+#![tactic(auto)]
+
 ghost use Rattle.std.specs.Prelude.{◌≡◌, ◌+◌, ◌≤◌, ◌<◌, leb, ltb, cond, ◌&&◌};
 ghost use Rattle.spec_rules.specs.Fits.{EndsWithin};
 ghost use Rattle.spec_rules.specs.Aux.{joins_ends, link_joins_round, joins_parent, parent_joins_round};
@@ -10,7 +12,7 @@ use table::ABSENT;
 use table_values::{bounds, tables};
 
 // The tables of the stage, the clock, and the rounds made.
-#[derive(Drop)]
+#[derive(Clone, Copy)]
 pub struct Ran {
     pub parents: [u16; 256],
     pub links: [u16; 1024],

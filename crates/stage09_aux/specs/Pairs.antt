@@ -86,7 +86,8 @@ module _ (parent : List ℕ) (c mark a b : ℕ) (pairs new : List ℕ) (f : List
   pairs_push put room c' is value v = go (either (joined parent mark a b))
     where
       go : (joined parent mark a b ≡ true) ⊎ (joined parent mark a b ≡ false)
-          → least_heard c' new value v ≡ min (f value v) (cond (joined parent mark a b) (heard value a b v) (at value v))
+          → least_heard c' new value v
+          ≡ min (f value v) (cond (joined parent mark a b) (heard value a b v) (at value v))
       go (inl e) =
           let more : c' ≡ c + 1 = rw e at is in
           rw (e, more) (pushed put room value v)

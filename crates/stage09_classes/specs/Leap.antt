@@ -164,7 +164,8 @@ module _ (n m : ℕ) (ends parent linked parents : List ℕ) where
     absent-said value fine = sym (over-same 0 n (said_by parent value) value
         (λ (v : ℕ) (h : v < n). go v h (either (is_root parent v))))
       where
-        go : (v : ℕ) → v < n → (is_root parent v ≡ true) ⊎ (is_root parent v ≡ false) → at value v ≡ said_by parent value v
+        go : (v : ℕ) → v < n → (is_root parent v ≡ true) ⊎ (is_root parent v ≡ false) → at value v
+            ≡ said_by parent value v
         go v h (inl e) = fine.1 v h e ∙ sym (cond_true (is_root parent v) ABSENT (at value v) e)
         go v h (inr e) = sym (cond_false (is_root parent v) ABSENT (at value v) e)
 

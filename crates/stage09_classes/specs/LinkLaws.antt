@@ -28,7 +28,8 @@ module _ (n : ℕ) (ends marks said : List ℕ) where
       rw (put, was, add-one j)
       (hears-over_if (not (eqb (at marks j) 0)) false n said (end_a ends j) (end_b ends j)
       (over_links j ends marks said) said
-      (λ (v : ℕ). fold_again false j (λ (i : ℕ). heard_if said (at marks i) (end_a ends i) (end_b ends i) v) (at said v)))
+      (λ (v : ℕ). fold_again false j (λ (i : ℕ). heard_if said (at marks i) (end_a ends i) (end_b ends i) v)
+      (at said v)))
 
   unmarked : (mark a b v : ℕ) → mark ≡ 0 → heard_if said mark a b v ≡ at said v
   unmarked mark a b v e = rw e

@@ -13,7 +13,8 @@ heard_if said mark a b v = cond (not (eqb mark 0)) (heard said a b v) (at said v
 
 -- what v has heard over the joins of the first j links
 unfoldable pub over_links : ℕ → List ℕ → List ℕ → List ℕ → ℕ → ℕ
-over_links j ends marks said v = least j (λ (i : ℕ). heard_if said (at marks i) (end_a ends i) (end_b ends i) v) (at said v)
+over_links j ends marks said v =
+    least j (λ (i : ℕ). heard_if said (at marks i) (end_a ends i) (end_b ends i) v) (at said v)
 
 -- ---- joins with parents
 

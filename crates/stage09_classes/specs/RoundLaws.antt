@@ -1,6 +1,7 @@
 -- A round by heads is one of the rule. A root says the absent mark, which lowers no word: so no join asks for roots,
 -- and what a root takes in does not matter.
-use Rattle.std.specs.Prelude.{◌≡◌, refl, Bool, true, false, cond, not, ◌&&◌, ◌||◌, ◌⊎◌, List, ℕ, ◌+◌, ◌*◌, ◌≤◌, ◌<◌, min, eqb, length}
+use Rattle.std.specs.Prelude.{◌≡◌, refl, Bool, true, false, cond, not, ◌&&◌, ◌||◌, ◌⊎◌, List, ℕ, ◌+◌, ◌*◌, ◌≤◌, ◌<◌}
+use Rattle.std.specs.Prelude.{min, eqb, length}
 use Rattle.std.proofs.Common.{sym, ap, ◌∙◌, true≢false, inl, inr, le_refl, arith, eqb-true, eq-eqb, ne_eqb}
 use Rattle.std.proofs.Math.Decide.{ℕ_discrete}
 use Rattle.base_lists.specs.Tests.{or_false-left, or_false-right}

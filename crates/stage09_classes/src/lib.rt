@@ -1,4 +1,6 @@
 // Stage 9, classes: the components of the auxiliary graph, by stage 1's rule.
+#![tactic(auto)]
+
 ghost use Rattle.std.specs.Prelude.{◌≡◌, true, List, ℕ, ◌≤◌, ◌<◌, length, get_or};
 ghost use Rattle.spec_rules.specs.Aux.{aux_round};
 ghost use Rattle.spec_rules.specs.Fits.{EndsWithin};
@@ -16,7 +18,7 @@ mod links;
 mod tell;
 
 // The table of the stage, the clock, and the rounds made.
-#[derive(Drop)]
+#[derive(Clone, Copy)]
 pub struct Ran {
     pub color: [u16; 256],
     pub clock: Clock,

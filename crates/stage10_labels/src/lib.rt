@@ -1,4 +1,6 @@
 // Stage 10, labels: the class of each link, and its label, the least position in its class.
+#![tactic(auto)]
+
 ghost use Rattle.std.specs.Prelude.{◌≡◌, cond, ◌&&◌, ◌≤◌, ◌<◌, min};
 ghost use Rattle.spec_rules.specs.Fits.{EndsWithin};
 ghost use Rattle.spec_rules.specs.Labels.{naming_unit, class_round, label_round};
@@ -10,7 +12,7 @@ use table::ABSENT;
 use table_values::{bounds, firsts};
 
 // The tables of the stage, the clock, and the rounds made.
-#[derive(Drop)]
+#[derive(Clone, Copy)]
 pub struct Ran {
     pub class: [u16; 1024],
     pub label: [u16; 1024],

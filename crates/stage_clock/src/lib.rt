@@ -1,5 +1,7 @@
 // The clock of a survey as code: ceilings and countdown, whether a stage makes a round more, the tick, and the kept
 // test of table and clock.
+#![tactic(auto)]
+
 mod ceilings;
 mod kept;
 mod tick;

@@ -5,7 +5,7 @@ ghost use Rattle.spec_machine.specs.Calls.{number_of};
 use super::whole::Survey;
 use spec_state::Reply;
 
-#[derive(Drop)]
+#[derive(Clone, Copy)]
 pub struct Answer {
     pub survey: Survey,
     pub reply: Reply,

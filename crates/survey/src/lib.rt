@@ -1,4 +1,6 @@
 // The survey by value: the state and its calls load, round, run and status.
+#![tactic(auto)]
+
 mod answer;
 mod kept;
 mod load;

@@ -421,7 +421,7 @@ fn refusal(well: bool, stage: u16) -> u8
 }
 
 // The state after a run, and the rounds made.
-#[derive(Drop)]
+#[derive(Clone, Copy)]
 pub struct Gone {
     pub survey: Survey,
     pub made: u16,

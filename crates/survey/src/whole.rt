@@ -7,7 +7,7 @@ use spec_state::{
     Aux, Clock, Components, Global, Labels, Order, Plan, Range, Ranking, Table, Tour, Tree,
 };
 
-#[derive(Drop)]
+#[derive(Clone, Copy)]
 pub struct Survey {
     pub table: Table,
     pub clock: Clock,

@@ -2,6 +2,8 @@
 // reply an array of its fixed size. A number that comes back is document 01's number of the refusal, 0 where the call
 // was not refused; on a refusal nothing lent is altered. What a call leaves in a state's words is settled word for word
 // (words_known/specs/Left.antt).
+#![tactic(auto)]
+
 mod asked;
 mod live_tables;
 mod seats;
@@ -11,7 +13,8 @@ ghost use Rattle.std.specs.Prelude.{◌≡◌, length};
 ghost use Rattle.spec_machine.specs.Calls.{number_of, load_answer, stored_load_answer, planned_load_answer};
 ghost use Rattle.words_layout.specs.Layout.{state_of};
 ghost use Rattle.words_known.specs.Left.{Left};
-ghost use Rattle.file_spec.specs.File.{lines_of, units_in, link_frames, read_refusal, read_words, read_levels, write_refusal};
+ghost use Rattle.file_spec.specs.File.{lines_of, units_in, link_frames, read_refusal, read_words, read_levels};
+ghost use Rattle.file_spec.specs.File.{write_refusal};
 ghost use Rattle.file_spec.specs.File.{written_file};
 ghost use Rattle.words_calls.specs.FileFace.{word_said};
 ghost use Rattle.spec_claim.specs.Play;

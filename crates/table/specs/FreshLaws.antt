@@ -1,8 +1,9 @@
 -- Why a fresh table is refused (document 02, T-10): for a stored table's causes, and last because a unit has no link.
 -- 22 in words, that its test decides it, and the two laws that bind every number to its cause.
-use Rattle.std.specs.Prelude.{◌≡◌, refl, Bool, true, false, cond, not, ◌&&◌, ◌||◌, ◌⊎◌, ◌↔◌, List, [], ◌∷◌, ◌++◌, ℕ, zero, suc, ◌+◌, ◌*◌, ◌≤◌, ◌<◌, leb, eqb, length, get_or, ℤ}
+use Rattle.std.specs.Prelude.{◌≡◌, refl, Bool, true, false, cond, not, ◌||◌, ◌⊎◌, ◌↔◌, List, [], ◌∷◌, ◌++◌, ℕ, zero}
+use Rattle.std.specs.Prelude.{suc, ◌≤◌, ◌<◌, leb, eqb, ℤ}
 use Rattle.std.proofs.Math.Path.{sym}
-use Rattle.std.proofs.Common.{ap, ◌∙◌, inl, inr, arith, leb-true, le-leb, eqb-true, eq-eqb}
+use Rattle.std.proofs.Common.{◌∙◌, inl, inr, arith, leb-true, le-leb, eqb-true, eq-eqb}
 use Rattle.std.proofs.lemmas.Bool.{false≢true, not-true}
 use Rattle.std.proofs.Math.Decide.{ℕ_discrete}
 use Rattle.base_lists.specs.Tests.{or_cases, or_left, or_right, and_left, and_right, and-true, not_both, refuted}
@@ -12,7 +13,7 @@ use Rattle.table.specs.RefusalLaws.{first-none, passed-test}
 use Rattle.table.specs.TableLaws.{end_a-later, end_b-later}
 use Rattle.table.specs.TableCauses.{stored_reasons}
 use Rattle.table.specs.Table.{link_count, end_a, end_b, is_end, unlinked_below, unlinked_unit, unit_tests, stored_tests}
-use Rattle.table.specs.Table.{fresh_tests, stored_refusal, fresh_refusal, refusal_as}
+use Rattle.table.specs.Table.{stored_refusal, fresh_refusal, refusal_as}
 
 -- ---- the cause
 
@@ -59,7 +60,8 @@ end_back u (a ∷ b ∷ t) zero l (inr e) = or_right (eqb u a) (eqb u b || is_en
     (or_left (eqb u b) (is_end u t) (eq-eqb u b e))
 end_back u (a ∷ b ∷ t) (suc j) l e =
     or_right (eqb u a) (eqb u b || is_end u t)
-    (or_right (eqb u b) (is_end u t) (end_back u t j (omega arith) (rw (end_a-later a b t j, end_b-later a b t j) at e)))
+    (or_right (eqb u b) (is_end u t)
+    (end_back u t j (omega arith) (rw (end_a-later a b t j, end_b-later a b t j) at e)))
 
 below-forth : (k : ℕ) (t : List ℕ) → unlinked_below k t ≡ true → (u : ℕ) × (u < k) × Unlinked t u
 unfolding unlinked_below
@@ -96,7 +98,13 @@ unlinked_exact n t = (
 
 -- 22
 abbrev pub unit_reasons : ℕ → List ℕ → List Reason
-unit_reasons n t = record { number = 22; test = unlinked_unit n t; cause = UnlinkedUnit n t; exact = unlinked_exact n t }
+unit_reasons n t = record {
+  number = 22;
+  test = unlinked_unit n t;
+  cause = UnlinkedUnit n t;
+  exact =
+      unlinked_exact n t;
+}
     ∷ []
 
 unfoldable pub fresh_reasons : ℕ → List ℕ → List ℤ → List Reason

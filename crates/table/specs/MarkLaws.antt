@@ -1,5 +1,6 @@
 -- The search by marks finds exactly the repeated links, where every end is below 256 and the marks start blank.
-use Rattle.std.specs.Prelude.{◌≡◌, Bool, true, false, not, ◌||◌, ◌⊎◌, ℕ, zero, suc, ◌+◌, ◌*◌, ◌/◌, ◌%◌, ◌^◌, ◌≤◌, ◌<◌, eqb, leb, length, get_or, drop, replicate}
+use Rattle.std.specs.Prelude.{◌≡◌, Bool, true, false, not, ◌||◌, ◌⊎◌, ℕ, zero, suc, ◌+◌, ◌*◌, ◌/◌, ◌%◌, ◌^◌, ◌≤◌, ◌<◌}
+use Rattle.std.specs.Prelude.{eqb, leb, length, get_or, drop, replicate}
 use Rattle.std.proofs.Math.Path.{refl}
 use Rattle.std.proofs.Common.{sym, ap, ◌∙◌, inl, inr, arith, length-drop, length-set}
 use Rattle.std.proofs.Math.Bool.{or-false, or-true, or_assoc}
@@ -22,13 +23,16 @@ use Rattle.table.specs.Marks.{pair_at, ordered_at, place_as, marked, mark, found
 -- ---- the search from a place on
 
 module _ (place : ℕ → ℕ → ℕ) where
-  pub found_here : (m t : List ℕ) (i : ℕ) → i + 1 < length t → marked m (place (get_or t i 0) (get_or t (i + 1) 0)) ≡ true
+  pub found_here : (m t : List ℕ) (i : ℕ) → i + 1 < length t → marked m (place (get_or t i 0) (get_or t (i + 1) 0))
+      ≡ true
       → found_from place m (drop i t) ≡ true
   unfolding found_from
   found_here m t i h e = rw (rest-two t i 0 h, e)
 
-  pub found-later : (m t : List ℕ) (i : ℕ) → i + 1 < length t → marked m (place (get_or t i 0) (get_or t (i + 1) 0)) ≡ false
-      → found_from place m (drop i t) ≡ found_from place (mark m (place (get_or t i 0) (get_or t (i + 1) 0))) (drop (i + 2) t)
+  pub found-later : (m t : List ℕ) (i : ℕ) → i + 1 < length t → marked m (place (get_or t i 0) (get_or t (i + 1) 0))
+      ≡ false
+      → found_from place m (drop i t)
+      ≡ found_from place (mark m (place (get_or t i 0) (get_or t (i + 1) 0))) (drop (i + 2) t)
   unfolding found_from
   found-later m t i h e = rw (rest-two t i 0 h, e)
 

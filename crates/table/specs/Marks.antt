@@ -1,5 +1,6 @@
 -- The search for a repeated link by marks: a bit for each pair of units, set for each link passed.
-use Rattle.std.specs.Prelude.{Bool, false, not, cond, ◌||◌, List, [], ◌∷◌, ℕ, ◌+◌, ◌*◌, ◌/◌, ◌%◌, ◌^◌, min, max, eqb, get_or, set}
+use Rattle.std.specs.Prelude.{Bool, false, not, cond, ◌||◌, List, [], ◌∷◌, ℕ, ◌+◌, ◌*◌, ◌/◌, ◌%◌, ◌^◌, min, max, eqb}
+use Rattle.std.specs.Prelude.{get_or, set}
 use Rattle.std.specs.Int.Bits.{bit_and, bit_or}
 
 -- the place of a pair of units, the lesser first

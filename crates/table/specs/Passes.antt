@@ -1,13 +1,13 @@
 -- What a table that passes the checks 4 to 9 is like: no cause of a refusal holds. With levels: it passes alone, and
 -- each link has a level in range.
-use Rattle.std.specs.Prelude.{◌≡◌, refl, Bool, true, false, not, ◌⊎◌, List, ℕ, ◌+◌, ◌*◌, ◌≤◌, ◌<◌, eqb, length, get_or, ℤ}
-use Rattle.std.proofs.Common.{sym, ◌∙◌, inl, inr, arith}
+use Rattle.std.specs.Prelude.{◌≡◌, true, List, ℕ, ◌*◌, ◌≤◌, ◌<◌, eqb, length, get_or, ℤ}
+use Rattle.std.proofs.Common.{◌∙◌, inl, inr, arith}
 use Rattle.std.proofs.Math.Decide.{dec_le, dec_lt, ℕ_discrete}
 use borrow.Author.Tests.{eqb-true, not-false}
 use Rattle.base_lists.specs.Folds.{every}
 use Rattle.table_levels.specs.Level.{in_range}
 use Rattle.table.specs.Table.{max_units, max_links, link_count, end_a, end_b, levels_differ, level_outside, count_tests}
-use Rattle.table.specs.Table.{level_tests, end_tests, count_refusal, level_refusal, end_refusal, bare_refusal}
+use Rattle.table.specs.Table.{end_tests, count_refusal, level_refusal, end_refusal, bare_refusal}
 use Rattle.table.specs.Table.{stored_refusal}
 use Rattle.table.specs.RefusalLaws.{SomeCause, passed-test, first-none}
 use Rattle.table.specs.TableLaws.{table-counts, table-levels, table-ends}

@@ -1,6 +1,8 @@
 -- The search by marks finds a unit without a link exactly where there is one, for marks that start blank.
-use Rattle.std.specs.Prelude.{◌≡◌, refl, Bool, true, false, not, ◌&&◌, ◌||◌, List, [], ◌∷◌, ℕ, zero, suc, ◌+◌, ◌≤◌, ◌<◌, eqb, leb, length, get_or, set, drop, replicate}
-use Rattle.std.proofs.Common.{sym, ap, ap₂, ◌∙◌, add-one, arith, length-drop, length-set, get_or-set_same, get_or-set_other, eq-eqb, ne_eqb, le-leb}
+use Rattle.std.specs.Prelude.{◌≡◌, refl, Bool, true, false, not, ◌&&◌, ◌||◌, List, [], ◌∷◌, ℕ, zero, suc, ◌+◌, ◌≤◌, ◌<◌}
+use Rattle.std.specs.Prelude.{eqb, length, get_or, set, drop, replicate}
+use Rattle.std.proofs.Common.{◌∙◌, add-one, arith, length-drop, length-set, get_or-set_same, get_or-set_other, eq-eqb}
+use Rattle.std.proofs.Common.{ne_eqb, le-leb}
 use Rattle.std.proofs.Math.Decide.{ℕ_discrete}
 use Rattle.std.proofs.lemmas.List.{length-replicate}
 use Rattle.std.proofs.lemmas.Bool.{lt-leb}
@@ -40,7 +42,8 @@ and_always true = refl
 and_always false = refl
 
 -- a mark set: it is blank that was blank, and is not the one set
-blank-set : (m : List ℕ) (a v : ℕ) → v < length m → eqb (get_or (set m a 1) v 0) 0 ≡ (eqb (get_or m v 0) 0 && not (eqb v a))
+blank-set : (m : List ℕ) (a v : ℕ) → v < length m → eqb (get_or (set m a 1) v 0) 0
+    ≡ (eqb (get_or m v 0) 0 && not (eqb v a))
 blank-set m a v l = go (ℕ_discrete v a)
   where
     go : Dec (v ≡ a) → eqb (get_or (set m a 1) v 0) 0 ≡ (eqb (get_or m v 0) 0 && not (eqb v a))

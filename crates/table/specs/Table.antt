@@ -1,7 +1,8 @@
 -- The table of links (document 01): 16-bit words, two a link, for its ends in either order; links are numbered by their
 -- position, from 0. Beside it (document 02, T-01) the levels, one a link. Each check is its own definition; their order
 -- is the list at the end.
-use Rattle.std.specs.Prelude.{Bool, false, not, cond, ◌&&◌, ◌||◌, List, [], ◌∷◌, ◌++◌, ℕ, zero, suc, ◌+◌, ◌*◌, ◌/◌, ◌%◌, leb, ltb, eqb, length, get_or, ℤ}
+use Rattle.std.specs.Prelude.{Bool, false, not, cond, ◌&&◌, ◌||◌, List, [], ◌∷◌, ◌++◌, ℕ, zero, suc, ◌+◌, ◌*◌, ◌/◌, ◌%◌}
+use Rattle.std.specs.Prelude.{leb, ltb, eqb, length, get_or, ℤ}
 use Rattle.base_lists.specs.Folds.{every}
 use Rattle.table_levels.specs.Level.{in_range}
 use Rattle.table.specs.Refusals.{first_of}

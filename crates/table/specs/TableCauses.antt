@@ -1,8 +1,9 @@
 -- The causes 4 to 9 in the words of document 01 and 15 and 16 in those of document 02, and that each test decides its
 -- cause. So the reply of the table check is number k exactly when cause k holds and no earlier one does, and a table is
 -- refused exactly when some cause holds.
-use Rattle.std.specs.Prelude.{◌≡◌, refl, Bool, false, not, ◌&&◌, ◌⊎◌, ◌↔◌, leb, ltb, eqb, length, get_or, ℤ}
-use Rattle.std.proofs.Common.{sym, ap, true≢false, inl, inr, le_of_suc-le-suc, not-suc-le-zero, leb-true, le-leb, ltb-true, lt-ltb, eqb-true, eq-eqb, ne_eqb}
+use Rattle.std.specs.Prelude.{◌≡◌, refl, Bool, false, ◌⊎◌, ◌↔◌, leb, ltb, eqb, length, get_or, ℤ}
+use Rattle.std.proofs.Common.{sym, ap, true≢false, inl, inr, le_of_suc-le-suc, not-suc-le-zero, leb-true, le-leb}
+use Rattle.std.proofs.Common.{ltb-true, lt-ltb, eqb-true, eq-eqb, ne_eqb}
 use Rattle.std.proofs.Math.Bool.{true}
 use Rattle.std.proofs.lemmas.Bool.{false≢true, eqb-false, not-true}
 use mathlib.Core.List.{List, [], ◌∷◌, ◌++◌}
@@ -18,7 +19,8 @@ use Rattle.table.specs.Refusals.{first_of}
 use Rattle.table.specs.RefusalLaws.{Reason, FirstCause, SomeCause, first-cause, some-cause, tests}
 use Rattle.table.specs.TableLaws.{end_a-later, end_b-later}
 use Rattle.table.specs.Table.{max_units, max_links, link_count, end_a, end_b, bad_unit_count, odd_words, too_many_links}
-use Rattle.table.specs.Table.{levels_differ, level_outside, end_missing, equal_ends, same_ends, joined_in, repeated_link}
+use Rattle.table.specs.Table.{levels_differ, level_outside, end_missing, equal_ends, same_ends, joined_in}
+use Rattle.table.specs.Table.{repeated_link}
 use Rattle.table.specs.Table.{bare_refusal, stored_refusal, same_pair, repeated_by, repeated_pair, pair_refusal}
 
 -- ---- the causes
@@ -194,7 +196,8 @@ module _ (same : ℕ → ℕ → ℕ → ℕ → Bool) (Same : ℕ → ℕ → �
   repeated_forth (a ∷ []) e = absurd (false≢true e)
   repeated_forth (a ∷ b ∷ t) e = go (repeated_forth t) (or_cases (joined_in same a b t) (repeated_by same t) e)
     where
-      go : (repeated_by same t ≡ true → RepeatedBy Same t) → (joined_in same a b t ≡ true) ⊎ (repeated_by same t ≡ true) →
+      go : (repeated_by same t ≡ true → RepeatedBy Same t) → (joined_in same a b t ≡ true) ⊎ (repeated_by same t ≡ true)
+          →
           RepeatedBy Same (a ∷ b ∷ t)
       go later (inl h) =
           let p = joined-forth a b t h in
@@ -264,7 +267,8 @@ outside-forth : (ls : List ℤ) → every in_range ls ≡ false → LevelOutside
 outside-forth [] e = absurd (true≢false e)
 outside-forth (z ∷ ls) e = go (outside-forth ls) (either (in_range z))
   where
-    go : (every in_range ls ≡ false → LevelOutside ls) → (in_range z ≡ true) ⊎ (in_range z ≡ false) → LevelOutside (z ∷ ls)
+    go : (every in_range ls ≡ false → LevelOutside ls) → (in_range z ≡ true) ⊎ (in_range z ≡ false)
+        → LevelOutside (z ∷ ls)
     go later (inr n) = (zero, omega arith, λ r. not_both (in_range z) ((range-exact z).1 r) n)
     go later (inl y) = let c = later (rw y at e) in (suc c.0, suc-le-suc c.1, c.2)
 
@@ -316,7 +320,13 @@ unfoldable pub stored_reasons : ℕ → List ℕ → List ℤ → List Reason
 stored_reasons n t ls =
     count_reasons n t
     ++ (level_reasons t ls
-    ++ end_reasons n t (record { number = 9; test = repeated_link t; cause = RepeatedLink t; exact = repeated_exact t }))
+    ++ end_reasons n t (record {
+      number = 9;
+      test = repeated_link t;
+      cause = RepeatedLink t;
+      exact =
+          repeated_exact t;
+    }))
 
 -- of a table of ordered pairs
 unfoldable pub pair_reasons : ℕ → List ℕ → List Reason
@@ -329,7 +339,8 @@ pair_reasons n t =
       exact = repeated_pair-exact t;
     })
 
-stored_refusal-tests : (n : ℕ) (t : List ℕ) (ls : List ℤ) → stored_refusal n t ls ≡ first_of (tests (stored_reasons n t ls))
+stored_refusal-tests : (n : ℕ) (t : List ℕ) (ls : List ℤ) → stored_refusal n t ls
+    ≡ first_of (tests (stored_reasons n t ls))
 unfolding stored_refusal stored_reasons
 stored_refusal-tests n t ls = refl
 

@@ -1,7 +1,9 @@
 -- The tests of a table from a place on, as a loop along the table meets them.
-use Rattle.std.specs.Prelude.{◌≡◌, refl, Bool, ◌||◌, ◌⊎◌, List, [], ◌∷◌, ◌++◌, ℕ, suc, ◌+◌, ◌*◌, ◌≤◌, ◌<◌, leb, eqb, ℤ, length, get_or, drop}
+use Rattle.std.specs.Prelude.{◌≡◌, refl, Bool, ◌||◌, ◌⊎◌, List, [], ◌∷◌, ◌++◌, ℕ, suc, ◌+◌, ◌*◌, ◌≤◌, ◌<◌, leb, eqb, ℤ}
+use Rattle.std.specs.Prelude.{length, get_or, drop}
 use Rattle.std.proofs.Math.Path.{sym}
-use Rattle.std.proofs.Common.{◌∙◌, inl, inr, arith, drop_of_length-le, length-drop, leb-false, lt-ltb, le-ltb, eq-eqb, ne_eqb}
+use Rattle.std.proofs.Common.{◌∙◌, inl, inr, arith, drop_of_length-le, length-drop, leb-false, lt-ltb, le-ltb, eq-eqb}
+use Rattle.std.proofs.Common.{ne_eqb}
 use Rattle.std.proofs.Math.Bool.{true, false, or-true, or_assoc}
 use Rattle.std.proofs.Math.Decide.{dec_le}
 use Rattle.std.proofs.lemmas.Bool.{lt-leb}
@@ -10,7 +12,7 @@ use Rattle.base_lists.specs.Tests.{or_false-left, or_false-right}
 use Rattle.base_lists.specs.Folds.{every}
 use Rattle.table_levels.specs.Level.{in_range}
 use Rattle.table.specs.Table.{max_units, end_a, end_b, bad_unit_count, odd_words, too_many_links, levels_differ}
-use Rattle.table.specs.Table.{end_missing, equal_ends, repeated_link, repeated_pair, repeated_as}
+use Rattle.table.specs.Table.{end_missing, equal_ends, repeated_pair, repeated_as}
 use Rattle.table.specs.Table.{count_tests, level_tests, end_tests, count_refusal, level_refusal, end_refusal}
 use Rattle.table.specs.Table.{bare_refusal, stored_refusal, end_tests_by, pair_refusal, unlevelled_as}
 use Rattle.table.specs.RefusalLaws.{first_some, first-none}
@@ -40,7 +42,8 @@ end_missing-end n t i h = rw (drop_of_length-le t h)
 
 -- the link at `i` is looked at
 pub equal_ends-next : (t : List ℕ) (i : ℕ) (equal : Bool) → i + 1 < length t
-    → (equal || equal_ends (drop i t)) ≡ ((equal || eqb (get_or t i 0) (get_or t (i + 1) 0)) || equal_ends (drop (i + 2) t))
+    → (equal || equal_ends (drop i t))
+    ≡ ((equal || eqb (get_or t i 0) (get_or t (i + 1) 0)) || equal_ends (drop (i + 2) t))
 unfolding equal_ends
 equal_ends-next t i equal h =
     rw (rest-two t i 0 h) (sym (or_assoc equal (eqb (get_or t i 0) (get_or t (i + 1) 0)) (equal_ends (drop (i + 2) t))))

@@ -1,4 +1,6 @@
 // The checks 4 to 9, 15, 16 and 22 on a lent table of links and its levels.
+#![tactic(auto)]
+
 ghost use Rattle.std.specs.Prelude.{◌≡◌, false, ◌≤◌};
 ghost use Rattle.table.specs.Table.{max_units, end_missing, equal_ends, count_refusal, level_refusal};
 ghost use Rattle.table.specs.Table.{end_refusal, bare_refusal, stored_refusal, refusal_as, repeated_as, pair_refusal};

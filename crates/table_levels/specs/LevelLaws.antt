@@ -1,5 +1,6 @@
 -- Levels by the numbers below a power of two that stand for them.
-use Rattle.std.specs.Prelude.{◌≡◌, refl, Bool, true, false, cond, not, ◌&&◌, ◌↔◌, List, ℕ, suc, ◌+◌, ◌-◌, ◌/◌, ◌%◌, ◌≤◌, ◌<◌, T, ltb, leb, ℤ, pos, negsuc, ◌+ℤ◌, ◌-ℤ◌, length, get_or, drop, ◌≤ℤ◌}
+use Rattle.std.specs.Prelude.{◌≡◌, refl, Bool, true, false, not, ◌&&◌, ◌↔◌, List, ℕ, suc, ◌+◌, ◌-◌, ◌/◌, ◌%◌, ◌≤◌, ◌<◌}
+use Rattle.std.specs.Prelude.{T, leb, ℤ, pos, negsuc, ◌+ℤ◌, ◌-ℤ◌, length, get_or, drop, ◌≤ℤ◌, zero}
 use Rattle.std.proofs.Common.{sym, ap, ◌∙◌, mod-eq_of_lt, arith, drop_of_length-le, lt-ltb, le-ltb, le-leb, leb-true}
 use Rattle.std.proofs.Math.Bool.{and_assoc, and-true}
 use Rattle.std.proofs.lemmas.Bool.{false≢true, lt-leb}
@@ -77,6 +78,7 @@ pub lower-sum : (power x : ℕ) → 0 < power → x < power → power / 2 ≤ x 
 lower-sum power x p h l = go power p h l
   where
     go : (k : ℕ) → 0 < k → x < k → k / 2 ≤ x → pos x -ℤ pos k ≡ signed k x
+    go zero q m r = absurd (omega (arith, q))
     go (suc k) q m r = rw (signed-many (suc k) x r, lt-ltb x (suc k) m) (ap negsuc (omega arith))
 
 pub signed-fits : (power x : ℕ) → x < power → mag (signed power x) ≤ power / 2

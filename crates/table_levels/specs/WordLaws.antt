@@ -1,10 +1,11 @@
 -- Levels as words, one by one.
-use Rattle.std.specs.Prelude.{◌≡◌, refl, Bool, ◌&&◌, List, [], ◌∷◌, ◌++◌, ℕ, zero, suc, ◌+◌, ◌≤◌, ◌<◌, length, get_or, set, take, drop, ℤ, pos}
+use Rattle.std.specs.Prelude.{◌≡◌, refl, Bool, ◌&&◌, List, [], ◌∷◌, ◌++◌, ℕ, zero, suc, ◌+◌, ◌<◌, length, get_or, set}
+use Rattle.std.specs.Prelude.{take, drop, ℤ, pos}
 use Rattle.std.proofs.Common.{sym, ap, ap₂, ◌∙◌, add-one, arith, take-suc, length-take-le}
 use Rattle.std.specs.Int.Signed.{mag}
 use Rattle.base_lists.specs.Folds.{every}
 use Rattle.base_lists.specs.Puts.{put_one}
-use Rattle.table_levels.specs.Level.{in_range, twos, signed, level_word, word_level, to_words, from_words}
+use Rattle.table_levels.specs.Level.{in_range, level_word, word_level, to_words, from_words}
 use Rattle.table_levels.specs.LevelLaws.{twos-signed, signed-twos}
 
 pub length-words : (ls : List ℤ) → length (to_words ls) ≡ length ls

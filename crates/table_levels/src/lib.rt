@@ -1,4 +1,6 @@
 // Levels of links (document 02, T-01): signed numbers of dBm, to and from two's complement.
+#![tactic(auto)]
+
 ghost use Rattle.std.specs.Prelude.{◌≡◌, ◌&&◌, length};
 ghost use Rattle.base_lists.specs.Folds.{every};
 ghost use Rattle.table_levels.specs.Level.{raised_of, in_range, level_byte, byte_level, level_word, word_level};

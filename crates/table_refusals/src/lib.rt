@@ -2,6 +2,8 @@
 // on document 02's.
 
 // Not refused.
+#![tactic(auto)]
+
 pub const DONE: u8 = 0;
 
 // A line of the file is faulty, or the program's input is too long.

@@ -12,4 +12,5 @@ module _ (v : ℕ) (f : ℕ → ℕ) (old t : List ℕ) (was : t ≡ over v f ol
 
   -- the entry stays
   pub over-kept : f v ≡ slice_index old v → t ≡ over (v + 1) f old
-  over-kept stays = over-more v f old t t (slice_index t v) was (read_past v (le_refl v) ∙ sym stays) (sym (set-get_or t v 0))
+  over-kept stays = over-more v f old t t (slice_index t v) was (read_past v (le_refl v)
+      ∙ sym stays) (sym (set-get_or t v 0))

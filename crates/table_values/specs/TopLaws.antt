@@ -1,6 +1,7 @@
 -- The greatest entry is within a limit exactly when every entry is. Raised by 1, an absent entry is 0, which is within
 -- every limit.
-use Rattle.std.specs.Prelude.{◌≡◌, ℕ, zero, suc, ◌+◌, ◌-◌, ◌<◌, ◌≤◌, max, Bool, ◌&&◌, ltb, List, [], ◌∷◌, length, drop, ◌==◌, ◌≢◌, nat_le, nat_lt, slice_index, refl}
+use Rattle.std.specs.Prelude.{◌≡◌, ℕ, zero, suc, ◌+◌, ◌-◌, ◌<◌, ◌≤◌, max, Bool, ◌&&◌, ltb, List, [], ◌∷◌, length, drop}
+use Rattle.std.specs.Prelude.{◌==◌, ◌≢◌, nat_le, nat_lt, slice_index, refl}
 use Rattle.std.proofs.Math.Decide.{dec_le, dec_lt}
 use Rattle.std.proofs.Common.{arith, drop_of_length-le, le-leb, lt-ltb, le-ltb, eq-eqb, ne_eqb}
 use Rattle.std.proofs.lemmas.Bool.{lt-leb}
@@ -35,7 +36,8 @@ both-within a b limit = go (dec_le a limit) (dec_le b limit)
     go (no h) l = rw (lt-leb a limit (omega arith)) (lt-leb (max a b) limit (omega arith))
 
 -- as a test tells that an entry passes whose raised word is within the limit
-pub top-every : (more limit : ℕ) (p : ℕ → Bool) → Tells more limit p → (t : List ℕ) → ((i : ℕ) → slice_index t i < 65536) →
+pub top-every : (more limit : ℕ) (p : ℕ → Bool) → Tells more limit p → (t : List ℕ)
+    → ((i : ℕ) → slice_index t i < 65536) →
     nat_le (top_of more t) limit ≡ every p t
 unfolding top_of
 top-every more limit p exact [] words = le-leb 0 limit (omega arith)

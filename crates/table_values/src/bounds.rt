@@ -8,7 +8,7 @@ ghost use Rattle.table_values.specs.Tops.{Tells};
 
 // A test of entries: one passes that is at most `most` once it is raised by `more` within a word. Raised by 1, an
 // absent entry is 0.
-#[derive(Drop)]
+#[derive(Clone, Copy)]
 pub struct Limit {
     pub more: u16,
     pub most: u32,

@@ -1,4 +1,6 @@
 // Small value functions: inside a loop they stand for branches, so that what a turn does is one equation.
+#![tactic(auto)]
+
 ghost use Rattle.std.specs.Prelude.{◌≡◌, ◌+◌, ◌-◌, ◌/◌, min};
 ghost use Rattle.base_lists.specs.Scatter.{op_of};
 

@@ -1,5 +1,6 @@
 -- The ring through links i and j of any site, or none: what the whole leaves.
-use Rattle.std.specs.Prelude.{◌≡◌, refl, Bool, true, false, cond, ◌⊎◌, ◌≢◌, List, ℕ, ◌+◌, ◌≤◌, ◌<◌, ltb, length, set, take}
+use Rattle.std.specs.Prelude.{◌≡◌, refl, Bool, true, false, cond, ◌⊎◌, ◌≢◌, List, ℕ, ◌+◌, ◌≤◌, ◌<◌, ltb, length, set}
+use Rattle.std.specs.Prelude.{take}
 use Rattle.std.proofs.Common.{sym, ap, subst, ◌∙◌, inl, inr, arith}
 use Rattle.std.proofs.Math.Decide.{dec_lt}
 use Rattle.base_lists.specs.Tests.{and_left, and_right}
@@ -171,5 +172,13 @@ module _ (ok : ℕ → Bool) (n m : ℕ) (ends : List ℕ) (i j : ℕ) (out zero
       go (inr (l, t)) =
           let S = ring-shown site ok i hi X.parent X.seq X.k X.tree X.whole pos X.held
           X.grown low high H j k l t up (eup ∙ rw (ep, eq, ec, ed) refl) in
-          let w = (rw (ef, et, ec, ed, ea, eb) at C) long (omega (arith, shows-short site S, site.few_units)) in
+          let e = end_a ends k in
+          let f = end_b ends k in
+          let C₁ = subst (λ (z : ℕ). Closed n low high a b z to out out' r) ef C in
+          let C₂ = subst (λ (z : ℕ). Closed n low high a b (cond up c d) z out out' r) et C₁ in
+          let C₃ = subst (λ (z : ℕ). Closed n low high a b (cond up z d) (cond up d z) out out' r) ec C₂ in
+          let C₄ = subst (λ (z : ℕ). Closed n low high a b (cond up e z) (cond up z e) out out' r) ed C₃ in
+          let C₅ = subst (λ (z : ℕ). Closed n low high z b (cond up e f) (cond up f e) out out' r) ea C₄ in
+          let C₆ = subst (λ (z : ℕ). Closed n low high (end_a ends i) z (cond up e f) (cond up f e) out out' r) eb C₅ in
+          let w = C₆ long (omega (arith, shows-short site S, site.few_units)) in
           (subst (Shows ok m ends i j) (sym w.1) S, w.0 ∙ ap length (sym w.1))

@@ -1,7 +1,8 @@
 -- The order (T-04): a list of places from a to b as `Upright` has it, of units that the tree has. An ear put in leaves
 -- an order.
 use Rattle.std.specs.Prelude.{◌≡◌, refl, Bool, false, not, ◌&&◌, ◌||◌, ◌⊎◌, ◌↔◌, ◌≢◌, eqb, ltb, get_or, set, replicate}
-use Rattle.std.proofs.Common.{sym, subst, ◌∙◌, inl, inr, length-append, length-set, get_or-set_same, get_or-set_other, eqb-true, eq-eqb, ne_eqb, ltb-true, ltb-false, lt-ltb, le-ltb}
+use Rattle.std.proofs.Common.{sym, subst, ◌∙◌, inl, inr, length-append, length-set, get_or-set_same, get_or-set_other}
+use Rattle.std.proofs.Common.{eqb-true, eq-eqb, ne_eqb, ltb-true, ltb-false, lt-ltb, le-ltb}
 use Rattle.std.proofs.Math.Path.{ap}
 use Rattle.std.proofs.Math.Bool.{true, cond}
 use mathlib.Core.List.{List, [], ◌∷◌, ◌++◌, reverse, reverse-cons, append_assoc}
@@ -319,7 +320,8 @@ module _
                 zz (yes f) = f
                 zz (no f) = absurd (not_both (on_order pos z) (place-on pos z (omega arith)) e)
 
-            go : (on_order pos z ≡ true) ⊎ (on_order pos z ≡ false) → Dec (Mem z ear) → (on_order pos z ≡ true) ⊎ Mem z ear
+            go : (on_order pos z ≡ true) ⊎ (on_order pos z ≡ false) → Dec (Mem z ear) → (on_order pos z ≡ true)
+                ⊎ Mem z ear
             go (inl e) k = inl e
             go (inr e) (yes k) = inr k
             go (inr e) (no k) =
@@ -339,7 +341,8 @@ module _
         some-new : 1 ≤ length ear
         some-new = go (either (on_order pos u)) (either (on_order pos v))
           where
-            go : (on_order pos u ≡ true) ⊎ (on_order pos u ≡ false) → (on_order pos v ≡ true) ⊎ (on_order pos v ≡ false) →
+            go : (on_order pos u ≡ true) ⊎ (on_order pos u ≡ false) → (on_order pos v ≡ true) ⊎ (on_order pos v ≡ false)
+                →
                 1 ≤ length ear
             go (inr e) f = omega (arith, ear-length, (chain-some (hangs u ku) e).1)
             go (inl e) (inr f) = omega (arith, ear-length, (chain-some (hangs v kv) f).1)

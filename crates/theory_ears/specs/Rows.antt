@@ -1,5 +1,6 @@
 -- The ring's units in a table: the way up read back, then the way down.
-use Rattle.std.specs.Prelude.{◌≡◌, refl, true, false, ℕ, zero, suc, ◌+◌, ◌-◌, ◌≤◌, ◌<◌, min, eqb, length, get_or, set, take}
+use Rattle.std.specs.Prelude.{◌≡◌, refl, true, false, ℕ, zero, suc, ◌+◌, ◌-◌, ◌≤◌, ◌<◌, min, eqb, length, get_or, set}
+use Rattle.std.specs.Prelude.{take}
 use Rattle.std.proofs.Common.{sym, ap, ap₂, ◌∙◌, arith, length-append, length-set, get_or-set_same, get_or-set_other}
 use mathlib.Core.List.{List, [], ◌∷◌, ◌++◌, reverse, reverse-cons, append_assoc}
 use Rattle.spec_rules.specs.Basics.{at}
@@ -85,7 +86,8 @@ row_down-front i (z ∷ l) out p h =
 abbrev pub Closed : ℕ → List ℕ → List ℕ → ℕ → ℕ → ℕ → ℕ → List ℕ → List ℕ → ℕ → Type 0
 Closed n low high a b c d out out' r =
     length out ≡ 256 → length (ring_through (at low) (at high) n a b c d) ≤ 256
-    → (r ≡ length (ring_through (at low) (at high) n a b c d)) × (take r out' ≡ ring_through (at low) (at high) n a b c d)
+    → (r ≡ length (ring_through (at low) (at high) n a b c d))
+    × (take r out' ≡ ring_through (at low) (at high) n a b c d)
 
 pub closed-row : (n : ℕ) (low high : List ℕ) (a b c d : ℕ) (out o₁ o₂ o₃ o₄ : List ℕ) (s t top i r : ℕ)
     → s ≡ length (chain (at high) (λ (z : ℕ). eqb z b) n d) → t ≡ length (chain (at low) (λ (z : ℕ). eqb z a) n c) →

@@ -1,7 +1,8 @@
 -- What the ring is made from (T-04), step by step: a tree from the first end of the first link, an order of units that
 -- grows by ears, and the tests of both. `parent` holds a parent, absent where the tree has not come; `pos` holds a
 -- place from 1, 0 off the order.
-use Rattle.std.specs.Prelude.{Bool, true, false, cond, not, ◌&&◌, List, [], ◌∷◌, ℕ, zero, suc, ◌+◌, ◌-◌, min, eqb, ltb, length, set}
+use Rattle.std.specs.Prelude.{Bool, true, false, cond, not, ◌&&◌, List, [], ◌∷◌, ℕ, zero, suc, ◌+◌, ◌-◌, min, eqb, ltb}
+use Rattle.std.specs.Prelude.{length, set}
 use Rattle.base_lists.specs.Tables.{over}
 use Rattle.table.specs.Table.{end_a, end_b}
 use Rattle.spec_rules.specs.Basics.{ABSENT, at}

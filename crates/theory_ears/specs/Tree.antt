@@ -210,7 +210,8 @@ module _ {n m : ℕ} {ends : List ℕ} (site : Site n m ends) (ok : ℕ → Bool
       Goal : Bool → Type 0
       Goal b = Tree n E a (set parent (cond b y x) (cond b x y)) (set seq k (cond b y x)) (k + 1)
 
-      go : (seen parent (end_a ends j) ≡ true) ⊎ (seen parent (end_a ends j) ≡ false) → Goal (seen parent (end_a ends j))
+      go : (seen parent (end_a ends j) ≡ true) ⊎ (seen parent (end_a ends j) ≡ false)
+          → Goal (seen parent (end_a ends j))
       go (inl e) =
           subst Goal (sym e)
           (attach a parent seq k T x y (
@@ -289,7 +290,8 @@ module _ {n m : ℕ} {ends : List ℕ} (site : Site n m ends) (ok : ℕ → Bool
         depth-b = cond_false (eqb b a) 0 1 (ne_eqb b a (λ e. apart_ab (sym e)))
 
         seq-a : at first 0 ≡ a
-        seq-a = get_or-set_other (set seq 0 a) 1 0 b 0 (λ e. omega arith) ∙ get_or-set_same seq 0 a 0 (omega (arith, space))
+        seq-a = get_or-set_other (set seq 0 a) 1 0 b 0 (λ e. omega arith)
+            ∙ get_or-set_same seq 0 a 0 (omega (arith, space))
 
         seq-b : at first 1 ≡ b
         seq-b = get_or-set_same (set seq 0 a) 1 b 0 (omega (arith, length-set seq 0 a, space))

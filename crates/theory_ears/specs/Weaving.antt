@@ -337,7 +337,8 @@ module _ (ok : ℕ → Bool) (n m : ℕ) (ends : List ℕ) (k : ℕ) (parent seq
               → (at pos b ≤ at p₂ b) × Grown n (Present ok m ends) a b parent p₂ h₂
               × (at p₂ b ≡ at pos b → (q : ℕ) → q < j + 1 → ties ok ends parent p₂ h₂ q ≡ false)
           by (inr (less, G₂)) = (omega arith, G₂, λ e. absurd (omega arith))
-          by (inl (ep, eh, still)) = (rw ep up, rw (ep, eh) G₁, λ e q h. rw (ep, eh) (all (rw ep at e) q h (dec_lt q j)))
+          by (inl (ep, eh, still)) =
+              (rw ep up, rw (ep, eh) G₁, λ e q h. rw (ep, eh) (all (rw ep at e) q h (dec_lt q j)))
             where
               all : at p₁ b ≡ at pos b → (q : ℕ) → q < j + 1 → Dec (q < j) → ties ok ends parent p₁ h₁ q ≡ false
               all e q h (yes c) = none e q c

@@ -1,1 +1,3 @@
 // Rings that are shown (T-04): specs only.
+
+#![tactic(auto)]

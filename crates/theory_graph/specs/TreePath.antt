@@ -1,6 +1,7 @@
 -- The path in the tree between two vertices, and the ring that a link off the tree makes with it.
-use Rattle.std.specs.Prelude.{◌≡◌, refl, ◌⊎◌, ◌≢◌, Bool, true, false, cond, List, [], ◌∷◌, ◌++◌, ℕ, zero, suc, ◌+◌, ◌≤◌, ◌<◌, eqb, leb, length}
-use Rattle.std.proofs.Common.{sym, ap, ◌∙◌, inl, inr, arith, eqb-true, leb-true, leb-false}
+use Rattle.std.specs.Prelude.{◌≡◌, refl, ◌⊎◌, ◌≢◌, Bool, true, false, cond, List, [], ◌∷◌, ◌++◌, ℕ, zero, suc, ◌+◌, ◌≤◌}
+use Rattle.std.specs.Prelude.{◌<◌, eqb, leb, length}
+use Rattle.std.proofs.Common.{sym, ap, subst, ◌∙◌, inl, inr, arith, eqb-true, leb-true, leb-false}
 use Rattle.std.proofs.Math.Decide.{ℕ_discrete}
 use Rattle.std.proofs.lemmas.Bool.{eqb-false}
 use Rattle.base_lists.specs.Members.{Mem, Distinct, mem_cases, distinct_join}
@@ -110,7 +111,7 @@ module _ {E : ℕ → ℕ → Type 0} {p d root : ℕ → ℕ} (G : Graph E) (F 
       fresh (inr a) = omega (arith, anc_depth F a, F.deeper y h)
 
       apart : (z : ℕ) → Mem z (x ∷ l) → Mem z (y ∷ []) → ⊥
-      apart z m (inl e) = fresh (T.above y (rw e at m))
+      apart z m (inl e) = fresh (T.above y (subst (λ (s : ℕ). Mem s (x ∷ l)) e m))
       apart z m (inr e) = e
 
       tree : (u v : ℕ) → Step x l u v ⊎ Step (last x l) (y ∷ []) u v → TreeLink p d u v

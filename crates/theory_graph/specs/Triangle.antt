@@ -1,6 +1,7 @@
 -- An instance that meets every hypothesis of the theorems: a triangle 0, 1, 2 with a tail from 2 to 3 (document 01's
 -- case B).
-use Rattle.std.specs.Prelude.{◌≡◌, refl, ◌⊎◌, ◌≢◌, ◌↔◌, Bool, true, ◌&&◌, List, [], ◌∷◌, ℕ, zero, suc, ◌≤◌, ◌<◌, ltb, eqb}
+use Rattle.std.specs.Prelude.{◌≡◌, refl, ◌⊎◌, ◌≢◌, ◌↔◌, Bool, true, ◌&&◌, List, [], ◌∷◌, ℕ, zero, suc, ◌≤◌, ◌<◌, ltb}
+use Rattle.std.specs.Prelude.{eqb}
 use Rattle.std.proofs.Common.{sym, ap, subst₂, inl, inr, true≢false, arith, lt-ltb, ltb-true}
 use Rattle.base_lists.specs.Pigeonhole.{Picked}
 use Rattle.base_lists.specs.Folds.{count}

@@ -1,6 +1,6 @@
 -- Laws on walks: joined, parted, turned back; and the closed form of a ring.
 use Rattle.std.specs.Prelude.{◌≡◌, refl, ◌⊎◌, ◌↔◌, ℕ, ◌≤◌, length}
-use Rattle.std.proofs.Common.{inl, inr, arith}
+use Rattle.std.proofs.Common.{inl, inr, arith, subst, sym}
 use mathlib.Core.List.{List, [], ◌∷◌, ◌++◌, reverse, reverse-cons}
 use Rattle.base_lists.specs.Members.{Mem, Distinct}
 use Rattle.theory_graph.specs.Rings.{last, Walk, Step, last_of, Ring, Follows, Holds}
@@ -127,7 +127,7 @@ last_of_split (a ∷ s) u t = last-append a s (u ∷ t)
 pub follows-from : (r : List ℕ) (u v : ℕ) → Follows r u v → Mem u r
 follows-from [] u v h = h
 follows-from (a ∷ l) u v (inl h) = step_from a l u v h
-follows-from (a ∷ l) u v (inr h) = rw h.0 (last_mem a l)
+follows-from (a ∷ l) u v (inr h) = subst (λ (z : ℕ). Mem z (a ∷ l)) (sym h.0) (last_mem a l)
 
 pub follows_to : (r : List ℕ) (u v : ℕ) → Follows r u v → Mem v r
 follows_to r u v h = step-to (last_of r) r u v (follows-step r u v h)

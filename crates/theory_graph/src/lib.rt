@@ -1,1 +1,3 @@
 // Walks, cycles, trees, auxiliary classes, blocks: specs only.
+
+#![tactic(auto)]

@@ -1,6 +1,7 @@
 -- Labels as the code hands them on: one link after the other, in whatever order. A link counts while its two ends have
 -- one key.
-use Rattle.std.specs.Prelude.{◌≡◌, Bool, false, cond, ◌&&◌, ◌||◌, List, [], ◌∷◌, ℕ, ◌+◌, ◌*◌, ◌≤◌, ◌<◌, eqb, ltb, length, get_or, set}
+use Rattle.std.specs.Prelude.{◌≡◌, Bool, false, cond, ◌&&◌, ◌||◌, List, [], ◌∷◌, ℕ, ◌+◌, ◌*◌, ◌≤◌, ◌<◌, eqb, ltb}
+use Rattle.std.specs.Prelude.{length, get_or, set}
 use Rattle.base_lists.specs.Folds.{sum}
 use Rattle.theory_graph.specs.Rings.{Connected}
 use Rattle.theory_min_label.specs.MinLabel.{at, giver, taker}

@@ -232,11 +232,11 @@ unfoldable numbers_of : List ℕ → List ℕ → List ℕ
 numbers_of y [] = []
 numbers_of y (r ∷ l) = at y r ∷ numbers_of y l
 
-number_in : (y l : List ℕ) (r : ℕ) → Mem r l → Mem (at y r) (numbers_of y l)
+number_in_lem : (y l : List ℕ) (r : ℕ) → Mem r l → Mem (at y r) (numbers_of y l)
 unfolding numbers_of
-number_in y [] r m = absurd m
-number_in y (q ∷ l) r (inl e) = inl (ap (at y) e)
-number_in y (q ∷ l) r (inr m) = inr (number_in y l r m)
+number_in_lem y [] r m = absurd m
+number_in_lem y (q ∷ l) r (inl e) = inl (ap (at y) e)
+number_in_lem y (q ∷ l) r (inr m) = inr (number_in_lem y l r m)
 
 length-numbers : (y l : List ℕ) → length (numbers_of y l) ≡ length l
 unfolding numbers_of
@@ -287,7 +287,7 @@ module _ (n : ℕ) (E : ℕ → ℕ → Type 0) (inside : Within n E) (y : List 
           let (r, k, g) = each.covers v h in
           let e : at y v ≡ at y r = (same_group E v r (at y v) (at y r) (right v h) (right r (each.units r k))).1 g in
           let q : at y r ≡ v = sym e ∙ own in
-          rw q at (number_in y l r k)
+          rw q at (number_in_lem y l r k)
 
 pub strong : (n : ℕ) (t out : List ℕ) → n ≤ 256 → n ≤ length out → Within n (Link t) →
     Strong n t out (min_label n t out).0 (min_label n t out).1

@@ -31,7 +31,8 @@ AnyPlan =
 -- any two plans, and any levels
 abbrev pub AnyPlans : Type 0
 AnyPlans =
-    (n : ℕ) (words : List ℕ) (one two : List ℤ) (ps qs : List ℕ) → planned_load_refusal (with_levels n words one) ps ≡ 0 →
+    (n : ℕ) (words : List ℕ) (one two : List ℤ) (ps qs : List ℕ) → planned_load_refusal (with_levels n words one) ps ≡ 0
+    →
     planned_load_refusal (with_levels n words two) qs ≡ 0
     → SameEnd n (link_count words) (planned_loaded (with_levels n words one) ps)
     (planned_loaded (with_levels n words two) qs)

@@ -77,7 +77,8 @@ Reads m ends parent d v w =
 unfoldable pub aux_after : ℕ → ℕ → List ℕ → List ℕ → List ℕ → List ℕ → List ℕ → ℕ → List ℕ
 aux_after n m ends parent linkJoins parentJoins first zero = over n (λ (v : ℕ). v) first
 aux_after n m ends parent linkJoins parentJoins first (suc k) =
-    over n (least_joined n m ends parent linkJoins parentJoins (aux_after n m ends parent linkJoins parentJoins first k))
+    over n (least_joined n m ends parent linkJoins parentJoins
+    (aux_after n m ends parent linkJoins parentJoins first k))
     (aux_after n m ends parent linkJoins parentJoins first k)
 
 aux-length : (n m : ℕ) (ends parent linkJoins parentJoins first : List ℕ) (k : ℕ)
@@ -137,7 +138,8 @@ module _
 
     -- what a round reads of a join that counts
     link-joined : (j : ℕ) → j < m → Across (Link m ends) (at parent) d (end_a ends j) (end_b ends j)
-        → 0 < d (end_a ends j) → 0 < d (end_b ends j) → joined parent (at linkJoins j) (end_a ends j) (end_b ends j) ≡ true
+        → 0 < d (end_a ends j) → 0 < d (end_b ends j) → joined parent (at linkJoins j) (end_a ends j) (end_b ends j)
+        ≡ true
     link-joined j l o a b =
         and-true _ _
         (and-true _ _ (mark_true (at linkJoins j) ((marked.link_marks j l).1 o))

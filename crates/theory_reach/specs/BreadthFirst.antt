@@ -468,7 +468,8 @@ module _ {n m : ℕ} {ends : List ℕ} (site : Site n m ends) (levels : List ℤ
                 omega (arith, last-round (omega arith) b (tree.stands v (link-below site u v r).1))
 
   pub next : {parent dist : List ℕ} {k : ℕ} → TreeAt n m ends color parent dist k → 1 ≤ k
-      → TreeAt n m ends color (parent_round n m k ends levels color dist parent) (dist_round n m k ends levels color dist)
+      → TreeAt n m ends color (parent_round n m k ends levels color dist parent)
+      (dist_round n m k ends levels color dist)
       (suc k)
   next tree later = after tree later (made tree later)
 
@@ -502,7 +503,8 @@ module _ {n m : ℕ} {ends : List ℕ} (site : Site n m ends) (levels : List ℤ
 
         by : Now m ends levels color parent dist (parent_round n m k ends levels color dist parent)
             (dist_round n m k ends levels color dist) k v
-            → (at (dist_round n m k ends levels color dist) v < n) × (at (dist_round n m k ends levels color dist) v < k)
+            → (at (dist_round n m k ends levels color dist) v < n)
+            × (at (dist_round n m k ends levels color dist) v < k)
         by (visited now) = absurd (not_both (visits m k ends levels color dist v) now.goes none)
         by (kept now) = rw now.same_dist (visited-few tree later v l (omega arith))
 

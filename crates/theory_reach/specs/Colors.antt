@@ -195,7 +195,8 @@ module _ {n m : ℕ} {ends : List ℕ} (site : Site n m ends) where
         ∙ e) v h.below in
         sym (after.values v h.below) ∙ sym same ∙ at-k.values v h.below
 
-    pub done : color_ends n k color (color_round n m k ends color) ≡ true → Colored n m ends (color_round n m k ends color)
+    pub done : color_ends n k color (color_round n m k ends color) ≡ true
+        → Colored n m ends (color_round n m k ends color)
     done e =
         record {
           below = λ v l. rw (after.values v l)

@@ -1,6 +1,7 @@
 -- List ranking by doubling, once for all lengths and both rankings. No list is built: R a is how far object a stands
 -- from the head of its list (the head at 1), and S a is the sum up to it.
-use Rattle.std.specs.Prelude.{◌≡◌, refl, Bool, true, false, ◌&&◌, ◌⊎◌, ◌↔◌, List, [], ◌∷◌, ℕ, zero, suc, ◌+◌, ◌-◌, ◌≤◌, ◌<◌, ◌^◌, eqb, leb, length}
+use Rattle.std.specs.Prelude.{◌≡◌, refl, Bool, true, false, ◌&&◌, ◌⊎◌, ◌↔◌, List, [], ◌∷◌, ℕ, zero, suc, ◌+◌, ◌-◌, ◌≤◌}
+use Rattle.std.specs.Prelude.{◌<◌, ◌^◌, eqb, leb, length}
 use Rattle.std.proofs.Common.{sym, ◌∙◌, inl, inr, lit<, pow_pos, pow_mono}
 use Rattle.std.proofs.Math.Decide.{dec_le}
 use native.Mathlib.Omega.{arith}
@@ -341,7 +342,8 @@ five-few = asked_le 5 5 suc (omega arith) within
 
 -- three rounds lead to sums 1 .. 5
 five-sums : (a : ℕ) → a < 5
-    → at (sum_round 5 (jump_round 5 (jump_round 5 five)) (sum_round 5 (jump_round 5 five) (sum_round 5 five ones))) a ≡ suc a
+    → at (sum_round 5 (jump_round 5 (jump_round 5 five)) (sum_round 5 (jump_round 5 five) (sum_round 5 five ones))) a
+    ≡ suc a
 five-sums = sums five-potential (next five-potential (next five-potential (next five-potential five-ranked))) ends
   where
     ends : ranking_ends 5 (jump_round 5 (jump_round 5 (jump_round 5 five))) ≡ true

@@ -14,8 +14,10 @@ use Rattle.spec_rules.specs.Basics.{ABSENT, at, is_root, off_tree, heard}
 use Rattle.spec_rules.specs.Components.{least_heard, color_round}
 use Rattle.spec_rules.specs.Tree.{visited_before, level_at, Neighbor, prefer, best_neighbor, chosen_parent, visits}
 use Rattle.spec_rules.specs.Tree.{parent_round, dist_round, tree_ends}
-use Rattle.spec_rules.specs.Tour.{arc_unit, is_into, is_arc, tree_neighbor, least_neighbor, greater_neighbor, neighbor_after}
-use Rattle.spec_rules.specs.Tour.{arc_after, follower, is_start, predecessor, next_round, pred_round, first_sums, first_jumps}
+use Rattle.spec_rules.specs.Tour.{arc_unit, is_into, is_arc, tree_neighbor, least_neighbor, greater_neighbor}
+use Rattle.spec_rules.specs.Tour.{neighbor_after}
+use Rattle.spec_rules.specs.Tour.{arc_after, follower, is_start, predecessor, next_round, pred_round, first_sums}
+use Rattle.spec_rules.specs.Tour.{first_jumps}
 use Rattle.spec_rules.specs.CyclicOrder.{after_next}
 use Rattle.spec_rules.specs.BoundLaws.{Names}
 use Rattle.theory_reach.specs.Partial
@@ -249,7 +251,8 @@ module _ (n : ℕ) (parent : List ℕ) (few : n ≤ ABSENT) (names : (v : ℕ) �
   unfolding ExactRules.next_round? next_round
   next-round next = overs (2 * n) _ _ next follow
 
-  pub pred_round_lem : (next pred : List ℕ) → ExactRules.pred_round? n parent next pred ≡ some (pred_round n parent next pred)
+  pub pred_round_lem : (next pred : List ℕ) → ExactRules.pred_round? n parent next pred
+      ≡ some (pred_round n parent next pred)
   unfolding ExactRules.pred_round? pred_round
   pred_round_lem next pred = overs (2 * n) _ _ pred (λ a l. precede a l next)
 

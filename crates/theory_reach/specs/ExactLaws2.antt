@@ -14,7 +14,8 @@ use Rattle.spec_rules.specs.Basics.{ABSENT, MAX-NUMBER, at, bounded, is_root}
 use Rattle.spec_rules.specs.BoundLaws.{Names}
 use Rattle.spec_rules.specs.Tour.{is_into}
 use Rattle.spec_rules.specs.Ranking.{asks, sum_round, jump_round, requests_of, ranking_ends}
-use Rattle.spec_rules.specs.Order.{reverse_arc, forward_round, descendants, nd_round, second_sums, second_jumps, place_of}
+use Rattle.spec_rules.specs.Order.{reverse_arc, forward_round, descendants, nd_round, second_sums, second_jumps}
+use Rattle.spec_rules.specs.Order.{place_of}
 use Rattle.spec_rules.specs.Order.{pre_round}
 use Rattle.theory_reach.specs.Partial
 use Rattle.theory_reach.specs.Partial.{read, minus, half, both, nots, ands, ifs, counts, overs}
@@ -118,7 +119,8 @@ module _ (n : ℕ) (parent : List ℕ) (few : n ≤ ABSENT) (names : (v : ℕ) �
     unfolding ExactRules.pre_round? ExactRules.place_of? pre_round place_of
     pre-round sum pre small = overs n _ (place_of n color parent sum) pre place
       where
-        place : (v : ℕ) → v < n → ExactRules.place_of? n color parent sum (some v) ≡ some (place_of n color parent sum v)
+        place : (v : ℕ) → v < n → ExactRules.place_of? n color parent sum (some v)
+            ≡ some (place_of n color parent sum v)
         place v l =
             let b : place_of n color parent sum v
             ≡ cond (is_root parent v) 0 (at sum (2 * v)) + count n (λ (w : ℕ). ltb (at color w) (at color v)) =

@@ -13,8 +13,10 @@ use Rattle.base_lists.specs.Tests.{and_left, and_right}
 use Rattle.table.specs.Table.{end_a, end_b}
 use Rattle.spec_rules.specs.Basics.{ABSENT, MAX-NUMBER, at, bounded, is_root}
 use Rattle.spec_rules.specs.BoundLaws.{Names}
-use Rattle.spec_rules.specs.Range.{place_heard, local_of, unit_at, local_at, end_place, global_first, range_first, little_first}
-use Rattle.spec_rules.specs.Range.{big_first, odd, moves_little, moves_big, with_little, with_big, range_later, little_later}
+use Rattle.spec_rules.specs.Range.{place_heard, local_of, unit_at, local_at, end_place, global_first, range_first}
+use Rattle.spec_rules.specs.Range.{little_first}
+use Rattle.spec_rules.specs.Range.{big_first, odd, moves_little, moves_big, with_little, with_big, range_later}
+use Rattle.spec_rules.specs.Range.{little_later}
 use Rattle.spec_rules.specs.Range.{big_later, global_later}
 use Rattle.spec_rules.specs.Aux.{within, joins_ends, link_joins_round, joins_parent, parent_joins_round, heard_over}
 use Rattle.spec_rules.specs.Aux.{least_joined, aux_round}
@@ -75,7 +77,8 @@ module _ (n m : ℕ) (ends : List ℕ) (below_a : (j : ℕ) → j < m → end_a 
             le-leb (end_place nd pre v) n w,
           ) (local-at op (last-place v l) (omega arith)))
 
-      pub big-first : n ≤ MAX-NUMBER → (big : List ℕ) → ExactRules.big_first? n nd pre big ≡ some (big_first n nd pre big)
+      pub big-first : n ≤ MAX-NUMBER → (big : List ℕ) → ExactRules.big_first? n nd pre big
+          ≡ some (big_first n nd pre big)
       unfolding ExactRules.big_first? big_first
       big-first small big =
           overs n _ _ big
@@ -197,7 +200,8 @@ module _ (n : ℕ) (parent : List ℕ) (names : (v : ℕ) → v < n → Names n 
       (and_right (not (eqb mark 0)) (not (is_root parent a)) q))))))
       (λ q.
       let r = and_left (not (eqb mark 0) && not (is_root parent a)) (not (is_root parent b)) q in
-      heards n f g la (lb (not-true (is_root parent a) (and_right (not (eqb mark 0)) (not (is_root parent a)) r))) value h
+      heards n f g la (lb (not-true (is_root parent a) (and_right (not (eqb mark 0)) (not (is_root parent a)) r))) value
+      h
       lv)
       (λ q. read n value h lv)
 
@@ -265,7 +269,8 @@ module _ (n : ℕ) (parent pre : List ℕ) {x y : Value} {a b : ℕ} (e : x ≡ 
       (cond-keeps (λ (u : ℕ). u < n) (eqb (at parent a) b) _ _ la
       (cond-keeps (λ (u : ℕ). u < n) (ltb (at pre b) (at pre a)) _ _ la lb)))
 
-pub class-round : (n m : ℕ) (ends : List ℕ) → ((j : ℕ) → j < m → end_a ends j < n) → ((j : ℕ) → j < m → end_b ends j < n)
+pub class-round : (n m : ℕ) (ends : List ℕ) → ((j : ℕ) → j < m → end_a ends j < n)
+    → ((j : ℕ) → j < m → end_b ends j < n)
     → (parent pre color class : List ℕ) →
     ExactRules.class_round? n m ends parent pre color class ≡ some (class_round m ends parent pre color class)
 unfolding ExactRules.class_round? class_round

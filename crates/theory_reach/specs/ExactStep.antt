@@ -8,7 +8,8 @@ use Rattle.spec_rules.specs.Range.{range_ends}
 use Rattle.spec_rules.specs.Aux.{aux_ends}
 use Rattle.spec_machine.specs.State.{State}
 use Rattle.spec_state.specs.declared.groups.Clock.{Clock}
-use Rattle.spec_machine.specs.State.{units, links, finished, with_clock, with_components, with_tree, with_tour, with_ranking}
+use Rattle.spec_machine.specs.State.{units, links, finished, with_clock, with_components, with_tree, with_tour}
+use Rattle.spec_machine.specs.State.{with_ranking}
 use Rattle.spec_machine.specs.State.{with_order, with_range, with_global, with_aux, with_labels}
 use Rattle.spec_machine.specs.Step.{planned}
 use Rattle.theory_reach.specs.Partial.{Value, Test, ◌>>=◌, or?}

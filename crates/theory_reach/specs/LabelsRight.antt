@@ -99,7 +99,8 @@ module _
         link_at : (j : ℕ) → j < m → Link m ends (end_a ends j) (end_b ends j)
         link_at j l = (j, l, inl (refl, refl))
 
-        pub class_of : (j : ℕ) → j < m → ClassOf (Link m ends) (at parent) d cl (end_a ends j) (end_b ends j) (at class j)
+        pub class_of : (j : ℕ) → j < m
+            → ClassOf (Link m ends) (at parent) d cl (end_a ends j) (end_b ends j) (at class j)
         class_of j l = rw (class-is j l) (naming-class (end_a ends j) (end_b ends j) (link_at j l))
 
         -- ---- labels are classes
@@ -172,13 +173,15 @@ module _
         different j k hj hk n s = site.once j k n hj hk s
 
         together : (j k : ℕ) → j < m → k < m → (j ≡ k → ⊥)
-            → (at label j ≡ at label k) ↔ OnRing (Link m ends) (end_a ends j) (end_b ends j) (end_a ends k) (end_b ends k)
+            → (at label j ≡ at label k) ↔ OnRing (Link m ends) (end_a ends j) (end_b ends j) (end_a ends k)
+            (end_b ends k)
         together j k hj hk n = (
           λ e. b.0 ((labels_as_classes j k hj hk).0 e),
           λ r. (labels_as_classes j k hj hk).1 (b.1 r),
         )
           where
-            b : (at class j ≡ at class k) ↔ OnRing (Link m ends) (end_a ends j) (end_b ends j) (end_a ends k) (end_b ends k)
+            b : (at class j ≡ at class k) ↔ OnRing (Link m ends) (end_a ends j) (end_b ends j) (end_a ends k)
+                (end_b ends k)
             b = blocks-other (site-graph site) rooted.forest classes (different j k hj hk n) (class_of j hj)
                 (class_of k hk)
 
@@ -211,7 +214,8 @@ module _
                 let i : k ≡ j = only.0 (eqb-true _ 1 e) k w.1 (eq-eqb (at label k) (at label j) same) in
                 rw i at w.2
 
-            back : Alone (Link m ends) (at parent) d cl (end_a ends j) (end_b ends j) (at class j) → lone m label j ≡ true
+            back : Alone (Link m ends) (at parent) d cl (end_a ends j) (end_b ends j) (at class j) → lone m label j
+                ≡ true
             back a = eq-eqb (count m (λ (k : ℕ). eqb (at label k) (at label j))) 1
                 (only.1 (λ k hk e. find k hk e (ℕ_discrete k j)))
               where

@@ -73,7 +73,8 @@ module _ {n m : ℕ} {ends color parent : List ℕ} {d : ℕ →
             )
         by_end e o (inr f) (inr g) = inl (rw (e, f, g) refl)
 
-        off : (off_tree parent (end_a ends j) (end_b ends j) ≡ true) ⊎ (off_tree parent (end_a ends j) (end_b ends j) ≡ false)
+        off : (off_tree parent (end_a ends j) (end_b ends j) ≡ true)
+            ⊎ (off_tree parent (end_a ends j) (end_b ends j) ≡ false)
             → Given w (place_heard ends parent pre w j)
         off (inr e) = inl (rw e refl)
         off (inl e) =

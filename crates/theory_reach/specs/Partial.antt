@@ -1,7 +1,8 @@
 -- Numbers and tests that may have no value, and the words of the rules over them. A read at an absent or missing place,
 -- half of an odd number and a difference below 0 have none; whatever needs one that is missing has none either, and
 -- what is not needed is not looked at.
-use Rattle.std.specs.Prelude.{◌≡◌, refl, Bool, true, false, cond, not, ◌&&◌, ◌||◌, List, [], ◌∷◌, ℕ, zero, suc, ◌+◌, ◌*◌, ◌-◌, ◌/◌, ◌%◌, ◌≤◌, ◌<◌, min, eqb, leb, ltb}
+use Rattle.std.specs.Prelude.{◌≡◌, refl, Bool, true, false, cond, not, ◌&&◌, ◌||◌, List, [], ◌∷◌, ℕ, zero, suc, ◌+◌}
+use Rattle.std.specs.Prelude.{◌*◌, ◌-◌, ◌/◌, ◌%◌, ◌≤◌, ◌<◌, min, eqb, leb, ltb}
 use Rattle.std.proofs.Math.Option.{Option, none, some, map}
 use Rattle.std.proofs.Common.{zero-le, suc-le-suc, le_refl, arith, eq-eqb, le-leb, lt-ltb}
 use Rattle.std.proofs.Math.Nat.{le_step}

@@ -141,7 +141,8 @@ module _
         none : not (is_root parent v) ≡ false → (j : ℕ) → j < m → ◌≡◌ {A = ℕ} (cond (counts j v) 1 0) 0
         none e j l = cond_false (counts j v) 1 0
             (refuted (counts j v) (λ t. not_both (not (is_root parent v))
-            (and_left (not (is_root parent v)) (eqb (cl v) (at class j)) (and_right (is_label label j) (named j v) t)) e))
+            (and_left (not (is_root parent v)) (eqb (cl v) (at class j)) (and_right (is_label label j) (named j v) t))
+            e))
 
         go : (not (is_root parent v) ≡ true) ⊎ (not (is_root parent v) ≡ false) →
             sum m (λ (j : ℕ). cond (counts j v) 1 0) ≡ cond (not (is_root parent v)) 1 0

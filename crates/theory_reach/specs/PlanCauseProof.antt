@@ -180,7 +180,8 @@ module _ {n m : ℕ} {ends color plan : List ℕ} (site : Site n m ends) (colore
         top_of plan i v ≡ c
     top-climbs c p o (here e) zero h = absurd (omega arith)
     top-climbs c p o {v = v} (here e) (suc i) h =
-        cond_true (eqb (at plan v) ABSENT) v (top_of plan i (at plan v)) (eq-eqb (at plan v) ABSENT (ap (at plan) e ∙ o))
+        cond_true (eqb (at plan v) ABSENT) v (top_of plan i (at plan v)) (eq-eqb (at plan v) ABSENT (ap (at plan) e
+        ∙ o))
         ∙ e
     top-climbs c p o (up g q) zero h = absurd (omega arith)
     top-climbs c p o {v = v} (up g q) (suc i) h =
@@ -218,7 +219,8 @@ module _ {n m : ℕ} {ends : List ℕ} (site : Site n m ends) where
       go zero k color c l h = on (either (color_ends n k color (color_round n m k ends color)))
         where
           on : (color_ends n k color (color_round n m k ends color) ≡ true)
-              ⊎ (color_ends n k color (color_round n m k ends color) ≡ false) → (color : List ℕ) × Colored n m ends color
+              ⊎ (color_ends n k color (color_round n m k ends color) ≡ false) → (color : List ℕ)
+              × Colored n m ends color
           on (inl e) = (color_round n m k ends color, Colors.done site c l e)
           on (inr e) = absurd (omega (arith, Colors.bound site c l e))
       go (suc fuel) k color c l h = on (either (color_ends n k color (color_round n m k ends color)))

@@ -1,6 +1,7 @@
 -- 18 is given exactly for its cause: proofs. Of a table of parents that some unit doesn't spoil, chains stay among the
 -- units, so `steps-to` decides where they end.
-use Rattle.std.specs.Prelude.{◌≡◌, refl, Bool, true, false, cond, ◌⊎◌, ◌↔◌, ◌≢◌, List, [], ◌∷◌, ℕ, zero, suc, ◌<◌, eqb, length}
+use Rattle.std.specs.Prelude.{◌≡◌, refl, Bool, true, false, cond, ◌⊎◌, ◌↔◌, ◌≢◌, List, [], ◌∷◌, ℕ, zero, suc, ◌<◌, eqb}
+use Rattle.std.specs.Prelude.{length}
 use Rattle.std.proofs.Common.{sym, ◌∙◌, inl, inr, arith, eqb-true, eq-eqb}
 use Rattle.std.proofs.Math.Decide.{ℕ_discrete}
 use Rattle.std.proofs.lemmas.Bool.{not-false}
@@ -14,7 +15,8 @@ use Rattle.spec_rules.specs.BoundLaws.{Names}
 use Rattle.spec_rules.specs.Planned.{steps_to, parent_link}
 use Rattle.spec_rules.specs.PlannedLaws.{ParentLink, parent-linked, steps-few}
 use Rattle.spec_state.specs.declared.reply.Reply.TheVariants.{Done}
-use Rattle.spec_machine.specs.Load.{Input, links_in, stored_load_refusal, parents_differ, parents_unfit, planned_load_refusal}
+use Rattle.spec_machine.specs.Load.{Input, links_in, stored_load_refusal, parents_differ, parents_unfit}
+use Rattle.spec_machine.specs.Load.{planned_load_refusal}
 use Rattle.spec_machine.specs.Load.{planned_loaded}
 use Rattle.spec_machine.specs.Calls.{planned_load_answer}
 use Rattle.spec_machine.specs.AnswerLaws.{answered-number}
@@ -104,7 +106,12 @@ module _ {n m : ℕ} {ends color : List ℕ} (site : Site n m ends) (colored : C
           on : ((v : ℕ) → v < n → Arrives v) ⊎ ((v : ℕ) × (v < n) × Misdrawn m ends color ps v)
               → Drawn n m ends color ps ⊎ ((v : ℕ) × (v < n) × Misdrawn m ends color ps v)
           on (inr w) = inr w
-          on (inl come) = inl (record { colourless = λ v l. (all v l).0; neighbour = λ v l. (all v l).1; arrives = come })
+          on (inl come) = inl (record {
+            colourless = λ v l. (all v l).0;
+            neighbour = λ v l. (all v l).1;
+            arrives =
+                come;
+          })
 
   not_drawn : Drawn n m ends color ps → (v : ℕ) → v < n → Misdrawn m ends color ps v → ⊥
   not_drawn d v l (inl (c, h)) = h (d.colourless v l c)

@@ -47,7 +47,8 @@ module _ (plan : List ℕ) where
   top-more zero v h = absurd (h refl)
   top-more (suc k) v h = go (eqb (at plan v) ABSENT) (top-more k (at plan v)) h
     where
-      go : (b : Bool) → (top_of plan k (at plan v) ≢ ABSENT → top_of plan (suc k) (at plan v) ≡ top_of plan k (at plan v))
+      go : (b : Bool) → (top_of plan k (at plan v) ≢ ABSENT → top_of plan (suc k) (at plan v)
+          ≡ top_of plan k (at plan v))
           → cond b v (top_of plan k (at plan v)) ≢ ABSENT →
           cond b v (top_of plan (suc k) (at plan v)) ≡ cond b v (top_of plan k (at plan v))
       go true ih h = refl
@@ -150,7 +151,8 @@ module _ {n m : ℕ} {ends plan : List ℕ} (site : Site n m ends) (fits : Fits 
           cond_false (eqb (at plan v) ABSENT) v (top_of plan k (at plan v)) ne in
           let d : depth_to plan (suc k) v ≡ suc (depth_to plan k (at plan v)) =
           cond_false (eqb (at plan v) ABSENT) 0 (suc (depth_to plan k (at plan v))) ne in
-          let some : top_of plan k (at plan v) ≢ ABSENT = λ z. ends-at v l (ap (λ (i : ℕ). top_of plan i v) e ∙ t ∙ z) in
+          let some : top_of plan k (at plan v) ≢ ABSENT = λ z. ends-at v l (ap (λ (i : ℕ). top_of plan i v) e ∙ t
+          ∙ z) in
           rw e (top-more plan k (at plan v) some ∙ sym t, d ∙ ap suc (sym (depth-more plan k (at plan v) some)))
 
   pub orphan-top : (v : ℕ) → at plan v ≡ ABSENT → (top_of plan n v ≡ v) × (depth_to plan n v ≡ 0)

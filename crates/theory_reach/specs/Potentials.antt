@@ -1,6 +1,7 @@
 -- The Euler tour by potentials, never as a list: the rank of an arc in its tour and its forward sum, as numbers that
 -- the forest gives. Round a unit both are sums over the children passed so far.
-use Rattle.std.specs.Prelude.{◌≡◌, refl, true, false, cond, ◌↔◌, ◌⊎◌, List, ℕ, suc, ◌+◌, ◌*◌, ◌-◌, ◌/◌, ◌%◌, ◌≤◌, ◌<◌, max, ltb}
+use Rattle.std.specs.Prelude.{◌≡◌, refl, true, false, cond, ◌↔◌, ◌⊎◌, List, ℕ, suc, ◌+◌, ◌*◌, ◌-◌, ◌/◌, ◌%◌, ◌≤◌, ◌<◌}
+use Rattle.std.specs.Prelude.{max, ltb}
 use Rattle.std.proofs.Common.{ap, ◌∙◌, inl, inr}
 use Rattle.std.proofs.Math.Path.{subst⁻¹}
 use Rattle.std.proofs.Math.Decide.{ℕ_discrete, dec_lt}
@@ -43,7 +44,8 @@ out-odd v = ne_eqb ((2 * v + 1) % 2) 0 (omega arith)
 pub arc-cases : (a : ℕ) → ((a ≡ 2 * arc_unit a) × (is_into a ≡ true)) ⊎ ((a ≡ 2 * arc_unit a + 1) × (is_into a ≡ false))
 arc-cases a = go (ℕ_discrete (a % 2) 0)
   where
-    go : Dec (a % 2 ≡ 0) → ((a ≡ 2 * arc_unit a) × (is_into a ≡ true)) ⊎ ((a ≡ 2 * arc_unit a + 1) × (is_into a ≡ false))
+    go : Dec (a % 2 ≡ 0) → ((a ≡ 2 * arc_unit a) × (is_into a ≡ true))
+        ⊎ ((a ≡ 2 * arc_unit a + 1) × (is_into a ≡ false))
     go (yes e) = inl (omega arith, eq-eqb (a % 2) 0 e)
     go (no e) = inr (omega arith, ne_eqb (a % 2) 0 e)
 
@@ -111,7 +113,8 @@ module _ {n m : ℕ} {ends color parent : List ℕ} {d : ℕ → ℕ} (rooted : 
   bounds : (a : ℕ) → 0 < d (arc_unit a) →
       (1 ≤ rank_of n parent d a) × (rank_of n parent d a + 2 ≤ 2 * n) × (forward_sum n parent d a ≤ n)
   bounds =
-      by_arcs (λ (a : ℕ). (1 ≤ rank_of n parent d a) × (rank_of n parent d a + 2 ≤ 2 * n) × (forward_sum n parent d a ≤ n))
+      by_arcs (λ (a : ℕ). (1 ≤ rank_of n parent d a) × (rank_of n parent d a + 2 ≤ 2 * n)
+      × (forward_sum n parent d a ≤ n))
       (λ (v : ℕ) (h : 0 < d v).
       let k = nd-positive rooted v (inside rooted v h) in
       let a = rank-into v h in

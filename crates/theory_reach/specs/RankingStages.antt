@@ -26,7 +26,8 @@ pub record RankingStage (s : State) : Type 0 where
   pub during : (r : ℕ) → r ≤ lg L → ((steps r s).clock.stage ≡ s.clock.stage) × ((steps r s).clock.made ≡ r)
   pub over : ((steps (lg L + 1) s).clock.stage ≡ s.clock.stage + 1) × ((steps (lg L + 1) s).clock.made ≡ 0)
   -- in round r, counted from 0, one request for each object past number 2 ^ r of its list:
-  pub requests : (r : ℕ) → r ≤ lg L → round_requests (steps r s) ≡ count (2 * units s) (λ (a : ℕ). ltb (2 ^ r) (place a))
+  pub requests : (r : ℕ) → r ≤ lg L → round_requests (steps r s)
+      ≡ count (2 * units s) (λ (a : ℕ). ltb (2 ^ r) (place a))
   -- some in each but the last, and none in that
   pub asks : (r : ℕ) → r < lg L → 1 ≤ round_requests (steps r s)
   pub silent : round_requests (steps (lg L) s) ≡ 0

@@ -90,7 +90,8 @@ module _ {input : Input} {s₀ : State} (S : Started input s₀) where
 
   -- requests are added up and never clamped
   pub requests-steps : (k : ℕ) → k < total s₀
-      → (Step.steps (suc k) s₀).clock.requests ≡ (Step.steps k s₀).clock.requests + Step.round_requests (Step.steps k s₀)
+      → (Step.steps (suc k) s₀).clock.requests ≡ (Step.steps k s₀).clock.requests
+      + Step.round_requests (Step.steps k s₀)
   unfolding Step.next_clock
   requests-steps k l =
       rw (steps_suc k s₀, step-going (Step.steps k s₀) ((total-least s₀ S.kept).least k l))

@@ -12,7 +12,8 @@ use Rattle.base_lists.specs.Tables.{get_d_over, length_over}
 use Rattle.spec_rules.specs.Basics.{ABSENT, at}
 use Rattle.spec_rules.specs.Tour.{is_into, is_arc, predecessor}
 use Rattle.spec_rules.specs.Ranking.{jump_round, sum_round, requests_of, ranking_ends}
-use Rattle.spec_rules.specs.Order.{reverse_arc, forward_round, descendants, nd_round, second_sums, second_jumps, place_of}
+use Rattle.spec_rules.specs.Order.{reverse_arc, forward_round, descendants, nd_round, second_sums, second_jumps}
+use Rattle.spec_rules.specs.Order.{place_of}
 use Rattle.spec_rules.specs.Order.{pre_round}
 use Rattle.theory_graph.specs.Forest.{Anc}
 use Rattle.spec_machine.specs.State.{State}

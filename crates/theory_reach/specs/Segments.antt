@@ -10,8 +10,10 @@ use Rattle.base_log2.specs.Lg.{lg}
 use Rattle.base_log2.specs.LgLaws.{lg-reaches}
 use Rattle.spec_rules.specs.Basics.{MAX-NUMBER, at, bounded}
 use Rattle.base_lists.specs.FoldLaws.{Choice}
-use Rattle.spec_rules.specs.Range.{odd, local_of, local_at, moves_little, moves_big, with_little, with_big, global_first}
-use Rattle.spec_rules.specs.Range.{range_first, little_first, big_first, range_later, little_later, big_later, global_later}
+use Rattle.spec_rules.specs.Range.{odd, local_of, local_at, moves_little, moves_big, with_little, with_big}
+use Rattle.spec_rules.specs.Range.{global_first}
+use Rattle.spec_rules.specs.Range.{range_first, little_first, big_first, range_later, little_later, big_later}
+use Rattle.spec_rules.specs.Range.{global_later}
 use Rattle.spec_rules.specs.RangeEntries.{unit-at, local-at, global-first, range-first, little-first, big-first}
 use Rattle.spec_rules.specs.RangeEntries.{even_multiple, odd_remainder, little-rests, big-rests, little-moves}
 use Rattle.spec_rules.specs.RangeEntries.{big-moves, little-entry, big-entry, range-entry, little-takes, little-passes}
@@ -293,7 +295,8 @@ module _ {op : ℕ → ℕ → ℕ} {le : ℕ → ℕ → Type 0} (choice : Choi
       × ((at (little_later i n big little) v ≡ at (big_later i n little big) v)
       ⊎ (Multiple (2 ^ suc i) (at (little_later i n big little) v)
       × Multiple (2 ^ suc i) (at (big_later i n little big) v)))
-      × Extreme le local (Taken (first v) (at (little_later i n big little) v) (at (big_later i n little big) v) (last v))
+      × Extreme le local (Taken (first v) (at (little_later i n big little) v) (at (big_later i n little big) v)
+      (last v))
       (at (range_later op i n global little big range) v)
 
   unit-next : (v : ℕ) → v < n → UnitNext v

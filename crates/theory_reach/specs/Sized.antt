@@ -10,13 +10,15 @@ use Rattle.spec_rules.specs.Planned.{planned_parents, planned_dists}
 use Rattle.spec_rules.specs.Tour.{next_round, pred_round, first_sums, first_jumps}
 use Rattle.spec_rules.specs.Ranking.{sum_round, jump_round}
 use Rattle.spec_rules.specs.Order.{forward_round, nd_round, second_sums, second_jumps, pre_round}
-use Rattle.spec_rules.specs.Range.{global_first, range_first, little_first, big_first, range_later, little_later, big_later}
+use Rattle.spec_rules.specs.Range.{global_first, range_first, little_first, big_first, range_later, little_later}
+use Rattle.spec_rules.specs.Range.{big_later}
 use Rattle.spec_rules.specs.Range.{global_later}
 use Rattle.spec_rules.specs.Aux.{link_joins_round, parent_joins_round, aux_round}
 use Rattle.spec_rules.specs.Labels.{class_round, label_round}
 use Rattle.spec_machine.specs.State.{State}
 use Rattle.spec_machine.specs.State.{finished}
-use Rattle.spec_machine.specs.Load.{Input, stored_load_refusal, absents, zeros, begun, loaded, parents_of, planned_loaded}
+use Rattle.spec_machine.specs.Load.{Input, stored_load_refusal, absents, zeros, begun, loaded, parents_of}
+use Rattle.spec_machine.specs.Load.{planned_loaded}
 use Rattle.spec_machine.specs.Step
 use Rattle.spec_machine.specs.StageLaws.{each-round}
 

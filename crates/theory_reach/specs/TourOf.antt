@@ -14,7 +14,8 @@ use Rattle.base_lists.specs.Counts.{count_less, count-fewer}
 use Rattle.base_lists.specs.Tests.{either, and_left, and_right, or_cases, or_left, or_right, or_exact, cond_true}
 use Rattle.base_lists.specs.Tests.{cond_false, not_both, refuted}
 use Rattle.spec_rules.specs.Basics.{ABSENT, at, is_root}
-use Rattle.spec_rules.specs.Tour.{arc_unit, is_into, is_arc, tree_neighbor, least_neighbor, neighbor_after, arc_from, arc_after}
+use Rattle.spec_rules.specs.Tour.{arc_unit, is_into, is_arc, tree_neighbor, least_neighbor, neighbor_after, arc_from}
+use Rattle.spec_rules.specs.Tour.{arc_after}
 use Rattle.spec_rules.specs.Tour.{follower, is_start, predecessor}
 use Rattle.spec_rules.specs.CyclicOrder.{least_passing, passing-least, passing-found, Next, greater, wrapped, next-onto}
 use Rattle.spec_rules.specs.CyclicOrder.{after_next, after_is, turned-high, turned-first, turned-next}
@@ -32,7 +33,8 @@ pub data Preceded (n : ℕ) (parent : List ℕ) (d : ℕ → ℕ) (a b : ℕ) : 
       Preceded n parent d a b
   start : is_arc parent a ≡ true → is_start n parent a ≡ true → b ≡ ABSENT → rank_of n parent d a ≡ 1 →
       forward_sum n parent d a ≡ 1 → Preceded n parent d a b
-  after : is_arc parent a ≡ true → is_start n parent a ≡ false → b < 2 * n → is_arc parent b ≡ true → Step n parent d b a →
+  after : is_arc parent a ≡ true → is_start n parent a ≡ false → b < 2 * n → is_arc parent b ≡ true
+      → Step n parent d b a →
       Preceded n parent d a b
 
 -- what is no arc has no follower
@@ -267,7 +269,8 @@ module _ {n m : ℕ} {ends color parent : List ℕ} {d : ℕ →
       child-at e = subst (λ (y : ℕ). Child parent d v y) e c
 
   -- from a child of a root: on to the next, or all are done
-  round-root : (a b u v w : ℕ) → d v ≡ 0 → Child parent d v u → a ≡ 2 * u + 1 → w < n → tree_neighbor parent v w ≡ true →
+  round-root : (a b u v w : ℕ) → d v ≡ 0 → Child parent d v u → a ≡ 2 * u + 1 → w < n → tree_neighbor parent v w ≡ true
+      →
       Arc parent d b v w
       → Next (tree_neighbor parent v) n u w → (is_start n parent b ≡ true) ⊎ Step n parent d a b
   round-root a b u v w z c s l t x (greater o f) =
@@ -289,7 +292,8 @@ module _ {n m : ℕ} {ends color parent : List ℕ} {d : ℕ →
       × ((is_start n parent (follower n parent a) ≡ true) ⊎ Step n parent d a (follower n parent a))
   follower-step a l t = go (ends_of_lem a ((arc-exact rooted a l).0 t))
     where
-      by_case : (u v : ℕ) → Arc parent d a u v → (w b : ℕ) → w < n → tree_neighbor parent v w ≡ true → Arc parent d b v w
+      by_case : (u v : ℕ) → Arc parent d a u v → (w b : ℕ) → w < n → tree_neighbor parent v w ≡ true
+          → Arc parent d b v w
           → Next (tree_neighbor parent v) n u w → (is_start n parent b ≡ true) ⊎ Step n parent d a b
       by_case u v (inr (c, s)) w b k i x next = inr (round-parent a b u v w c s k i x next)
       by_case u v (inl (c, s)) w b k i x next = depth (ℕ_discrete (d v) 0)

@@ -1,5 +1,7 @@
 // The calls that ask: questions to a finished survey, its report, and files read and written. Each hands the state back
 // beside its answer; a refusal gives only the number, and nothing is written.
+#![tactic(auto)]
+
 mod questions;
 
 ghost use Rattle.std.specs.Prelude.{◌≡◌, length};

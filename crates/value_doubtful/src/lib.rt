@@ -1,4 +1,6 @@
 // Whether a ring holds two links of a finished survey however many of the doubtful ones are absent (T-08), by value.
+#![tactic(auto)]
+
 ghost use Rattle.std.specs.Prelude.{◌≡◌};
 ghost use Rattle.survey.specs.View.{of};
 ghost use Rattle.value_doubtful.specs.Doubtful.{answer_of, number_of};
@@ -7,7 +9,7 @@ ghost use Rattle.value_doubtful.specs.DoubtRight.{VerdictTold, DoubtRight};
 use survey::Survey;
 
 // What the call replies: that every setting has a ring with both, that only some have one, that none has; or a refusal.
-#[derive(Drop)]
+#[derive(Clone, Copy)]
 pub enum Verdict {
     Always,
     Perhaps,
@@ -16,7 +18,7 @@ pub enum Verdict {
 }
 
 // What it hands back: the state, and beside it its reply.
-#[derive(Drop)]
+#[derive(Clone, Copy)]
 pub struct Answer {
     pub survey: Survey,
     pub reply: Verdict,

@@ -1,5 +1,7 @@
 // The foreman's line and the service line of a survey (T-06), by value. Each call hands the state back beside its
 // reply, at every stage.
+#![tactic(auto)]
+
 ghost use Rattle.std.specs.Prelude.{◌≡◌, true, length};
 ghost use Rattle.spec_machine.specs.WellFormed.{well_formed};
 ghost use Rattle.survey.specs.View.{of, answer_of};

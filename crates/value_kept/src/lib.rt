@@ -1,4 +1,6 @@
 // Whether a state is well formed (document 01: kept). Its numbers and tables are lent one by one, so no copy is made.
+#![tactic(auto)]
+
 ghost use Rattle.std.specs.Prelude.{◌≡◌, Bool, [], ◌∷◌, ℕ};
 ghost use Rattle.base_lists.specs.Folds.{every};
 ghost use Rattle.table_values.specs.Tops.{Tells};

@@ -1,5 +1,6 @@
 -- Why the lifting call is refused, in the words of T-07, and that each test decides its cause: the reasons in order.
-use Rattle.std.specs.Prelude.{◌≡◌, refl, Bool, true, false, cond, not, ◌&&◌, ◌||◌, ◌⊎◌, ◌↔◌, List, [], ◌∷◌, ℕ, ◌+◌, ◌*◌, ◌≤◌, ◌<◌, ltb, length, get_or}
+use Rattle.std.specs.Prelude.{◌≡◌, refl, Bool, true, false, cond, not, ◌&&◌, ◌||◌, ◌⊎◌, ◌↔◌, List, [], ◌∷◌, ℕ, ◌+◌, ◌*◌}
+use Rattle.std.specs.Prelude.{◌≤◌, ◌<◌, ltb, length, get_or}
 use Rattle.std.proofs.Common.{ltb-true, lt-ltb}
 use Rattle.std.proofs.lemmas.Bool.{not-true}
 use Rattle.base_lists.specs.Tests.{and_left, and_right, and-true, or_exact, not_exact, or_false-right, refuted}
@@ -62,7 +63,8 @@ module _ (s : State) (p : List ℕ) where
 
       from : NoOrder s p → none ≡ true
       from (k, b, o) =
-          let f : bad_pairs (units s) p ≡ false = refuted (bad_pairs (units s) p) (λ e. b ((bad_exact (units s) p).0 e)) in
+          let f : bad_pairs (units s) p
+          ≡ false = refuted (bad_pairs (units s) p) (λ e. b ((bad_exact (units s) p).0 e)) in
           and-true (well_formed s) _ ((kept-exact s).1 k)
           (and-true (not (bad_pairs (units s) p)) (no_order (units s) (words s) p) (rw f refl)
           ((order-right k f).refused.1 o))

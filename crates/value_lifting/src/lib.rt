@@ -1,4 +1,6 @@
 // The lifting order of a finished survey (T-07), by value.
+#![tactic(auto)]
+
 ghost use Rattle.std.specs.Prelude.{◌≡◌, length};
 ghost use Rattle.survey.specs.View.{of};
 ghost use Rattle.value_lifting.specs.Lifting.{early_refusal, lifting_answer, lifted, answer_of, number_of};
@@ -6,14 +8,14 @@ ghost use Rattle.value_lifting.specs.Lifting.{early_refusal, lifting_answer, lif
 use survey::{Clock, Survey};
 
 // What a lifting call replies: the number of units in the order, or the number of a refusal.
-#[derive(Drop)]
+#[derive(Clone, Copy)]
 pub enum Lifting {
     Lifted(u16),
     Refused(u8),
 }
 
 // What it hands back: the state, and beside it its reply.
-#[derive(Drop)]
+#[derive(Clone, Copy)]
 pub struct Answer {
     pub survey: Survey,
     pub reply: Lifting,

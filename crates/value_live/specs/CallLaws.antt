@@ -7,19 +7,20 @@ use Rattle.table_levels.specs.Level.{in_range}
 use Rattle.table.specs.Refusals.{first_of}
 use Rattle.table.specs.RefusalLaws.{first_some, first-none, passed-test}
 use Rattle.live_table.specs.Live.{Live, held, place_of}
-use Rattle.live_table.specs.LiveCalls.{Answer, answered, given_tests, link_tests, pair_tests, given_refusal, add_refusal}
+use Rattle.live_table.specs.LiveCalls.{Answer, answered, given_tests, link_tests, pair_tests, given_refusal}
+use Rattle.live_table.specs.LiveCalls.{add_refusal}
 use Rattle.live_table.specs.LiveCalls.{withdraw_refusal}
 use Rattle.live_table.specs.GivenLaws.{held-links, given-links}
 use Rattle.live_table.specs.PlaceLaws.{place_found}
 
 -- r is the number that came up
-pub answer_refused : (k r : ℕ) (given after : Live) → r ≡ k → (r ≡ 0 → ⊥) →
+pub answer-refused : (k r : ℕ) (given after : Live) → r ≡ k → (r ≡ 0 → ⊥) →
     ◌≡◌ {A = Answer} (record { live = given; number = r }) (answered k given after)
-answer_refused k r given after e h = rw (sym e, ne_eqb r 0 h) refl
+answer-refused k r given after e h = rw (sym e, ne_eqb r 0 h) refl
 
-pub answer_made : (k r : ℕ) (given after : Live) → r ≡ k → r ≡ 0 →
+pub answer-made : (k r : ℕ) (given after : Live) → r ≡ k → r ≡ 0 →
     ◌≡◌ {A = Answer} (record { live = after; number = r }) (answered k given after)
-answer_made k r given after e z = rw (sym e, eq-eqb r 0 z) refl
+answer-made k r given after e z = rw (sym e, eq-eqb r 0 z) refl
 
 module _ (l : Live) where
   -- the given table is refused

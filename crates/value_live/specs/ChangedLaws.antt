@@ -1,6 +1,7 @@
 -- Words and levels as the changes lay them down: one link more, and one less.
 use Rattle.std.specs.Prelude.{◌≡◌, refl, List, [], ◌∷◌, ◌++◌, ℕ, ◌+◌, ◌-◌, ◌≤◌, ◌<◌, length, get_or, set, take, drop, ℤ}
-use Rattle.std.proofs.Common.{sym, ap, ◌∙◌, append_assoc, add-one, arith, length-set, take-append-drop, length-take-le, take_all, take_at, take-suc-set, get_or-take, ext_get_or}
+use Rattle.std.proofs.Common.{sym, ap, ◌∙◌, append_assoc, add-one, arith, length-set, take-append-drop, length-take-le}
+use Rattle.std.proofs.Common.{take_all, take_at, take-suc-set, get_or-take, ext_get_or}
 use Rattle.std.proofs.Math.Decide.{dec_lt}
 use Rattle.spec_state.specs.declared.groups.Table.{Table}
 use Rattle.spec_machine.specs.Load.{table_of}
@@ -32,7 +33,8 @@ module _ {A : Type 0} (at k : ℕ) (l : List A) where
       (take_at (take at l) (drop (at + k) l) at (length-take-le at l h)) ∙ take-append-drop at l)
 
   pub close-next : (i : ℕ) (d : A) → at ≤ i → i + k < length l
-      → set (take i (without at k l) ++ drop i l) i (get_or l (i + k) d) ≡ take (i + 1) (without at k l) ++ drop (i + 1) l
+      → set (take i (without at k l) ++ drop i l) i (get_or l (i + k) d) ≡ take (i + 1) (without at k l)
+      ++ drop (i + 1) l
   close-next i d b h =
       let long = length_without at k l (omega arith) in
       ap (λ (x : A). set (take i (without at k l) ++ drop i l) i x) (sym (without-after at k l (omega arith) i d b))
@@ -54,7 +56,8 @@ module _ {A : Type 0} (at k : ℕ) (l : List A) where
       fewer : length (without at k (take count l)) ≡ count - k
       fewer = length_without at k (take count l) (omega (arith, part)) ∙ omega (arith, part)
 
-      same : (i : ℕ) → i < count - k → Dec (i < at) → get_or (without at k l) i d ≡ get_or (without at k (take count l)) i d
+      same : (i : ℕ) → i < count - k → Dec (i < at) → get_or (without at k l) i d
+          ≡ get_or (without at k (take count l)) i d
       same i f (yes c) =
           without-before at k l (omega arith) i d c
           ∙ sym (without-before at k (take count l) (omega (arith, part)) i d c ∙ get_or-take count l i d (omega arith))

@@ -1,7 +1,7 @@
 // A live table by value, and what a call of it hands back.
 
 // The ends of link j stand at 2j and 2j + 1, its level at j, the number of links at unit v at v.
-#[derive(Drop)]
+#[derive(Clone, Copy)]
 pub struct Live {
     pub units: u16,
     pub links: u16,
@@ -11,7 +11,7 @@ pub struct Live {
 }
 
 // The table, and beside it the number of a refusal: 0 where there was none.
-#[derive(Drop)]
+#[derive(Clone, Copy)]
 pub struct Answer {
     pub live: Live,
     pub number: u8,

@@ -8,7 +8,7 @@ use Rattle.spec_state.specs.declared.reply.Reply.{Reply}
 use Rattle.spec_claim.specs.Play.{Call, answer_to, play, used}
 use Rattle.value_player.specs.Words.{call_of, out_after, encoded, play_words, calls_in}
 use Rattle.spec_claim.specs.Claim.{Loaded, Claim}
-use Rattle.spec_claim.specs.ClaimProof.{claim}
+use Rattle.spec_claim.proofs.ClaimProof.{claim}
 
 -- replies stored one after the other, from number i on
 abbrev pub stored : List Reply → ℕ → List ℕ → List ℕ

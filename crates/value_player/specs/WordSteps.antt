@@ -14,7 +14,8 @@ after_call ws i k a b s replies out =
     (sets replies (8 * i) (encoded (answer_to (call_of k a b out) s).reply)) (out_after k a b out s)
 
 first-call : (ws : List ℕ) (i : ℕ) (s : State) (replies out : List ℕ) → 3 ≤ length ws
-    → play_words ws i s replies out ≡ after_call (drop 3 ws) i (get_or ws 0 0) (get_or ws 1 0) (get_or ws 2 0) s replies out
+    → play_words ws i s replies out
+    ≡ after_call (drop 3 ws) i (get_or ws 0 0) (get_or ws 1 0) (get_or ws 2 0) s replies out
 unfolding play_words
 first-call [] i s replies out l = absurd (omega arith)
 first-call (k ∷ []) i s replies out l = absurd (omega arith)

@@ -1,5 +1,7 @@
 // A list of calls, one after the other on the state that the last one left; demand 3 is about such lists
 // (spec_claim/specs/Claim.antt).
+#![tactic(auto)]
+
 ghost use Rattle.std.specs.Prelude.{◌≡◌};
 ghost use Rattle.survey.specs.View.{of};
 ghost use Rattle.value_player.specs.Words.{play_words};

@@ -1,5 +1,7 @@
 // From the bytes of a survey file to the bytes of its report, by the calls by value: all that the program does between
 // reading and printing.
+#![tactic(auto)]
+
 ghost use Rattle.std.specs.Prelude.{◌≡◌, ◌≤◌, length};
 ghost use Rattle.spec_machine.specs.Calls.{number_of};
 ghost use Rattle.report_program.specs.Printed.{count_of, printed_read, printed, laid_over, laid_count};

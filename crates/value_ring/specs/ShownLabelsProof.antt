@@ -13,7 +13,7 @@ use Rattle.theory_reach.specs.Loaded.{end-a, end-b, same-links}
 use Rattle.theory_reach.specs.Reach.{SurveyRight, table-steps}
 use Rattle.theory_reach.specs.Site.{Link}
 use Rattle.spec_claim.specs.Claim.{Loaded}
-use Rattle.spec_claim.specs.ClaimProof.{claim, started}
+use Rattle.spec_claim.proofs.ClaimProof.{claim, started}
 use Rattle.spec_claim.specs.Play.{play, used}
 use Rattle.value_ring.specs.declared.Shown.{Shown}
 use Rattle.value_ring.specs.declared.Shown.TheVariants.{NoRing, Refused}
@@ -50,7 +50,8 @@ module _ (input : Input) (accepted : stored_load_refusal input ≡ 0) (e : State
   words = input.words
 
   -- on the state's own table, in the words of the table that was loaded
-  exact-words : (reply ≡ NoRing) ↔ (OnRing (Link m words) (end_a words i) (end_b words i) (end_a words j) (end_b words j) →
+  exact-words : (reply
+      ≡ NoRing) ↔ (OnRing (Link m words) (end_a words i) (end_b words i) (end_a words j) (end_b words j) →
       ⊥)
   exact-words =
       let x = exact (units e) (links e) e.table.ends i j out reply new told in

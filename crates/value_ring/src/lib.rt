@@ -1,4 +1,6 @@
 // A ring of a finished survey that holds two links (T-04), by value.
+#![tactic(auto)]
+
 ghost use Rattle.std.specs.Prelude.{◌≡◌, drop};
 ghost use Rattle.survey.specs.View.{of};
 ghost use Rattle.value_ring.specs.Shown.{answer_of, number_of};
@@ -8,7 +10,7 @@ use survey::Survey;
 
 // What the call replies: the number of units of the ring that was written, that there is none, or the number of a
 // refusal.
-#[derive(Drop)]
+#[derive(Clone, Copy)]
 pub enum Shown {
     Ring(u16),
     NoRing,
@@ -16,7 +18,7 @@ pub enum Shown {
 }
 
 // What it hands back: the state, and beside it its reply.
-#[derive(Drop)]
+#[derive(Clone, Copy)]
 pub struct Answer {
     pub survey: Survey,
     pub reply: Shown,

@@ -33,7 +33,8 @@ module _ (file : List ℕ) (places spaces : ℕ) where
 
   -- whichever of the two is asked for
   said-by : (told : Reading → ℕ) (value old : ℕ) →
-      told (Read (units_in (lines_of file)) (link_frames (lines_of file))) ≡ value → told (Reading.Refused refusal) ≡ old
+      told (Read (units_in (lines_of file)) (link_frames (lines_of file))) ≡ value → told (Reading.Refused refusal)
+      ≡ old
       → told (read_reply file places spaces) ≡ word_said refusal value old
   unfolding read_reply
   said-by told value old yes-is no-is = go (either (eqb refusal 0))

@@ -1,7 +1,8 @@
 // Survey files in memory that the caller lends: no state plays a part. A number that comes back is document 01's number
 // of the refusal, 0 where the call was not refused; on a refusal nothing lent is altered.
 ghost use Rattle.std.specs.Prelude.{◌≡◌, length};
-ghost use Rattle.file_spec.specs.File.{lines_of, units_in, link_frames, read_refusal, read_words, read_levels, write_refusal};
+ghost use Rattle.file_spec.specs.File.{lines_of, units_in, link_frames, read_refusal, read_words, read_levels};
+ghost use Rattle.file_spec.specs.File.{write_refusal};
 ghost use Rattle.file_spec.specs.File.{written_file};
 ghost use Rattle.words_calls.specs.FileFace.{word_said};
 

@@ -1,13 +1,17 @@
 // The calls on a state in words that the caller lends (words_layout/specs/Layout.antt). A number that comes back is
 // document 01's number of the refusal, 0 where the call was not refused; on a refusal nothing lent is altered. What a
 // call leaves in the words is settled word for word (words_known/specs/Left.antt).
+#![tactic(auto)]
+
 mod file_calls;
 mod questions;
 
 ghost use Rattle.std.specs.Prelude.{◌≡◌, cond, eqb, length};
 ghost use Rattle.spec_machine.specs.Run.{ran};
-ghost use Rattle.spec_machine.specs.Calls.{number_of, load_answer, stored_load_answer, planned_load_answer, status_answer};
-ghost use Rattle.spec_machine.specs.Calls.{round_refusal, round_answer, run_answer, unit_answer, link_answer, report_answer};
+ghost use Rattle.spec_machine.specs.Calls.{number_of, load_answer, stored_load_answer, planned_load_answer};
+ghost use Rattle.spec_machine.specs.Calls.{status_answer};
+ghost use Rattle.spec_machine.specs.Calls.{round_refusal, round_answer, run_answer, unit_answer, link_answer};
+ghost use Rattle.spec_machine.specs.Calls.{report_answer};
 ghost use Rattle.spec_machine.specs.Calls.{reported};
 ghost use Rattle.words_layout.specs.Layout.{state_of};
 ghost use Rattle.words_known.specs.Left.{Left};

@@ -2,7 +2,8 @@
 ghost use Rattle.std.specs.Prelude.{◌≡◌, true, [], ◌∷◌};
 ghost use Rattle.spec_machine.specs.WellFormed.{well_formed};
 ghost use Rattle.spec_machine.specs.Step.{countdown};
-ghost use Rattle.spec_machine.specs.Report.{flag, unit_color, unit_parent, unit_place, unit_single, link_label, link_lone};
+ghost use Rattle.spec_machine.specs.Report.{flag, unit_color, unit_parent, unit_place, unit_single, link_label};
+ghost use Rattle.spec_machine.specs.Report.{link_lone};
 ghost use Rattle.spec_machine.specs.Calls.{question_refusal};
 ghost use Rattle.words_layout.specs.Layout.{state_of};
 

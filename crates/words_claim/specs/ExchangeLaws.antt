@@ -6,13 +6,14 @@ use Rattle.std.proofs.Common.{ap, ◌∙◌, inl, inr}
 use Rattle.base_lists.specs.Tests.{either}
 use Rattle.spec_machine.specs.State.{State}
 use Rattle.spec_machine.specs.Run.{ran}
-use Rattle.spec_machine.specs.Calls.{round_refusal, run_answer, status_refusal, status_answer, unit_refusal, unit_answer}
+use Rattle.spec_machine.specs.Calls.{round_refusal, run_answer, status_refusal, status_answer, unit_refusal}
+use Rattle.spec_machine.specs.Calls.{unit_answer}
 use Rattle.spec_machine.specs.Calls.{link_refusal, link_answer, report_refusal, report_answer}
 use Rattle.words_layout.specs.Layout.{state_of}
 use Rattle.words_calls.specs.Face.{said}
 use Rattle.words_known.specs.Left.{Left}
 use Rattle.spec_claim.specs.Play.{round, run, status, unit, link, report, answer_to}
-use Rattle.spec_claim.specs.PlayLaws.{unmoved}
+use Rattle.spec_claim.proofs.PlayLaws.{unmoved}
 use Rattle.words_claim.specs.Exchange.{number_to, lent_after, made_after, CallMade}
 
 -- ---- calls that change the words

@@ -1,4 +1,3 @@
 pub mod Exchange
 pub mod ExchangeLaws
 pub mod WordsClaim
-pub mod WordsClaimProof

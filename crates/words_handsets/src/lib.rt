@@ -1,9 +1,12 @@
 // The foreman's line and the service line (T-06) on a state in words that the caller lends. A number that comes back is
 // that of the refusal, 0 where the call was not refused; on a refusal nothing lent is altered.
+#![tactic(auto)]
+
 ghost use Rattle.std.specs.Prelude.{◌≡◌, length};
 ghost use Rattle.spec_machine.specs.Calls.{number_of};
 ghost use Rattle.words_layout.specs.Layout.{state_of};
-ghost use Rattle.handset_lines.specs.Lines.{line_needed, line_in, line_answer, line_shown, foreman_answer, foreman_shown};
+ghost use Rattle.handset_lines.specs.Lines.{line_needed, line_in, line_answer, line_shown, foreman_answer};
+ghost use Rattle.handset_lines.specs.Lines.{foreman_shown};
 ghost use Rattle.handset_lines.specs.Lines.{service_answer, service_shown};
 ghost use Rattle.words_handsets.specs.Reply.{record_of};
 

@@ -1,6 +1,8 @@
 // What the type of lent words tells: a state is so many words, each of 16 bits, and there are eight seats. Nothing runs
 // here. A call that hands its words to these functions before and after its work knows every word that it leaves, and
 // not only the state that they are.
+#![tactic(auto)]
+
 ghost use Rattle.std.specs.Prelude.{◌≡◌, [], ℕ, ◌<◌, length, get_or};
 ghost use Rattle.words_known.specs.Known.{StateWords, SeatWords};
 

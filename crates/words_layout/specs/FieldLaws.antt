@@ -1,6 +1,7 @@
 -- The state that words are, field by field, before and after fields are laid over them.
 use Rattle.std.specs.Prelude.{◌≡◌, refl, Bool, true, false, cond, T, eqb, ltb, get_or}
-use Rattle.std.proofs.Common.{sym, ◌∙◌, arith, ltb→lt, lit<, take-append-drop, drop_at, drop-drop, get_or-take, get_or-drop, eqb-true, ltb-true, ltb-false}
+use Rattle.std.proofs.Common.{sym, ◌∙◌, arith, ltb→lt, lit<, take-append-drop, drop_at, drop-drop, get_or-take}
+use Rattle.std.proofs.Common.{get_or-drop, eqb-true, ltb-true, ltb-false}
 use Rattle.std.proofs.Math.Path.{ap}
 use mathlib.Core.List.{List, [], ◌∷◌, ◌++◌, append_assoc}
 use Prim.Native.Nat.{ℕ, zero, suc, ◌+◌, ◌-◌, ◌≤◌, ◌<◌}
@@ -141,9 +142,9 @@ same_fields f g same =
     at j h = same j (ltb→lt j 27 h)
 
 -- a number among the counts or in the clock
-pub number_in : (at n i : ℕ) (ws : List ℕ) → i < n → get_or ws (at + i) 0 ≡ get_or (part at n ws) i 0
+pub number_in_lem : (at n i : ℕ) (ws : List ℕ) → i < n → get_or ws (at + i) 0 ≡ get_or (part at n ws) i 0
 unfolding part
-number_in at n i ws h = sym (get_or-take n (drop at ws) i 0 h ∙ get_or-drop at ws i 0)
+number_in_lem at n i ws h = sym (get_or-take n (drop at ws) i 0 h ∙ get_or-drop at ws i 0)
 
 -- ---- fields laid over words
 

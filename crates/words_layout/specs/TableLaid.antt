@@ -132,7 +132,8 @@ pub ends-laid : (n units links count : ℕ) (t ws w₁ w₂ w₃ : List ℕ) →
 ends-laid n units links count t ws w₁ w₂ w₃ size state same₁ same₂ held half one two three =
     let few : length (take count t) ≤ n = omega (arith, length-take count t, held) in
     let ends = take count t ++ drop (length (take count t)) (replicate n ABSENT) in
-    let first : w₁ ≡ laid 0 (units ∷ links ∷ []) ws = laid_in_lem 0 (units ∷ links ∷ []) ws one (omega (arith, state)) in
+    let first : w₁ ≡ laid 0 (units ∷ links ∷ []) ws =
+    laid_in_lem 0 (units ∷ links ∷ []) ws one (omega (arith, state)) in
     let both : w₃ ≡ laid 2 ends (laid 0 (units ∷ links ∷ []) ws) =
     filled_laid 2 n ABSENT (take count t) w₁ w₂ w₃ two three same₂ few (omega (arith, size, state, same₁))
     ∙ ap (λ (l : List ℕ). laid 2 ends l) first in

@@ -1,5 +1,7 @@
 // A state in the words that a caller lends: where each table lies, its groups taken out and laid down, and the kept
 // test.
+#![tactic(auto)]
+
 mod judged;
 mod lay;
 mod layout;

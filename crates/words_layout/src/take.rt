@@ -8,7 +8,7 @@ use super::layout::STATE_WORDS;
 use spec_state::{Aux, Clock, Components, Global, Labels, Order, Plan, Range, Ranking, Tour, Tree};
 
 // The table of links without its levels, which few calls read.
-#[derive(Drop)]
+#[derive(Clone, Copy)]
 pub struct BareTable {
     pub units: u16,
     pub links: u16,

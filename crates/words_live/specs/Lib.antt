@@ -1,2 +1,1 @@
 pub mod LiveLayout
-pub mod LayoutLaws

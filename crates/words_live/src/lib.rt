@@ -1,5 +1,7 @@
 // A live table (T-09) in the words that a caller lends: opened, and changed by a link at a time. A number that comes
 // back is that of the refusal, 0 where the call was not refused; on a refusal no word is altered.
+#![tactic(auto)]
+
 mod layout;
 
 ghost use Rattle.std.specs.Prelude.{◌≡◌};

@@ -1,7 +1,10 @@
 // Load on words: of a fresh table, of a stored one, and with a tree drawn by the planner.
+#![tactic(auto)]
+
 ghost use Rattle.std.specs.Prelude.{◌≡◌, cond, eqb};
 ghost use Rattle.table.specs.Table.{stored_refusal, refusal_as};
-ghost use Rattle.spec_machine.specs.Load.{load_refusal, stored_load_refusal, loaded, planned_load_refusal, planned_loaded};
+ghost use Rattle.spec_machine.specs.Load.{load_refusal, stored_load_refusal, loaded, planned_load_refusal};
+ghost use Rattle.spec_machine.specs.Load.{planned_loaded};
 ghost use Rattle.words_layout.specs.Layout.{state_of};
 ghost use Rattle.words_load.specs.Begun.{front_begun, back_begun};
 

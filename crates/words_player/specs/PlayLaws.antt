@@ -12,7 +12,7 @@ use Rattle.spec_claim.specs.Play.{Call, answer_to}
 use Rattle.spec_claim.specs.Claim.{Claim}
 use Rattle.words_claim.specs.Exchange.{CallMade, calls_of, used_of}
 use Rattle.words_claim.specs.WordsClaim.{LoadedWords, fresh}
-use Rattle.words_claim.specs.WordsClaimProof.{claim-on_words}
+use Rattle.words_claim.proofs.WordsClaimProof.{claim-on_words}
 use Rattle.words_player.specs.Played.{call_of, out_after, calls_in, out_in, OneMade, AllMade, Claimed}
 use Rattle.words_player.specs.Played.{ClaimedFrom}
 
@@ -50,7 +50,8 @@ bytes-from input given first ws out left n w e = e ∙ ap (λ (s : State). out_i
 
 first-call : (ws : List ℕ) (s : State) (out : List ℕ) → 2 ≤ length ws
     → calls_in ws s out ≡ call_of (get_or ws 0 0) (get_or ws 1 0) out
-    ∷ calls_in (drop 2 ws) (answer_to (call_of (get_or ws 0 0) (get_or ws 1 0) out) s).state (out_after (get_or ws 0 0) out s)
+    ∷ calls_in (drop 2 ws) (answer_to (call_of (get_or ws 0 0) (get_or ws 1 0) out) s).state
+    (out_after (get_or ws 0 0) out s)
 unfolding calls_in
 first-call [] s out l = absurd (omega arith)
 first-call (k ∷ []) s out l = absurd (omega arith)

@@ -1,5 +1,7 @@
 // Calls on words, one after the other, by the very functions that C gets: what comes back from each is an exchange of
 // words_claim/specs/Exchange.antt, and so demand 3 holds of the list by their contracts.
+#![tactic(auto)]
+
 mod made;
 
 ghost use Rattle.std.specs.Prelude.{◌≡◌, cond, eqb};

@@ -1,4 +1,6 @@
 // From the bytes of a survey file to the bytes of its report, on the words of a state: for a caller with a small stack.
+#![tactic(auto)]
+
 ghost use Rattle.std.specs.Prelude.{◌≡◌, length};
 ghost use Rattle.report_program.specs.Printed.{printed_read, printed, laid_over, laid_count};
 

@@ -1,5 +1,7 @@
 // What the change requests ask, on memory that the caller lends. A number that comes back is that of the refusal, 0
 // where the call was not refused; on a refusal nothing lent is altered.
+#![tactic(auto)]
+
 ghost use Rattle.std.specs.Prelude.{◌≡◌, length, get_or};
 ghost use Rattle.spec_machine.specs.State.{finished};
 ghost use Rattle.spec_machine.specs.WellFormed.{well_formed};

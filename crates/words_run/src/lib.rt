@@ -1,4 +1,6 @@
 // Rounds and runs on the words of a state.
+#![tactic(auto)]
+
 mod back;
 mod front;
 

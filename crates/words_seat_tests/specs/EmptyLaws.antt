@@ -6,16 +6,16 @@ use Rattle.std.proofs.Math.Dec.{eqb}
 use Rattle.spec_state.specs.declared.groups.Clock.{Clock}
 use Rattle.spec_machine.specs.State.{units}
 use Rattle.words_layout.specs.Layout.{state_of}
-use Rattle.words_layout.specs.FieldLaws.{number_in}
+use Rattle.words_layout.specs.FieldLaws.{number_in_lem}
 use Rattle.spec_channel.specs.Office.{empty}
 
 first_word : (ws : List ℕ) → units (state_of ws) ≡ get_or ws 0 0
 unfolding state_of
-first_word ws = sym (number_in 0 2 0 ws (lit< tt))
+first_word ws = sym (number_in_lem 0 2 0 ws (lit< tt))
 
 stage-word : (ws : List ℕ) → (state_of ws).clock.stage ≡ get_or ws 2050 0
 unfolding state_of
-stage-word ws = sym (number_in 2050 4 0 ws (lit< tt))
+stage-word ws = sym (number_in_lem 2050 4 0 ws (lit< tt))
 
 module _ (ws : List ℕ) where
   pub units-there : (get_or ws 0 0 ≡ 0 → ⊥) → false ≡ empty (state_of ws)

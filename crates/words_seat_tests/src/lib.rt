@@ -1,4 +1,6 @@
 // What a tick asks of each seat.
+#![tactic(auto)]
+
 ghost use Rattle.std.specs.Prelude.{◌≡◌, false, not, ◌&&◌, [], ℕ, ◌<◌, eqb, length, get_or};
 ghost use Rattle.base_lists.specs.Folds.{some};
 ghost use Rattle.words_layout.specs.Layout.{state_of};

@@ -5,8 +5,8 @@ use Rattle.std.proofs.Common.{◌∙◌, arith}
 use Rattle.std.proofs.lemmas.List.{length-map}
 use Rattle.words_layout.specs.Layout.{state_of}
 use Rattle.spec_channel.specs.Office.{Event, play}
-use Rattle.spec_channel.specs.Channel.{Begun, Channel}
-use Rattle.spec_channel.specs.ChannelProof.{one-channel}
+use Rattle.spec_channel.proofs.Channel.{Begun, Channel}
+use Rattle.spec_channel.proofs.ChannelProof.{one-channel}
 use Rattle.words_seat_tests.specs.EmptyLaws.{both_zero}
 use Rattle.words_seats.specs.Lent.{office_of}
 use Rattle.words_seats.specs.LentLaws.{seat-words}

@@ -26,6 +26,10 @@ seat-words last words i h = map_below state_of unloaded words i h
 
 -- one seat's words replaced
 pub words-set : (last : ℕ) (words : List (List ℕ)) (i : ℕ) (new : List ℕ)
-    → office_of last (set words i new) ≡ record { seats = set (office_of last words).seats i (state_of new); last = last }
+    → office_of last (set words i new) ≡ record {
+      seats = set (office_of last words).seats i (state_of new);
+      last =
+          last;
+    }
 unfolding office_of
 words-set last words i new = ap (λ (t : List State). record { seats = t; last = last }) (map-set state_of words i new)

@@ -10,10 +10,10 @@ use Rattle.spec_machine.specs.Step.{step}
 use Rattle.words_layout.specs.Layout.{state_of}
 use Rattle.words_layout.specs.SameWords.{words_of}
 use Rattle.words_known.specs.Known.{SeatWords}
-use Rattle.words_known.specs.LeftLaws.{words-of, words_same}
+use Rattle.words_known.proofs.LeftLaws.{words-of, words_same}
 use Rattle.spec_channel.specs.Office.{Office, seat, served, tick_refusal, tick, Loading, seat_refusal, load_seat}
-use Rattle.spec_channel.specs.OfficeLaws.{tick-made, tick-refused, tick-same, tick-other, served-below, load_same}
-use Rattle.spec_channel.specs.OfficeLaws.{load_other, load_refused, seat-accepted}
+use Rattle.spec_channel.proofs.OfficeLaws.{tick-made, tick-refused, tick-same, tick-other, served-below, load_same}
+use Rattle.spec_channel.proofs.OfficeLaws.{load_other, load_refused, seat-accepted}
 use Rattle.words_seats.specs.Lent.{office_of}
 use Rattle.words_seats.specs.LentLaws.{seat-words}
 use Rattle.words_seats.specs.SeatsLeft.{TickedWords, LoadedSeat}
@@ -63,7 +63,8 @@ module _ (old new : List (List ℕ)) (O : SeatWords old) (N : SeatWords new) whe
           ∙ tick-same o (office-eight last) z
           ∙ ap step (seat-words last old (served o) (omega (arith, O.eight))))
 
-  pub loaded-seat : (i : ℕ) (load : Loading) → ((last : ℕ) → office_of last new ≡ load_seat i load (office_of last old)) →
+  pub loaded-seat : (i : ℕ) (load : Loading) → ((last : ℕ) → office_of last new ≡ load_seat i load (office_of last old))
+      →
       LoadedSeat i load old new
   loaded-seat i load e =
       record {

@@ -4,7 +4,7 @@ use Rattle.std.specs.Prelude.{◌≡◌, List, [], ◌∷◌, ℕ}
 use Rattle.std.proofs.Common.{sym, ap, ap₂, subst, ◌∙◌}
 use Rattle.spec_channel.specs.Office
 use Rattle.spec_channel.specs.Office.{Office, tick_refusal, seat_refusal, Event, loads, ticks, play}
-use Rattle.spec_channel.specs.Channel.{Channel}
+use Rattle.spec_channel.proofs.Channel.{Channel}
 use Rattle.words_seats.specs.Lent.{office_of}
 use Rattle.words_seats.specs.Cleared.{Blank, cleared-channel}
 

@@ -10,9 +10,11 @@ use Rattle.words_seats.specs.Lent.{office_of}
 pub record TickedWords (last after : ℕ) (old new : List (List ℕ)) : Type 0 where
   -- one round to one seat, which is then the one last served
   pub turn : tick_refusal (office_of last old) ≡ 0 → after ≡ served (office_of last old)
-  pub round : tick_refusal (office_of last old) ≡ 0 → get_or new after [] ≡ words_of (step (state_of (get_or old after [])))
+  pub round : tick_refusal (office_of last old) ≡ 0 → get_or new after []
+      ≡ words_of (step (state_of (get_or old after [])))
   -- the other seven are untouched
-  pub others : tick_refusal (office_of last old) ≡ 0 → (i : ℕ) → i < 8 → (after ≡ i → ⊥) → get_or new i [] ≡ get_or old i []
+  pub others : tick_refusal (office_of last old) ≡ 0 → (i : ℕ) → i < 8 → (after ≡ i → ⊥) → get_or new i []
+      ≡ get_or old i []
   -- and where it is refused no seat moves, nor does the turn
   pub refused : (tick_refusal (office_of last old) ≡ 0 → ⊥) → (after ≡ last) × (new ≡ old)
 

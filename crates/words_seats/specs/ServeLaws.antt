@@ -1,5 +1,6 @@
 -- What `serve` and `load` have found, and so leave: the office's own tick and load.
-use Rattle.std.specs.Prelude.{◌≡◌, refl, Bool, true, false, cond, not, ◌&&◌, ◌⊎◌, List, [], map, ℕ, ◌≤◌, ◌<◌, eqb, length, get_or, set}
+use Rattle.std.specs.Prelude.{◌≡◌, refl, Bool, true, false, cond, not, ◌&&◌, ◌⊎◌, List, [], map, ℕ, ◌≤◌, ◌<◌, eqb}
+use Rattle.std.specs.Prelude.{length, get_or, set}
 use Rattle.std.proofs.Common.{sym, ap, ◌∙◌, inl, inr, arith, eqb-true, ne_eqb}
 use Rattle.std.proofs.Math.Seq.{map-set_same}
 use Rattle.std.proofs.lemmas.Bool.{eqb-false, not-true, not-false}
@@ -13,12 +14,12 @@ use Rattle.spec_machine.specs.Calls.{number_of, round_refusal, round_answer}
 use Rattle.words_layout.specs.Layout.{state_of}
 use Rattle.words_known.specs.Known.{SeatWords}
 use Rattle.spec_channel.specs.Turns.{picked}
-use Rattle.spec_channel.specs.TurnLaws.{picked_same}
+use Rattle.spec_channel.proofs.TurnLaws.{picked_same}
 use Rattle.spec_channel.specs.Office.{Office, seat, waits, waiting, spoilt, tick_refusal, tick, served, given}
 use Rattle.spec_channel.specs.Office.{Loading, own_refusal, survey_of, seat_refusal, load_seat}
-use Rattle.spec_channel.specs.OfficeLaws.{waiting-parts, tick-made, load_refused, load_made, seat-missing, seat-there}
-use Rattle.spec_channel.specs.TickLaws.{tick-stays, tick-high, tick-spoilt, tick-over, tick_unkept, tick-given}
-use Rattle.spec_channel.specs.TickLaws.{served-waits}
+use Rattle.spec_channel.proofs.OfficeLaws.{waiting-parts, tick-made, load_refused, load_made, seat-missing, seat-there}
+use Rattle.spec_channel.proofs.TickLaws.{tick-stays, tick-high, tick-spoilt, tick-over, tick_unkept, tick-given}
+use Rattle.spec_channel.proofs.TickLaws.{served-waits}
 use Rattle.words_seats.specs.Lent.{office_of}
 use Rattle.words_seats.specs.LentLaws.{seat-words, words-set}
 use Rattle.words_seats.specs.SeatsLeft.{TickedWords, LoadedSeat}
@@ -26,7 +27,8 @@ use Rattle.words_seats.specs.SameSeats.{ticked-words, loaded-seat}
 
 -- ---- a round of a survey, by whether it is kept
 
-round_unkept : (s : State) → well_formed s ≡ false → (number_of (round_answer s).reply ≡ 10) × ((round_answer s).state ≡ s)
+round_unkept : (s : State) → well_formed s ≡ false → (number_of (round_answer s).reply ≡ 10)
+    × ((round_answer s).state ≡ s)
 unfolding round_answer round_refusal
 round_unkept s w = rw w (refl, refl)
 
@@ -142,7 +144,8 @@ module _ (last : ℕ) (words : List (List ℕ)) where
         pub told-refused : (number ≡ 0 → ⊥) → Told number last (set words r new)
         told-refused h = go (either (well_formed (state_of (get_or words r []))))
           where
-            go : (well_formed (state_of (get_or words r [])) ≡ true) ⊎ (well_formed (state_of (get_or words r [])) ≡ false) →
+            go : (well_formed (state_of (get_or words r [])) ≡ true)
+                ⊎ (well_formed (state_of (get_or words r [])) ≡ false) →
                 Told number last (set words r new)
             go (inl w) = absurd (h (said ∙ (round-made (state_of (get_or words r [])) w going).0))
             go (inr w) =
@@ -153,7 +156,8 @@ module _ (last : ℕ) (words : List (List ℕ)) where
         pub told-given : number ≡ 0 → Told 0 r (set words r new)
         told-given z = go (either (well_formed (state_of (get_or words r []))))
           where
-            go : (well_formed (state_of (get_or words r [])) ≡ true) ⊎ (well_formed (state_of (get_or words r [])) ≡ false) →
+            go : (well_formed (state_of (get_or words r [])) ≡ true)
+                ⊎ (well_formed (state_of (get_or words r [])) ≡ false) →
                 Told 0 r (set words r new)
             go (inr w) = let q : ◌≡◌ {A = ℕ} 10 0 =
                 sym (round_unkept (state_of (get_or words r [])) w).0 ∙ (sym said ∙ z) in absurd (omega arith)

@@ -2,6 +2,8 @@
 // the words of a survey, empty while its unit count and its stage are 0, so that cleared memory is eight empty seats. A
 // number that comes back is that of a refusal, 0 where there was none; on a refusal nothing lent is altered.
 
+#![tactic(auto)]
+
 ghost use Rattle.std.specs.Prelude.{◌≡◌, ℕ};
 ghost use Rattle.spec_channel.specs.Office.{tick_refusal, tick, fresh, stored, planned, seat_refusal, load_seat};
 ghost use Rattle.words_seats.specs.Lent.{office_of};
@@ -21,7 +23,7 @@ const AT_END: u32 = table_refusals::AT_END as u32;
 const NO_SUCH_SEAT: u32 = table_refusals::NO_SUCH_SEAT as u32;
 
 // What a tick replies: its number, and the seat last served after it.
-#[derive(Drop)]
+#[derive(Clone, Copy)]
 pub struct Served {
     pub number: u32,
     pub last: u16,

@@ -1,0 +1,7 @@
+-- Past the end there is no place to store to, and the list stays.
+use mathlib.Core.Path.{sym}
+use lib.Seq.{set_out}
+use Rattle.base_slices.proofs.put.Goals as goal
+
+pub returns-else-i-t : goal.returns-else-i-t
+returns-else-i-t c = sym (set_out _ _ _ c.if-i-t.false)

@@ -1,0 +1,14 @@
+-- Each arm is the kind's row of the table.
+use Rattle.file_frames.proofs.kinds.frame_bytes.Goals as goal
+
+pub returns-in-1 : goal.returns-in-1
+returns-in-1 c = rw c.in-1.is
+
+pub returns-in-2 : goal.returns-in-2
+returns-in-2 c = rw c.in-2.is
+
+pub returns-in-3 : goal.returns-in-3
+returns-in-3 c = rw c.in-3.is
+
+pub returns-in-15 : goal.returns-in-15
+returns-in-15 c = rw c.in-15.is

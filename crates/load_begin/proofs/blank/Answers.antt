@@ -1,0 +1,8 @@
+-- The list that the definition gives.
+use mathlib.Core.Path.{refl}
+use Rattle.spec_machine.specs.Load.{absents}
+use Rattle.load_begin.proofs.blank.Goals as goal
+
+pub returns : goal.returns
+unfolding absents
+returns c = refl

@@ -1,0 +1,10 @@
+-- Entry by entry.
+use Rattle.std.proofs.Common.{◌≡◌, ◌-◌, ◌≤◌}
+use Rattle.report_lines.specs.Pairs.{pairs_to}
+use Rattle.report_lines.proofs.pairs.table.Given as goal
+
+abbrev pub invariant-loop-b : goal.invariant-loop-b
+invariant-loop-b l = (l.b ≤ 256) × (l.pairs ≡ pairs_to l.b)
+
+abbrev pub decreases-loop-b : goal.decreases-loop-b
+decreases-loop-b l = 256 - l.b

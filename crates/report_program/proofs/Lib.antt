@@ -1,0 +1,3 @@
+pub mod CaseB
+pub mod LaidLaws
+pub mod ProgramProof

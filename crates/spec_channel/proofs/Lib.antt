@@ -1,0 +1,9 @@
+pub mod Channel
+pub mod ChannelProof
+pub mod Fairness
+pub mod LoadingLaws
+pub mod OfficeLaws
+pub mod TickCauses
+pub mod TickLaws
+pub mod TurnLaws
+pub mod Vacant

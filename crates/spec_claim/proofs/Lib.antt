@@ -1,0 +1,3 @@
+pub mod ClaimProof
+pub mod InsideProof
+pub mod PlayLaws

@@ -1,0 +1,7 @@
+-- The tests joined.
+use Rattle.spec_machine.specs.InStage.{in_stage}
+use Rattle.stage_clock.proofs.tick.within.Goals as goal
+
+pub returns : goal.returns
+unfolding in_stage
+returns c = cc

@@ -1,0 +1,14 @@
+-- What the ends passed say, or the test from `i` on, is the test of the whole table.
+use mathlib.Core.Path.{◌≡◌}
+use mathlib.Core.Bool.{◌||◌}
+use Prim.Native.Nat.{◌≤◌, ◌-◌}
+use lib.ListN.{length, drop}
+use Rattle.table.specs.Table.{end_missing}
+use Rattle.table.proofs.end_missing.Given as goal
+
+abbrev pub invariant-loop-i : goal.invariant-loop-i
+invariant-loop-i l =
+    (l.i ≤ length l.table) × (end_missing l.units l.table ≡ (l.missing || end_missing l.units (drop l.i l.table)))
+
+abbrev pub decreases-loop-i : goal.decreases-loop-i
+decreases-loop-i l = length l.table - l.i

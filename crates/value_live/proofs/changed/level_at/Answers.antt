@@ -1,0 +1,8 @@
+-- Past the end the value is 0.
+use mathlib.Core.Path.{sym}
+use lib.ListN.{get_or-eq_default}
+use lib.IntN.{pos}
+use Rattle.value_live.proofs.changed.level_at.Goals as goal
+
+pub returns-else-i-levels : goal.returns-else-i-levels
+returns-else-i-levels c = sym (get_or-eq_default c.args.levels.now (pos 0) c.if-i-levels.false)

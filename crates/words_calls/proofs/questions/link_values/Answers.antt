@@ -1,0 +1,13 @@
+-- From the tables taken out.
+use mathlib.Core.Path.{refl}
+use Rattle.words_calls.proofs.questions.link_values.Goals as goal
+
+pub returns : goal.returns
+returns c =
+    rw (
+      c.word_of-lone.ensures,
+      c.lone.ensures,
+      c.word-label.ensures,
+      c.labels_at-labels.ensures,
+      c.table_at-table.ensures,
+    ) refl

@@ -1,0 +1,12 @@
+-- Table by table.
+use mathlib.Core.Path.{refl}
+use Rattle.words_layout.specs.Layout.{state_of}
+use borrow.Author.Rules.{rules}
+use Rattle.words_layout.proofs.take.components_at.Goals as goal
+
+pub units_at-color-requires : goal.units_at-color-requires
+units_at-color-requires c = tt
+
+pub returns : goal.returns
+unfolding state_of
+returns c = rw (c.units_at-color.ensures.0 (search rules)) refl

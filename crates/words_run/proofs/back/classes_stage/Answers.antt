@@ -1,0 +1,19 @@
+-- The tables taken out, the rounds of the stage on them, and the tables laid down again.
+use mathlib.Core.Path.{refl}
+use Rattle.spec_machine.specs.StageSteps.{moved}
+use Rattle.words_layout.specs.Layout.{state_of}
+use Rattle.stage09_classes.specs.Rounds as Rounds
+use Rattle.words_run.proofs.back.classes_stage.Goals as goal
+
+pub returns : goal.returns
+returns c =
+    let s = state_of c.args.words.now in
+    moved (Rounds.stage s) c.args.budget (record { color = s.aux.color; clock = s.clock; made = 0 }) _ s _
+    c.requires refl refl
+    (rw (
+      c.clock_at.ensures,
+      c.aux_at.ensures,
+      c.tree_at-tree.ensures,
+      c.table_at-table.ensures,
+    ) at c.run-r.ensures)
+    (rw (c.lay_aux.ensures, c.lay_clock.ensures, c.aux_at.ensures) refl)
