@@ -5,7 +5,7 @@ use Rattle.std.proofs.Math.Decide.{ℕ_discrete}
 use Rattle.base_lists.specs.Tests.{either}
 use Rattle.file_frames.specs.Kinds.{UNITS, END, link_kind}
 use Rattle.file_spec.specs.File.{Line, kind_of, in_order_after, in_order}
-use Rattle.file_spec.specs.LineSteps.{after-link}
+use Rattle.file_spec.proofs.LineSteps.{after-link}
 
 -- how far it has come: at the start, past the unit count, past the number of links, or broken
 abbrev pub START : ℕ

@@ -23,8 +23,8 @@ use Rattle.file_spec.specs.File.{Line, lines_of, kind_of, number_at, faulty_line
 use Rattle.file_spec.specs.File.{stated_count, ends_in, level_of, levels_in}
 use Rattle.file_spec.specs.LineLaws.{none-lines, no_lines, front_says, front-lines, front-kind, front_byte-at}
 use Rattle.file_spec.specs.LineLaws.{front-word, faulty-here, faulty-later, sound-front, front_line, past_line}
-use Rattle.file_spec.specs.LineSteps.{frames_more, frames_link, ends-link, ends-other, levels-link, levels-other}
-use Rattle.file_spec.specs.LineSteps.{no_order_lem, length-ends, length-levels}
+use Rattle.file_spec.proofs.LineSteps.{frames_more, frames_link, ends-link, ends-other, levels-link, levels-other}
+use Rattle.file_spec.proofs.LineSteps.{no_order_lem, length-ends, length-levels}
 use Rattle.file_read.specs.FrameOrder.{START, LINKS, ENDED, next_order, order_from, neither, order-next}
 
 -- ---- the count that is stated last

@@ -3,7 +3,7 @@
 ghost use Rattle.std.specs.Prelude.{◌≡◌, ◌+◌, ◌*◌, not};
 ghost use Rattle.table_levels.specs.Level.{in_range, byte_level};
 ghost use Rattle.file_frames.specs.Kinds.{frame_bytes};
-ghost use Rattle.file_spec.specs.ReadLaws.{later_refusal};
+ghost use Rattle.file_spec.specs.File.{later_refusal};
 ghost use Rattle.file_read.specs.FrameOrder.{next_order};
 
 use file_frames::kinds;

@@ -13,12 +13,12 @@ use Rattle.file_spec.specs.File.{read_reply, read_words, read_levels, write_refu
 use Rattle.file_spec.specs.RoundTrip.{copy_refusal, copy_reply, copied_words, copied_levels, rewrite_refusal}
 use Rattle.file_spec.specs.RoundTrip.{rewrite_reply}
 use Rattle.file_spec.specs.RoundTrip.{rewritten_file}
-use Rattle.file_spec.specs.LineSteps.{length-ends}
-use Rattle.file_spec.specs.ReadLaws.{unread-told, read_told}
+use Rattle.file_spec.proofs.LineSteps.{length-ends}
+use Rattle.file_spec.proofs.ReadLaws.{unread-told, read_told}
 use Rattle.file_write.specs.WriteLaws.{write_table, write_14, write_0, length-file, written-table, written-stored}
 use Rattle.file_write.specs.WriteLaws.{written_one, written-fits}
-use Rattle.file_spec.specs.WrittenLaws.{ReadBack, written_read}
-use Rattle.file_spec.specs.RewrittenLaws.{read-written}
+use Rattle.file_spec.proofs.WrittenLaws.{ReadBack, written_read}
+use Rattle.file_spec.proofs.RewrittenLaws.{read-written}
 use Rattle.file_spec.specs.declared.Reading.{Reading}
 use Rattle.file_spec.specs.declared.Reading.TheVariants.{Read}
 use Rattle.file_spec.specs.declared.Writing.{Writing}

@@ -163,6 +163,11 @@ read_refusal ls places spaces =
     ∷ (14, ltb places (2 * link_frames ls) || ltb spaces (link_frames ls))
     ∷ [])
 
+-- of a file in order, by its number of links and whether a level is out of range: 6, 16, 14
+unfoldable pub later_refusal : ℕ → Bool → ℕ → ℕ → ℕ
+later_refusal links outside places spaces =
+    first_of ((6, ltb max_links links) ∷ (16, outside) ∷ (14, ltb places (2 * links) || ltb spaces links) ∷ [])
+
 -- the reply, and the slices after the call
 unfoldable pub read_reply : List ℕ → ℕ → ℕ → Reading
 read_reply s places spaces = reading_of (read_refusal (lines_of s) places spaces) (units_in (lines_of s))

@@ -1,10 +1,6 @@
 pub mod File
 pub mod LineLaws
-pub mod LineSteps
-pub mod ReadLaws
-pub mod WrittenLaws
 pub mod LinesRight
-pub mod RewrittenLaws
 pub mod FileCauses
 pub mod RoundTrip
 pub mod Replies

@@ -12,8 +12,8 @@ use Rattle.base_lists.specs.Lent.{lent, back, back-next}
 use Rattle.table.specs.Refusals.{first_of}
 use Rattle.table.specs.RefusalLaws.{first_some, first-none}
 use Rattle.table.specs.Table.{link_count, max_links, end_a, end_b, fresh_tests, stored_refusal, fresh_refusal}
-use Rattle.table.specs.Passes.{table-levelled}
-use Rattle.table.specs.FreshLaws.{fresh-accepted}
+use Rattle.table.proofs.Passes.{table-levelled}
+use Rattle.table.proofs.FreshReplies.{fresh-accepted}
 use Rattle.table.specs.TableLaws.{end_a-later, end_b-later}
 use Rattle.file_frames.specs.Frame.{line_of, line_over}
 use Rattle.file_frames.specs.FrameLaws.{length-line}

@@ -5,7 +5,7 @@ use Rattle.std.proofs.Common.{◌∙◌, inl, inr, arith, eqb-true, eq-eqb, ne_e
 use mathlib.Core.List.{List, [], ◌∷◌, ◌++◌}
 use Rattle.std.proofs.Math.ListN.{drop}
 use Rattle.base_lists.specs.Tests.{either}
-use Rattle.table.specs.Passes.{passes}
+use Rattle.table.proofs.Passes.{passes}
 use Rattle.table.specs.RefusalLaws.{first-cause, some-cause}
 use Rattle.file_frames.specs.Frame.{word_bytes, line_of}
 use Rattle.file_frames.specs.FrameLaws.{Bytes, length-line}

@@ -13,7 +13,7 @@ use Rattle.base_lists.specs.Agreement.{agree_at}
 use Rattle.table.specs.Table.{end_a, end_b}
 use Rattle.spec_rules.specs.Basics.{at, heard}
 use Rattle.spec_rules.specs.Components.{least_heard}
-use Rattle.spec_rules.specs.ParentChoice.{Joins}
+use Rattle.spec_rules.proofs.ParentChoice.{Joins}
 
 -- a round in which each unit says its value
 abbrev pub spread : ℕ → ℕ → List ℕ → List ℕ → List ℕ

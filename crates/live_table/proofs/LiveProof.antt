@@ -6,12 +6,13 @@ use Rattle.std.proofs.Math.Dec.{leb}
 use borrow.Author.Tests.{eqb-true, eq-eqb, ne_eqb, ltb-true, not-false}
 use Rattle.base_lists.specs.Tests.{either}
 use Rattle.table_levels.specs.Level.{HIGHEST}
-use Rattle.table.specs.Passes.{table-levelled}
+use Rattle.table.proofs.Passes.{table-levelled}
 use Rattle.table.specs.Refusals.{first_of}
 use Rattle.table.specs.RefusalLaws.{Reason, FirstCause, SomeCause, Numbered, tests, first-cause, some-cause}
 use Rattle.table.specs.RefusalLaws.{passed-test}
 use Rattle.table.specs.Table.{max_units, end_a, end_b, same_ends, joined_in}
-use Rattle.table.specs.TableCauses.{same_ends-exact, stored-first-cause, stored-some_cause}
+use Rattle.table.specs.TableCauses.{same_ends-exact}
+use Rattle.table.proofs.TableReplies.{stored-first-cause, stored-some_cause}
 use Rattle.spec_machine.specs.Load.{Input, links_in}
 use Rattle.spec_machine.specs.Calls.{load_answer, stored_load_answer, planned_load_answer}
 use Rattle.live_table.specs.Counts.{links_at}

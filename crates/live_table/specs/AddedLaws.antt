@@ -11,7 +11,7 @@ use Rattle.base_lists.specs.Folds.{every}
 use Rattle.base_lists.specs.All.{every_append}
 use Rattle.base_lists.specs.Tests.{same_test, or_swap}
 use Rattle.table_levels.specs.Level.{in_range}
-use Rattle.table.specs.Passes.{Passes, passes, table-alone, table-levelled}
+use Rattle.table.proofs.Passes.{Passes, passes, table-alone, table-levelled}
 use Rattle.table.specs.Table.{max_links, link_count, odd_words, too_many_links, levels_differ, level_outside}
 use Rattle.table.specs.Table.{end_missing}
 use Rattle.table.specs.Table.{equal_ends, same_ends, joined_in, repeated_by, repeated_link, stored_refusal}

@@ -2,7 +2,7 @@
 use Rattle.std.specs.Prelude.{◌≡◌, ℕ, ◌*◌, take, ℤ}
 use Rattle.std.proofs.Math.Path.{refl, ap}
 use Rattle.std.proofs.Common.{◌∙◌, arith, take_at}
-use Rattle.table.specs.Passes.{passes, table-alone, table-levelled}
+use Rattle.table.proofs.Passes.{passes, table-alone, table-levelled}
 use Rattle.table.specs.Refusals.{first_of}
 use Rattle.table.specs.RefusalLaws.{first-none}
 use Rattle.spec_machine.specs.Load.{Input, links_in, ends_of, levels_of}

@@ -6,7 +6,8 @@ use Rattle.table.specs.RefusalLaws.{SomeCause, passed-test}
 use Rattle.table.specs.Table.{bad_unit_count, odd_words, too_many_links, levels_differ, level_outside, end_missing}
 use Rattle.table.specs.Table.{equal_ends}
 use Rattle.table.specs.Table.{repeated_link, stored_refusal}
-use Rattle.table.specs.TableCauses.{stored_reasons, stored-some_cause}
+use Rattle.table.specs.TableCauses.{stored_reasons}
+use Rattle.table.proofs.TableReplies.{stored-some_cause}
 
 pub record Passed (n : ℕ) (t : List ℕ) (ls : List ℤ) : Type 0 where
   pub four : bad_unit_count n ≡ false

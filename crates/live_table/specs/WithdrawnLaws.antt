@@ -5,7 +5,7 @@ use Rattle.std.proofs.Math.Decide.{dec_lt}
 use Rattle.base_lists.specs.All.{every-at}
 use Rattle.table_levels.specs.Level.{HIGHEST, in_range}
 use Rattle.table_levels.specs.LevelLaws.{range-exact}
-use Rattle.table.specs.Passes.{Passes, passes, table-alone, table-levelled, table-range}
+use Rattle.table.proofs.Passes.{Passes, passes, table-alone, table-levelled, table-range}
 use Rattle.table.specs.RefusalLaws.{SomeCause}
 use Rattle.table.specs.Table.{link_count, stored_refusal}
 use Rattle.table.specs.TableCauses.{stored_reasons}

@@ -8,7 +8,7 @@ use Rattle.spec_machine.specs.Step.{countdown}
 use Rattle.spec_machine.specs.Run.{ran}
 use Rattle.spec_machine.specs.RunLaws.{total, ran-made}
 use Rattle.spec_machine.specs.Report.{report}
-use Rattle.spec_machine.specs.Cases.{site_b, report_b, accepted-B, report-B}
+use Rattle.spec_machine.proofs.Cases.{site_b, report_b, accepted-B, report-B}
 use Rattle.report_program.specs.Printed.{MAX-INPUT, WORDS, LEVELS, surveyed, table_in, printed_table, printed_read}
 use Rattle.report_program.specs.Printed.{printed}
 use Rattle.report_program.specs.PrintedLaws.{surveyed-end}

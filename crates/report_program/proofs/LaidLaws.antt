@@ -18,8 +18,8 @@ use Rattle.file_frames.specs.FrameLaws.{length-line}
 use Rattle.file_spec.specs.File.{lines_of, read_refusal, read_reply, read_words, units_in, link_frames, ends_in}
 use Rattle.file_spec.specs.File.{levels_in}
 use Rattle.file_spec.specs.File.{read_levels}
-use Rattle.file_spec.specs.LineSteps.{length-ends, length-levels}
-use Rattle.file_spec.specs.ReadLaws.{accepted-sound, unread-told, read_told}
+use Rattle.file_spec.proofs.LineSteps.{length-ends, length-levels}
+use Rattle.file_spec.proofs.ReadLaws.{accepted-sound, unread-told, read_told}
 use Rattle.file_spec.specs.declared.Reading.{Reading}
 use Rattle.file_spec.specs.declared.Reading.TheVariants.{Read}
 use Rattle.spec_state.specs.declared.groups.Table.{Table}

@@ -14,16 +14,17 @@ use Rattle.base_lists.specs.Gathered.{gathered}
 use Rattle.base_lists.specs.Members.{Mem}
 use Rattle.table.specs.Refusals.{first_of}
 use Rattle.table.specs.RefusalLaws.{Reason, FirstCause, Numbered, tests, first-cause, first_some, first-none}
-use Rattle.table.specs.TableCauses.{stored_reasons, level_outside-exact, stored-first-cause}
+use Rattle.table.specs.TableCauses.{stored_reasons, level_outside-exact}
+use Rattle.table.proofs.TableReplies.{stored-first-cause}
 use Rattle.table.specs.Table.{max_links, stored_refusal}
 use Rattle.file_frames.specs.Frame.{hexes_of, byte_at, line_of}
 use Rattle.file_frames.specs.Bodies.{refusal_body, label_body, tail_body}
 use Rattle.file_frames.specs.FrameLaws.{digit_back, length-line}
 use Rattle.file_spec.specs.File.{lines_of, link_frames, ends_in, levels_in, read_refusal}
 use Rattle.file_spec.specs.FileCauses.{read_reasons, read_refusal-tests}
-use Rattle.file_spec.specs.LineSteps.{length-ends, length-levels}
-use Rattle.file_spec.specs.ReadLaws.{Sound, accepted-sound}
-use Rattle.file_spec.specs.RewrittenLaws.{read-written, same-file}
+use Rattle.file_spec.proofs.LineSteps.{length-ends, length-levels}
+use Rattle.file_spec.proofs.ReadLaws.{Sound, accepted-sound}
+use Rattle.file_spec.proofs.RewrittenLaws.{read-written, same-file}
 use Rattle.spec_state.specs.declared.groups.Table.{Table}
 use Rattle.spec_machine.specs.State.{State, units, links}
 use Rattle.spec_machine.specs.Load.{Input, links_in, stored_load_refusal, loaded}

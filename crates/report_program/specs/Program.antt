@@ -9,7 +9,7 @@ use Rattle.file_frames.specs.Frame.{line_of}
 use Rattle.file_frames.specs.Bodies.{head_body, unit_body, label_body, tail_body}
 use Rattle.file_spec.specs.File.{lines_of, file_of}
 use Rattle.file_spec.specs.RoundTrip.{file_back}
-use Rattle.file_spec.specs.RewrittenLaws.{bare_in}
+use Rattle.file_spec.proofs.RewrittenLaws.{bare_in}
 use Rattle.file_spec.specs.FileCauses.{read_reasons, below-exact}
 use Rattle.spec_machine.specs.State.{State}
 use Rattle.spec_machine.specs.Load.{Input, links_in, stored_load_refusal, loaded}

@@ -3,7 +3,7 @@ use Rattle.std.specs.Prelude.{◌≡◌, not, List, ℕ, ◌≤◌, ltb, length}
 use Rattle.std.proofs.Common.{◌∙◌, arith}
 use borrow.Author.Tests.{ltb-false, not-false}
 use Rattle.table.specs.RefusalLaws.{passed-test}
-use Rattle.table.specs.Passes.{passes}
+use Rattle.table.proofs.Passes.{passes}
 use Rattle.spec_machine.specs.State.{State}
 use Rattle.spec_machine.specs.State.{units, links, words, finished}
 use Rattle.spec_machine.specs.Kept.{Kept, kept-exact}

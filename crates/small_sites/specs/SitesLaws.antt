@@ -15,7 +15,7 @@ use Rattle.base_lists.specs.Tests.{either}
 use Rattle.base_lists.specs.Gathered.{gathered, length-gathered, gathered-at}
 use Rattle.base_lists.specs.Lent.{lent, back}
 use Rattle.table.specs.Table.{link_count}
-use Rattle.table.specs.Passes.{passes, table-alone}
+use Rattle.table.proofs.Passes.{passes, table-alone}
 use Rattle.file_frames.specs.Frame.{line_of, line_over, line_length}
 use Rattle.file_frames.specs.FrameLaws.{length-line}
 use Rattle.file_frames.specs.FrameRests.{line-next}

@@ -10,7 +10,8 @@ use Rattle.table.specs.Refusals.{first_of}
 use Rattle.table.specs.RefusalLaws.{Reason, FirstCause, SomeCause, Numbered, tests, first-cause, some-cause}
 use Rattle.table.specs.Table.{stored_refusal}
 use Rattle.table.specs.TableCauses.{stored_reasons}
-use Rattle.table.specs.FreshLaws.{unit_reasons, fresh_reasons, fresh_refusal-tests}
+use Rattle.table.specs.FreshLaws.{unit_reasons, fresh_reasons}
+use Rattle.table.proofs.FreshReplies.{fresh_refusal-tests}
 use Rattle.file_spec.specs.File.{lines_of, read_refusal, write_refusal}
 use Rattle.file_spec.specs.FileCauses.{read_reasons, write_reasons, read_refusal-tests, write_refusal-tests}
 use Rattle.spec_rules.specs.BoundLaws.{eq_exact}

@@ -2,7 +2,7 @@
 use Rattle.std.specs.Prelude.{◌≡◌, Bool, true, ◌&&◌, ◌||◌, ℕ, ◌+◌, ◌≤◌, ◌<◌, eqb, leb, ltb}
 use Rattle.std.proofs.Common.{arith, eqb-true, leb-true, ltb-true, eq-eqb, le-leb}
 use Rattle.base_lists.specs.Tests.{and_left, and_right, and-true}
-use Rattle.table.specs.Passes.{passes}
+use Rattle.table.proofs.Passes.{passes}
 use Rattle.spec_rules.specs.Ceilings.{ceiling}
 use Rattle.spec_rules.specs.CeilingLaws.{ceiling-small}
 use Rattle.spec_state.specs.declared.groups.Clock.{Clock}

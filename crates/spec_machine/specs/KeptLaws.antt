@@ -5,7 +5,7 @@ use Rattle.std.proofs.Math.Bool.{and-true}
 use Rattle.base_lists.specs.All.{every-exact, every_append}
 use Rattle.base_lists.specs.Folds.{every}
 use Rattle.table_levels.specs.Level.{in_range}
-use Rattle.table.specs.Passes.{passes}
+use Rattle.table.proofs.Passes.{passes}
 use Rattle.spec_rules.specs.Fits.{links_fit, within-fit}
 use Rattle.spec_rules.specs.Bounds.{name_ok, number_ok, dist_ok}
 use Rattle.spec_rules.specs.BoundLaws.{Names, name-exact}

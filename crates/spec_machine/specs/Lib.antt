@@ -22,4 +22,3 @@ pub mod Calls
 pub mod AnswerLaws
 pub mod RunAnswers
 pub mod CallCauses
-pub mod Cases

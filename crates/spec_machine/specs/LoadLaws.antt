@@ -7,8 +7,8 @@ use Rattle.std.proofs.lemmas.List.{length-replicate}
 use Rattle.base_lists.specs.Puts.{put_one}
 use Rattle.base_lists.specs.Tests.{refuted}
 use Rattle.table.specs.Table.{stored_refusal}
-use Rattle.table.specs.Passes.{passes, table-alone, table-levelled}
-use Rattle.table.specs.FreshLaws.{fresh-accepted}
+use Rattle.table.proofs.Passes.{passes, table-alone, table-levelled}
+use Rattle.table.proofs.FreshReplies.{fresh-accepted}
 use Rattle.spec_machine.specs.State.{units, words}
 use Rattle.spec_machine.specs.Load.{Input, load_refusal, stored_load_refusal, absents, silences, begun, unloaded}
 use Rattle.spec_machine.specs.Kept.{kept-exact}

@@ -12,7 +12,7 @@ use Rattle.base_lists.specs.Tests.{either, not_both, refuted}
 use Rattle.table.specs.Refusals.{first_of}
 use Rattle.table.specs.RefusalLaws.{first_some, first-none, passed-test}
 use Rattle.table.specs.Table.{end_a, end_b, stored_tests, unit_tests, stored_refusal, fresh_refusal, refusal_as}
-use Rattle.table.specs.Passes.{Passes, passes, table-alone}
+use Rattle.table.proofs.Passes.{Passes, passes, table-alone}
 use Rattle.spec_rules.specs.Basics.{ABSENT, at}
 use Rattle.spec_rules.specs.BoundLaws.{Names}
 use Rattle.spec_rules.specs.Planned.{parent_link, plan_unfit}

@@ -10,7 +10,7 @@ use borrow.Author.Tests.{eqb-true, eqb-false, ne_eqb, leb-false}
 use Rattle.base_lists.specs.All.{All}
 use Rattle.base_lists.specs.Tests.{either, or_false-right}
 use Rattle.table.specs.Table.{stored_refusal}
-use Rattle.table.specs.Passes.{Passes, passes}
+use Rattle.table.proofs.Passes.{Passes, passes}
 use Rattle.spec_rules.specs.Basics.{ABSENT, MAX-NUMBER}
 use Rattle.spec_rules.specs.BoundLaws.{Names, Number, Distance}
 use Rattle.base_lists.specs.FoldLaws.{min_picks, max_picks}

@@ -9,7 +9,7 @@ use Rattle.base_lists.specs.Tests.{either}
 use Rattle.table_levels.specs.Level.{HIGHEST, in_range}
 use Rattle.table_levels.specs.LevelLaws.{InRange, range-exact, zero_range}
 use Rattle.table.specs.Table.{link_count, bare_refusal}
-use Rattle.table.specs.Passes.{Passes, passes, table-alone, table-range}
+use Rattle.table.proofs.Passes.{Passes, passes, table-alone, table-range}
 use Rattle.spec_rules.specs.Basics.{ABSENT}
 use Rattle.spec_rules.specs.BoundLaws.{Names, Number, Distance}
 use Rattle.spec_rules.specs.Ceilings

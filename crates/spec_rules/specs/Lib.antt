@@ -5,9 +5,6 @@ pub mod Ceilings
 pub mod CeilingLaws
 pub mod Components
 pub mod Tree
-pub mod ParentChoice
-pub mod BestParent
-pub mod EqualLevels
 pub mod ParentExamples
 pub mod Planned
 pub mod PlannedLaws

@@ -15,8 +15,8 @@ use Rattle.spec_rules.specs.Basics.{ABSENT, at}
 use Rattle.spec_rules.specs.Tree.{visited_before, Neighbor, best_neighbor, chosen_parent, visits, parent_round}
 use Rattle.spec_rules.specs.Tree.{dist_round}
 use Rattle.spec_rules.specs.Tree.{tree_ends}
-use Rattle.spec_rules.specs.ParentChoice.{Joins, Found, by, lacking, found, best_cong, Choice, nearer, nobody, chosen}
-use Rattle.spec_rules.specs.ParentChoice.{visits-later}
+use Rattle.spec_rules.proofs.ParentChoice.{Joins, Found, by, lacking, found, best_cong, Choice, nearer, nobody, chosen}
+use Rattle.spec_rules.proofs.ParentChoice.{visits-later}
 use Rattle.stage02_leap.specs.Goal.{Goal, one_nearer, nearest, shown, unvisited, parent_left}
 
 -- the best neighbour one nearer is one

@@ -4,7 +4,7 @@ use Rattle.std.proofs.Math.Path.{refl}
 use Rattle.std.specs.Int.Signed.{lt_z, le_z}
 use Rattle.base_lists.specs.Tests.{refuted}
 use Rattle.spec_rules.specs.Tree.{better}
-use Rattle.spec_rules.specs.ParentChoice.{le_z_refl, le_z_antisym, lt_z_apart, lt_z_not}
+use Rattle.spec_rules.proofs.ParentChoice.{le_z_refl, le_z_antisym, lt_z_apart, lt_z_not}
 
 module _ (z : ℤ) (w : ℕ) (y : ℤ) (u : ℕ) where
   pub better-above : lt_z y z ≡ true → better z w y u ≡ true

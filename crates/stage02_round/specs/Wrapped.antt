@@ -9,7 +9,7 @@ use Rattle.base_lists.specs.Tables.{over_cong}
 use Rattle.table.specs.Table.{end_a, end_b}
 use Rattle.spec_rules.specs.Fits.{EndsWithin}
 use Rattle.spec_rules.specs.Tree.{visited_before, Neighbor, chosen_parent, visits, parent_round, dist_round, tree_ends}
-use Rattle.spec_rules.specs.ParentChoice.{best-ends}
+use Rattle.spec_rules.proofs.ParentChoice.{best-ends}
 
 unfoldable pub wrapped : List ℕ → List ℕ
 wrapped ends = map (λ (x : ℕ). x % 256) ends

@@ -6,7 +6,7 @@ use Rattle.base_lists.specs.All.{cond-keeps}
 use Rattle.base_lists.specs.Tests.{either}
 use Rattle.base_log2.specs.Lg.{lg}
 use Rattle.base_log2.specs.LgLaws.{lg-least}
-use Rattle.table.specs.Passes.{passes}
+use Rattle.table.proofs.Passes.{passes}
 use Rattle.spec_rules.specs.Fits.{links_fit}
 use Rattle.spec_rules.specs.Range.{global_first, range_first, little_first, big_first, range_later, little_later}
 use Rattle.spec_rules.specs.Range.{big_later}

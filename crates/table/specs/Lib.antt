@@ -3,7 +3,6 @@ pub mod RefusalLaws
 pub mod Table
 pub mod TableLaws
 pub mod TableCauses
-pub mod Passes
 pub mod BitLaws
 pub mod Marks
 pub mod MarkLaws

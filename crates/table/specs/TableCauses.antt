@@ -1,6 +1,5 @@
 -- The causes 4 to 9 in the words of document 01 and 15 and 16 in those of document 02, and that each test decides its
--- cause. So the reply of the table check is number k exactly when cause k holds and no earlier one does, and a table is
--- refused exactly when some cause holds.
+-- cause.
 use Rattle.std.specs.Prelude.{◌≡◌, refl, Bool, false, ◌⊎◌, ◌↔◌, leb, ltb, eqb, length, get_or, ℤ}
 use Rattle.std.proofs.Common.{sym, ap, true≢false, inl, inr, le_of_suc-le-suc, not-suc-le-zero, leb-true, le-leb}
 use Rattle.std.proofs.Common.{ltb-true, lt-ltb, eqb-true, eq-eqb, ne_eqb}
@@ -15,13 +14,12 @@ use Rattle.base_lists.specs.Tests.{either, or_cases, or_left, or_right, and_left
 use Rattle.base_lists.specs.Tests.{refuted}
 use Rattle.table_levels.specs.Level.{HIGHEST, in_range}
 use Rattle.table_levels.specs.LevelLaws.{InRange, range-exact}
-use Rattle.table.specs.Refusals.{first_of}
-use Rattle.table.specs.RefusalLaws.{Reason, FirstCause, SomeCause, first-cause, some-cause, tests}
+use Rattle.table.specs.RefusalLaws.{Reason}
 use Rattle.table.specs.TableLaws.{end_a-later, end_b-later}
 use Rattle.table.specs.Table.{max_units, max_links, link_count, end_a, end_b, bad_unit_count, odd_words, too_many_links}
 use Rattle.table.specs.Table.{levels_differ, level_outside, end_missing, equal_ends, same_ends, joined_in}
 use Rattle.table.specs.Table.{repeated_link}
-use Rattle.table.specs.Table.{bare_refusal, stored_refusal, same_pair, repeated_by, repeated_pair, pair_refusal}
+use Rattle.table.specs.Table.{same_pair, repeated_by, repeated_pair}
 
 -- ---- the causes
 
@@ -307,15 +305,6 @@ bare_reasons n t =
     count_reasons n t
     ++ end_reasons n t (record { number = 9; test = repeated_link t; cause = RepeatedLink t; exact = repeated_exact t })
 
-bare_refusal-tests : (n : ℕ) (t : List ℕ) → bare_refusal n t ≡ first_of (tests (bare_reasons n t))
-unfolding bare_refusal bare_reasons
-bare_refusal-tests n t = refl
-
--- a table alone is refused exactly when some cause of 4 to 9 holds
-pub bare-some_cause : (n : ℕ) (t : List ℕ) → (bare_refusal n t ≡ 0 → ⊥) ↔ SomeCause (bare_reasons n t)
-unfolding bare_reasons
-bare-some_cause n t = rw bare_refusal-tests (some-cause (bare_reasons n t) (omega arith))
-
 unfoldable pub stored_reasons : ℕ → List ℕ → List ℤ → List Reason
 stored_reasons n t ls =
     count_reasons n t
@@ -338,33 +327,3 @@ pair_reasons n t =
       cause = RepeatedPair t;
       exact = repeated_pair-exact t;
     })
-
-stored_refusal-tests : (n : ℕ) (t : List ℕ) (ls : List ℤ) → stored_refusal n t ls
-    ≡ first_of (tests (stored_reasons n t ls))
-unfolding stored_refusal stored_reasons
-stored_refusal-tests n t ls = refl
-
--- the reply is k exactly when cause k holds and no earlier one does
-pub stored-first-cause : (n : ℕ) (t : List ℕ) (ls : List ℤ) (k : ℕ) → (k ≡ 0 → ⊥) →
-    (stored_refusal n t ls ≡ k) ↔ FirstCause (stored_reasons n t ls) k
-stored-first-cause n t ls k h = rw stored_refusal-tests (first-cause (stored_reasons n t ls) k h)
-
--- a table is refused exactly when some cause holds
-pub stored-some_cause : (n : ℕ) (t : List ℕ) (ls : List ℤ) →
-    (stored_refusal n t ls ≡ 0 → ⊥) ↔ SomeCause (stored_reasons n t ls)
-unfolding stored_reasons
-stored-some_cause n t ls =
-    rw stored_refusal-tests (some-cause (stored_reasons n t ls) (omega arith))
-
-pair_refusal-tests : (n : ℕ) (t : List ℕ) → pair_refusal n t ≡ first_of (tests (pair_reasons n t))
-unfolding pair_refusal pair_reasons
-pair_refusal-tests n t = refl
-
--- the same of ordered pairs
-pub pair-first-cause : (n : ℕ) (t : List ℕ) (k : ℕ) → (k ≡ 0 → ⊥) →
-    (pair_refusal n t ≡ k) ↔ FirstCause (pair_reasons n t) k
-pair-first-cause n t k h = rw pair_refusal-tests (first-cause (pair_reasons n t) k h)
-
-pub pair-some_cause : (n : ℕ) (t : List ℕ) → (pair_refusal n t ≡ 0 → ⊥) ↔ SomeCause (pair_reasons n t)
-unfolding pair_reasons
-pair-some_cause n t = rw pair_refusal-tests (some-cause (pair_reasons n t) (omega arith))

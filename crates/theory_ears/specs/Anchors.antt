@@ -8,7 +8,7 @@ use Rattle.base_lists.specs.Tests.{either, not_both}
 use Rattle.theory_graph.specs.Rings.{Graph, last, Walk, last_of, Ring, Holds, Connected}
 use Rattle.theory_graph.specs.Walks.{holds-first, holds-second}
 use Rattle.theory_graph.specs.Routes.{Without, connected_trans, connected_sym, ring-around}
-use Rattle.theory_graph.specs.Together.{ends-apart, ring-link}
+use Rattle.theory_graph.proofs.Together.{ends-apart, ring-link}
 
 -- a walk that meets no u connects its start with each of its vertices
 reaches : (E : ℕ → ℕ → Type 0) (u a : ℕ) (l : List ℕ) → Walk E a l → (Mem u (a ∷ l) → ⊥) → (z : ℕ) → Mem z (a ∷ l) →

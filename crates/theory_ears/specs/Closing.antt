@@ -12,7 +12,7 @@ use Rattle.table.specs.Table.{end_a, end_b}
 use Rattle.spec_rules.specs.Basics.{at}
 use Rattle.theory_graph.specs.Rings.{Walk, last_of, Ring, Holds, SameLink}
 use Rattle.theory_graph.specs.Walks.{holds-first, holds-second, holds-flip, ring-closed}
-use Rattle.theory_graph.specs.Together.{ends-apart}
+use Rattle.theory_graph.proofs.Together.{ends-apart}
 use Rattle.theory_reach.specs.Site.{Site, link-below}
 use Rattle.theory_ears.specs.Present.{Present, Ringed, Shows, present-graph, missing}
 use Rattle.theory_ears.specs.Steps.{on_order}

@@ -6,7 +6,7 @@ use Rattle.std.proofs.Math.Decide.{dec_lt}
 use Rattle.base_lists.specs.Tests.{and_left, and_right}
 use Rattle.table.specs.Table.{end_a, end_b}
 use Rattle.spec_rules.specs.Basics.{ABSENT, at}
-use Rattle.theory_graph.specs.Together.{ends-apart}
+use Rattle.theory_graph.proofs.Together.{ends-apart}
 use Rattle.theory_reach.specs.Site.{Site}
 use Rattle.theory_ears.specs.Present.{Present, Ringed, Shows, present-graph, missing}
 use Rattle.theory_ears.specs.Steps.{on_order}

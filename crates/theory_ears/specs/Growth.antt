@@ -16,7 +16,7 @@ use Rattle.base_lists.specs.Tests.{either, cond_true, cond_false, and_left, and_
 use Rattle.table.specs.Table.{end_a, end_b}
 use Rattle.spec_rules.specs.Basics.{at}
 use Rattle.theory_graph.specs.Rings.{Ring, Holds}
-use Rattle.theory_graph.specs.Together.{ends-apart}
+use Rattle.theory_graph.proofs.Together.{ends-apart}
 use Rattle.theory_reach.specs.Site.{Site}
 use Rattle.theory_ears.specs.Upright.{ended-next}
 use Rattle.theory_ears.specs.Anchors.{Shut, ring-stays}

@@ -3,7 +3,7 @@
 use Rattle.std.specs.Prelude.{◌≡◌, List, ℕ, ◌+◌, ◌*◌, ◌<◌, length}
 use Rattle.std.proofs.Common.{sym, ◌∙◌, arith, get_or-take, length-take-le}
 use Rattle.table.specs.Table.{link_count, end_a, end_b}
-use Rattle.table.specs.Passes.{Passes, passes}
+use Rattle.table.proofs.Passes.{Passes, passes}
 use Rattle.spec_machine.specs.State.{State, units, links, words}
 use Rattle.spec_machine.specs.Kept.{Kept}
 use Rattle.theory_reach.specs.Site.{Site}

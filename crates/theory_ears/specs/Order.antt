@@ -22,7 +22,7 @@ use Rattle.table.specs.Table.{end_a, end_b}
 use Rattle.spec_rules.specs.Basics.{ABSENT, at}
 use Rattle.theory_graph.specs.Rings.{Graph, last, Walk, SameLink}
 use Rattle.theory_graph.specs.Walks.{last-append, walk_join, walk_back}
-use Rattle.theory_graph.specs.Together.{ends-apart}
+use Rattle.theory_graph.proofs.Together.{ends-apart}
 use Rattle.theory_ears.specs.Upright.{ended, chain, Falls, Chain, chain-is, ended-next, ended-members, Upright}
 use Rattle.theory_ears.specs.Ears.{Inserted, ear-upright}
 use Rattle.theory_reach.specs.Site.{Site}

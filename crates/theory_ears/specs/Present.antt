@@ -6,7 +6,7 @@ use Rattle.base_lists.specs.Tests.{not_both}
 use Rattle.table.specs.Table.{end_a, end_b}
 use Rattle.spec_rules.specs.Basics.{at}
 use Rattle.theory_graph.specs.Rings.{Graph, Ring, Holds, OnRing, SameLink}
-use Rattle.theory_graph.specs.Together.{on_ring_more, ring-link}
+use Rattle.theory_graph.proofs.Together.{on_ring_more, ring-link}
 use Rattle.theory_reach.specs.Site.{Site, site-graph}
 
 -- a link that counts joins u and v

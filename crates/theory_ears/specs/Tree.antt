@@ -12,7 +12,7 @@ use Rattle.base_lists.specs.Tests.{either, cond_true, cond_false, and_left, and_
 use Rattle.table.specs.Table.{end_a, end_b}
 use Rattle.spec_rules.specs.Basics.{ABSENT, at}
 use Rattle.theory_graph.specs.Rings.{SameLink}
-use Rattle.theory_graph.specs.Together.{ends-apart}
+use Rattle.theory_graph.proofs.Together.{ends-apart}
 use Rattle.theory_reach.specs.Site.{Site}
 use Rattle.theory_ears.specs.Present.{Present, present-graph}
 use Rattle.theory_ears.specs.Steps.{seen, leads_out}

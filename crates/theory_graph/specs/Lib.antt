@@ -2,16 +2,7 @@ pub mod Rings
 pub mod Walks
 pub mod Routes
 pub mod Propagation
-pub mod Turn
 pub mod Splice
-pub mod Together
 pub mod Forest
 pub mod Ancestors
 pub mod TreePath
-pub mod Sides
-pub mod Blocks
-pub mod Cuts
-pub mod Joins
-pub mod Touches
-pub mod Triangle
-pub mod Same

@@ -8,7 +8,7 @@ use Rattle.base_lists.specs.Tests.{same_test}
 use Rattle.table_levels.specs.Level.{LOWEST, in_range}
 use Rattle.table.specs.Table.{link_count, levels_differ, count_refusal, level_refusal}
 use Rattle.table.specs.TableLaws.{levels-passed, table-counts, table-ends}
-use Rattle.table.specs.Passes.{table-levelled, table-range}
+use Rattle.table.proofs.Passes.{table-levelled, table-range}
 use Rattle.spec_machine.specs.State.{State}
 use Rattle.spec_machine.specs.Load.{bare, stored_load_refusal, begun, loaded}
 use Rattle.spec_machine.specs.Report.{link_label}

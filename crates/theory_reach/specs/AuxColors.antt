@@ -23,7 +23,7 @@ use Rattle.theory_graph.specs.Rings.{SameLink}
 use Rattle.theory_graph.specs.Forest.{Anc, OffTree, Aux, across, along, Classes}
 use Rattle.theory_graph.specs.Ancestors.{root_anc}
 use Rattle.theory_graph.specs.Propagation.{Rounds, Still, changed, still-on}
-use Rattle.theory_graph.specs.Joins.{classes-by_rounds}
+use Rattle.theory_graph.proofs.Joins.{classes-by_rounds}
 use Rattle.theory_reach.specs.Site.{Site, Link, site-graph}
 use Rattle.theory_reach.specs.Rooted.{Rooted, nonroot_exact}
 use Rattle.theory_reach.specs.OffTheTree.{off-flip}

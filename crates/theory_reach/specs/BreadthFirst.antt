@@ -19,7 +19,7 @@ use Rattle.base_lists.specs.Tests.{either, not_both}
 use Rattle.table.specs.Table.{end_a, end_b}
 use Rattle.spec_rules.specs.Basics.{ABSENT, at}
 use Rattle.spec_rules.specs.Tree.{chosen_parent, visits, parent_round, dist_round, tree_ends}
-use Rattle.spec_rules.specs.ParentChoice.{Choice, nearer, nobody, chosen, visits-later}
+use Rattle.spec_rules.proofs.ParentChoice.{Choice, nearer, nobody, chosen, visits-later}
 use Rattle.theory_graph.specs.Rings.{Walk, last, Connected}
 use Rattle.theory_graph.specs.Routes.{connected_refl, connected-link, connected_sym}
 use Rattle.theory_graph.specs.Forest.{Anc, OffTree}

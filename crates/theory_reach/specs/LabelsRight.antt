@@ -18,9 +18,9 @@ use Rattle.spec_rules.specs.BoundLaws.{eq_exact}
 use Rattle.spec_rules.specs.Labels.{naming_unit, label_of, lone, touches, single}
 use Rattle.theory_graph.specs.Rings.{Ring, Holds, OnRing, SameLink, Articulation}
 use Rattle.theory_graph.specs.Forest.{OffTree, Classes, ClassOf, lower, upper, first, second}
-use Rattle.theory_graph.specs.Sides.{class-link, class_same, class-flip}
-use Rattle.theory_graph.specs.Blocks.{Alone, blocks-other, bridge}
-use Rattle.theory_graph.specs.Cuts.{Meet, articulation}
+use Rattle.theory_graph.proofs.Sides.{class-link, class_same, class-flip}
+use Rattle.theory_graph.proofs.Blocks.{Alone, blocks-other, bridge}
+use Rattle.theory_graph.proofs.Cuts.{Meet, articulation}
 use Rattle.theory_reach.specs.Site.{Site, Link, link-below, site-graph}
 use Rattle.theory_reach.specs.Rooted.{Rooted}
 use Rattle.theory_reach.specs.Ordered.{Ordered}

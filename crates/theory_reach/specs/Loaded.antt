@@ -4,7 +4,7 @@ use Rattle.std.proofs.Common.{sym, ap, ◌∙◌, inr, arith}
 use Rattle.std.proofs.Math.Logic.{inl}
 use Rattle.std.proofs.Math.ListN.{get_or-replicate, get_or-append}
 use Rattle.table.specs.Table.{link_count, end_a, end_b, stored_refusal}
-use Rattle.table.specs.Passes.{Passes, passes, table-alone}
+use Rattle.table.proofs.Passes.{Passes, passes, table-alone}
 use Rattle.spec_rules.specs.Basics.{ABSENT, at}
 use Rattle.theory_graph.specs.Rings.{SameLink}
 use Rattle.spec_machine.specs.State.{State}

@@ -3,7 +3,7 @@
 -- level, ties to the least number". ParentsByLevelProof.antt proves it.
 use Rattle.std.specs.Prelude.{◌≡◌, false, ◌↔◌, ◌≢◌, ℕ, ◌≤◌, ◌<◌}
 use Rattle.spec_rules.specs.Basics.{ABSENT, at}
-use Rattle.spec_rules.specs.BestParent.{Offers, Best}
+use Rattle.spec_rules.proofs.BestParent.{Offers, Best}
 use Rattle.spec_machine.specs.State.{State, units, links}
 use Rattle.spec_machine.specs.Kept.{Kept}
 use Rattle.spec_machine.specs.Step

@@ -13,12 +13,12 @@ use Rattle.base_lists.specs.Tables.{get_d_over}
 use Rattle.base_lists.specs.Tests.{either, and_left, and_right, and-true, cond_true, cond_false}
 use Rattle.table_levels.specs.Level.{HIGHEST, LOWEST, in_range}
 use Rattle.table_levels.specs.LevelLaws.{InRange, range-exact, zero_range}
-use Rattle.table.specs.Passes.{Passes, passes}
+use Rattle.table.proofs.Passes.{Passes, passes}
 use Rattle.spec_rules.specs.Basics.{ABSENT, at}
 use Rattle.spec_rules.specs.Ceilings.{ceiling}
 use Rattle.spec_rules.specs.Tree.{level_at, chosen_parent, visits, parent_round, dist_round}
-use Rattle.spec_rules.specs.ParentChoice.{Choice, nearer, nobody, chosen, visits-later}
-use Rattle.spec_rules.specs.BestParent.{Offers, Best, chosen-best}
+use Rattle.spec_rules.proofs.ParentChoice.{Choice, nearer, nobody, chosen, visits-later}
+use Rattle.spec_rules.proofs.BestParent.{Offers, Best, chosen-best}
 use Rattle.spec_machine.specs.State.{State, units, links, words}
 use Rattle.spec_machine.specs.Kept.{MadeOk, Kept}
 use Rattle.spec_machine.specs.Step

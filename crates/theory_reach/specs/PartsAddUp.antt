@@ -23,9 +23,9 @@ use Rattle.spec_machine.specs.Parts.{touched_by, touched, is_label, parts, group
 use Rattle.theory_graph.specs.Rings.{SameLink}
 use Rattle.theory_graph.specs.Forest.{Classes, ClassOf, lower, upper, first, second}
 use Rattle.theory_graph.specs.Ancestors.{root_anc}
-use Rattle.theory_graph.specs.Sides.{class-link}
-use Rattle.theory_graph.specs.Blocks.{not_top}
-use Rattle.theory_graph.specs.Touches.{Touches, Names, touched-count}
+use Rattle.theory_graph.proofs.Sides.{class-link}
+use Rattle.theory_graph.proofs.Blocks.{not_top}
+use Rattle.theory_graph.proofs.Touches.{Touches, Names, touched-count}
 use Rattle.theory_reach.specs.Site.{Site, Link, link-below, site-graph}
 use Rattle.theory_reach.specs.Rooted.{Rooted, root_of, root-exact, nonroot_exact}
 use Rattle.theory_reach.specs.Ordered.{Ordered}

@@ -9,7 +9,7 @@ use Rattle.std.proofs.Math.Dec.{eqb}
 use borrow.Author.Tests.{eqb-true, eq-eqb, ne_eqb, lt-ltb, le-ltb, ltb-true}
 use Rattle.base_lists.specs.Folds.{count}
 use Rattle.base_lists.specs.Counts.{count_cong, count-apart, count_true}
-use Rattle.base_lists.specs.Pigeonhole.{onto}
+use Rattle.base_lists.proofs.Onto.{onto}
 use Rattle.base_lists.specs.Tests.{either, cond_true, not_both, same_test}
 use Rattle.spec_rules.specs.Basics.{at, is_root}
 use Rattle.spec_rules.specs.Tour.{arc_unit, is_into, is_arc}

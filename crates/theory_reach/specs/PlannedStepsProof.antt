@@ -12,7 +12,7 @@ use Rattle.base_lists.specs.Pigeonhole.{pigeonhole}
 use Rattle.base_lists.specs.Tables.{get_d_over}
 use Rattle.base_lists.specs.Tests.{cond_true, cond_false}
 use Rattle.spec_rules.specs.Basics.{ABSENT, at}
-use Rattle.table.specs.Passes.{Passes, passes}
+use Rattle.table.proofs.Passes.{Passes, passes}
 use Rattle.spec_rules.specs.BoundLaws.{Names, names_at}
 use Rattle.spec_rules.specs.Planned.{onward, steps_to, planned_dists}
 use Rattle.spec_machine.specs.State.{State, units, words}

@@ -8,7 +8,7 @@ use Rattle.table.specs.Table.{end_a, end_b, stored_refusal}
 use Rattle.spec_rules.specs.Basics.{at}
 use Rattle.spec_rules.specs.Labels.{lone, single}
 use Rattle.theory_graph.specs.Rings.{Ring, Holds, OnRing, Articulation}
-use Rattle.theory_graph.specs.Same.{on_ring_same, no_ring_same, articulation-same}
+use Rattle.theory_graph.proofs.Same.{on_ring_same, no_ring_same, articulation-same}
 use Rattle.spec_machine.specs.State.{State}
 use Rattle.spec_machine.specs.State.{units, links, finished, FINISHED, MAX-ROUNDS, MAX-REQUESTS}
 use Rattle.spec_machine.specs.WellFormed.{well_formed}

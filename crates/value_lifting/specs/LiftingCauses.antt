@@ -4,7 +4,7 @@ use Rattle.std.specs.Prelude.{◌≤◌, ◌<◌, ltb, length, get_or}
 use Rattle.std.proofs.Common.{ltb-true, lt-ltb}
 use Rattle.std.proofs.lemmas.Bool.{not-true}
 use Rattle.base_lists.specs.Tests.{and_left, and_right, and-true, or_exact, not_exact, or_false-right, refuted}
-use Rattle.table.specs.Passes.{passes}
+use Rattle.table.proofs.Passes.{passes}
 use Rattle.table.specs.Refusals.{first_of}
 use Rattle.table.specs.RefusalLaws.{Reason, tests}
 use Rattle.table.specs.Table.{link_count, odd_words, end_missing}

@@ -6,7 +6,7 @@ use Rattle.std.proofs.Math.Bool.{true, not}
 use Rattle.std.proofs.Math.Dec.{ltb}
 use borrow.Author.Tests.{eq-eqb, ne_eqb, le-leb, not-false}
 use Rattle.base_lists.specs.Tests.{and-true}
-use Rattle.table.specs.Passes.{passes}
+use Rattle.table.proofs.Passes.{passes}
 use Rattle.table.specs.RefusalLaws.{first_some, first-none, passed-test}
 use Rattle.spec_machine.specs.Kept.{Kept, kept-exact}
 use Rattle.spec_machine.specs.KeptLaws.{links-fit}

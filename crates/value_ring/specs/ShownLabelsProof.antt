@@ -4,7 +4,7 @@ use Rattle.std.proofs.Common.{sym, ap, subst, ◌∙◌, inl, inr, arith}
 use Rattle.std.proofs.Math.Decide.{dec_lt}
 use Rattle.table.specs.Table.{end_a, end_b, link_count}
 use Rattle.theory_graph.specs.Rings.{Ring, Holds, OnRing}
-use Rattle.theory_graph.specs.Same.{on_ring_same}
+use Rattle.theory_graph.proofs.Same.{on_ring_same}
 use Rattle.spec_state.specs.declared.groups.Table.{Table}
 use Rattle.spec_machine.specs.Load.{Input, links_in, stored_load_refusal, table_of, ends_of}
 use Rattle.spec_machine.specs.Report.{link_label, link_lone}

@@ -6,7 +6,7 @@ use borrow.Author.Tests.{eq-eqb, ltb-false}
 use Rattle.table.specs.RefusalLaws.{first-cause, some-cause}
 use Rattle.table.specs.Table.{end_a, end_b}
 use Rattle.theory_graph.specs.Rings.{Ring, last_of, OnRing}
-use Rattle.theory_graph.specs.Together.{on_ring_more}
+use Rattle.theory_graph.proofs.Together.{on_ring_more}
 use Rattle.theory_graph.specs.Walks.{walk_map, ring-closed, closed-ring}
 use Rattle.spec_machine.specs.Kept.{kept-exact}
 use Rattle.spec_machine.specs.State.{State, units, links, finished}

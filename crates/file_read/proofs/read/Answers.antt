@@ -2,8 +2,9 @@
 -- the unit count.
 use Rattle.std.proofs.Common.{◌≡◌, ℕ, length, sym, ap, ◌∙◌, arith}
 use Rattle.file_spec.specs.File.{lines_of, read_refusal}
-use Rattle.file_spec.specs.ReadLaws.{read-refused, words-refused, levels-refused, sound, accepted-stands, read-accepted}
-use Rattle.file_spec.specs.ReadLaws.{words-accepted, levels-accepted}
+use Rattle.file_spec.proofs.ReadLaws.{read-refused, words-refused, levels-refused, sound, accepted-stands}
+use Rattle.file_spec.proofs.ReadLaws.{read-accepted}
+use Rattle.file_spec.proofs.ReadLaws.{words-accepted, levels-accepted}
 use Rattle.file_spec.specs.Replies.{read-tells}
 use Rattle.file_spec.specs.declared.Reading.{Reading}
 use Rattle.file_spec.specs.declared.Reading.TheVariants.{Read}

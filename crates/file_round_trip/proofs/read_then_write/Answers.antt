@@ -7,7 +7,7 @@ use lib.ListN.{length, take}
 use lib.IntN.{ℤ}
 use lib.Seq.{length-take-le}
 use Rattle.file_spec.specs.File.{read_reply, write_reply, written_file}
-use Rattle.file_spec.specs.ReadLaws.{read-front, read-front-levels, read-long, read-long-levels}
+use Rattle.file_spec.proofs.ReadLaws.{read-front, read-front-levels, read-long, read-long-levels}
 use Rattle.file_round_trip.specs.TripLaws.{rewrite_refused, rewrite_kept, rewrite_written, rewrite_bytes}
 use Rattle.file_spec.specs.declared.Reading.TheVariants.{Read}
 use Rattle.file_spec.specs.Replies.{rewrite_tells}

@@ -4,7 +4,7 @@ use Prim.Native.Nat.{◌+◌, ◌*◌, ◌/◌, ◌≤◌}
 use native.Mathlib.Omega.{arith}
 use lib.ListN.{length}
 use Rattle.table.specs.Table.{link_count}
-use Rattle.table.specs.Passes.{passes, table-alone}
+use Rattle.table.proofs.Passes.{passes, table-alone}
 use Rattle.file_spec.specs.File.{write_refusal}
 use Rattle.file_write.specs.WriteLaws.{write_refused, bytes-refused, written-stored, written_one, written-fits}
 use Rattle.file_write.specs.WriteLaws.{write_accepted, bytes-accepted}

@@ -4,7 +4,7 @@ use mathlib.Core.Bool.{true, false}
 use native.Mathlib.Omega.{arith}
 use lib.ListN.{length}
 use borrow.Author.Tests.{eq-eqb, ne_eqb}
-use Rattle.table.specs.Passes.{Passes, passes, table-alone}
+use Rattle.table.proofs.Passes.{Passes, passes, table-alone}
 use Rattle.spec_machine.specs.Load.{Input, stored_load_refusal, parents_differ}
 use Rattle.spec_machine.specs.PlannedLoad.{planned-stored, planned_17, planned_18, planned-last}
 use Rattle.load_plan.proofs.refusal.Goals as goal

@@ -1,8 +1,8 @@
 -- A stored table's refusal comes first; then, of a fresh table, 22. A table that passes so far has at most 256 units.
 use mathlib.Core.Path.{◌≡◌, sym, ◌∙◌}
 use Rattle.table.specs.Table.{stored_refusal}
-use Rattle.table.specs.Passes.{passes, table-alone}
-use Rattle.table.specs.FreshLaws.{as_refused, as_stored, as_unlinked, as_linked}
+use Rattle.table.proofs.Passes.{passes, table-alone}
+use Rattle.table.proofs.FreshReplies.{as_refused, as_stored, as_unlinked, as_linked}
 use Rattle.table.proofs.refusal.Goals as goal
 
 pub returns-then-number-ne0 : goal.returns-then-number-ne0

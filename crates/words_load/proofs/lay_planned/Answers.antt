@@ -4,7 +4,7 @@ use Prim.Native.Nat.{◌≤◌}
 use native.Mathlib.Omega.{arith}
 use lib.ListN.{length}
 use lib.Seq.{take_all}
-use Rattle.table.specs.Passes.{passes, table-alone}
+use Rattle.table.proofs.Passes.{passes, table-alone}
 use Rattle.spec_machine.specs.Load.{Input, planned_loaded}
 use Rattle.spec_machine.specs.PlannedLoad.{PlanAccepted, plan-accepted}
 use Rattle.words_load.proofs.lay_planned.Goals as goal

@@ -1,7 +1,7 @@
 -- By whether the table passes.
 use mathlib.Core.Path.{refl, sym, ◌∙◌}
 use borrow.Author.Tests.{ne_eqb}
-use Rattle.table.specs.FreshLaws.{as_accepted}
+use Rattle.table.proofs.FreshReplies.{as_accepted}
 use Rattle.words_load.proofs.load_as.Goals as goal
 
 pub returns-then-refused-ne0 : goal.returns-then-refused-ne0

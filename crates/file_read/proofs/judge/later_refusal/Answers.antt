@@ -1,6 +1,6 @@
 -- Each return is the first cause.
 use Rattle.std.proofs.Common.{inl, inr}
-use Rattle.file_spec.specs.ReadLaws.{later_6, later_16, later_14, later_0}
+use Rattle.file_spec.proofs.ReadLaws.{later_6, later_16, later_14, later_0}
 use Rattle.file_read.proofs.judge.later_refusal.Goals as goal
 
 pub returns-then-links-gt-MAX_LINKS : goal.returns-then-links-gt-MAX_LINKS

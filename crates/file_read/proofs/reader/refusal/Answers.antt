@@ -4,8 +4,8 @@ use Rattle.std.proofs.Common.{◌≡◌, ℕ, ◌+◌, ◌≤◌, Bool, true, fa
 use Rattle.table_levels.specs.Level.{in_range, byte_level}
 use Rattle.file_frames.specs.Frame.{byte_at}
 use Rattle.file_frames.specs.Kinds.{BARE-LINK, LINK}
-use Rattle.file_spec.specs.File.{lines_of, link_frames}
-use Rattle.file_spec.specs.ReadLaws.{later_refusal, refused_1, refused_2, refused_3, counted}
+use Rattle.file_spec.specs.File.{lines_of, link_frames, later_refusal}
+use Rattle.file_spec.proofs.ReadLaws.{refused_1, refused_2, refused_3, counted}
 use Rattle.file_read.specs.Walk.{LineAt, told_line, line-fits, walk_start, walk_fault, walk_link}
 use Rattle.file_read.specs.Walk.{walk_bare, walk_other, walk_sound, walk_broken, walk_kept, walk_levels}
 use Rattle.file_read.specs.Walk.{walk_count, walk_last, walk_stated}

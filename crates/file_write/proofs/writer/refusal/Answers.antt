@@ -2,8 +2,8 @@
 use mathlib.Core.Path.{◌≡◌, sym, ◌∙◌}
 use native.Mathlib.Omega.{arith}
 use Rattle.table.specs.Table.{fresh_refusal}
-use Rattle.table.specs.Passes.{Passes, passes, table-alone}
-use Rattle.table.specs.FreshLaws.{fresh-accepted}
+use Rattle.table.proofs.Passes.{Passes, passes, table-alone}
+use Rattle.table.proofs.FreshReplies.{fresh-accepted}
 use Rattle.file_write.specs.WriteLaws.{write_table, write_14, write_0}
 use Rattle.file_write.proofs.writer.refusal.Goals as goal
 

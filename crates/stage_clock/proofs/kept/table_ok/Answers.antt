@@ -5,7 +5,7 @@ use Prim.Native.Nat.{◌*◌}
 use lib.ListN.{take}
 use native.Mathlib.Omega.{arith}
 use borrow.Author.Tests.{le-leb, lt-leb, eqb-true}
-use Rattle.table.specs.Passes.{passes}
+use Rattle.table.proofs.Passes.{passes}
 use Rattle.spec_machine.specs.WellFormed.{table_ok}
 use Rattle.stage_clock.proofs.kept.table_ok.Goals as goal
 

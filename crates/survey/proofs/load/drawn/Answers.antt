@@ -6,7 +6,7 @@ use native.Mathlib.Omega.{arith}
 use lib.ListN.{length}
 use lib.Seq.{take_all}
 use Rattle.spec_state.specs.declared.groups.Plan.{Plan}
-use Rattle.table.specs.Passes.{passes, table-alone}
+use Rattle.table.proofs.Passes.{passes, table-alone}
 use Rattle.spec_machine.specs.State.{with_plan}
 use Rattle.spec_machine.specs.Load.{Input, plan_of, planned_loaded}
 use Rattle.spec_machine.specs.PlannedLoad.{PlanAccepted, plan-accepted}

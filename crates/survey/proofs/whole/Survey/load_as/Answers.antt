@@ -1,7 +1,7 @@
 -- By whether the table passes.
 use mathlib.Core.Path.{sym, ◌∙◌}
 use Rattle.table.specs.Table.{refusal_as}
-use Rattle.table.specs.FreshLaws.{as_accepted}
+use Rattle.table.proofs.FreshReplies.{as_accepted}
 use Rattle.spec_machine.specs.AnswerLaws.{answered-refused, answered-made}
 use Rattle.survey.specs.View.{of}
 use Rattle.survey.proofs.whole.Survey.load_as.Goals as goal

@@ -7,9 +7,9 @@ use Rattle.theory_graph.specs.Walks.{holds-first, holds-second}
 use Rattle.theory_graph.specs.Routes.{Without, connected_refl, connected-link, connected_trans, avoiding, avoided}
 use Rattle.theory_graph.specs.Routes.{ring-around}
 use Rattle.theory_graph.specs.Forest.{Forest, Classes, ClassOf}
-use Rattle.theory_graph.specs.Together.{ends-apart}
-use Rattle.theory_graph.specs.Sides.{class-link, class_same, class-exists, class-at}
-use Rattle.theory_graph.specs.Blocks.{blocks}
+use Rattle.theory_graph.proofs.Together.{ends-apart}
+use Rattle.theory_graph.proofs.Sides.{class-link, class_same, class-exists, class-at}
+use Rattle.theory_graph.proofs.Blocks.{blocks}
 
 -- links of two classes meet at u
 pub record Meet (E : ℕ → ℕ → Type 0) (p d cl : ℕ → ℕ) (u : ℕ) : Type 0 where

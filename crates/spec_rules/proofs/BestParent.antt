@@ -9,7 +9,7 @@ use borrow.Author.Tests.{eqb-true, eq-eqb}
 use Rattle.table.specs.Table.{end_a, end_b}
 use Rattle.spec_rules.specs.Basics.{ABSENT, at}
 use Rattle.spec_rules.specs.Tree.{visited_before, level_at, Neighbor, best_neighbor, chosen_parent}
-use Rattle.spec_rules.specs.ParentChoice.{Joins, Found, by, lacking, found}
+use Rattle.spec_rules.proofs.ParentChoice.{Joins, Found, by, lacking, found}
 
 -- link i joins v to w, a neighbour visited in the round before
 abbrev pub Offers : ℕ → ℕ → List ℕ → List ℕ → ℕ → ℕ → ℕ → Type 0

@@ -5,14 +5,14 @@ use Rattle.std.proofs.Common.{sym, subst, ◌∙◌, inl, inr, arith}
 use Rattle.base_lists.specs.Members.{Mem}
 use Rattle.theory_graph.specs.Rings.{Graph, last, last_of, first_of, Ring, Holds, OnRing, SameLink}
 use Rattle.theory_graph.specs.Walks.{last_mem}
-use Rattle.theory_graph.specs.Turn.{turn, turn-ring, turn-link}
+use Rattle.theory_graph.proofs.Turn.{turn, turn-ring, turn-link}
 use Rattle.theory_graph.specs.Forest.{Forest, Anc, self, up, Aux, across, along, Joined, stay, on, back, Classes}
 use Rattle.theory_graph.specs.Forest.{ClassOf, lower, upper, first, second}
 use Rattle.theory_graph.specs.Ancestors.{anc_trans, top_anc}
 use Rattle.theory_graph.specs.TreePath.{fundamental, fundamental-ring, fundamental-link, fundamental-tree}
-use Rattle.theory_graph.specs.Together.{Together, together_trans, together-flip, same-flip, same_trans}
-use Rattle.theory_graph.specs.Together.{holds_same, ring-link}
-use Rattle.theory_graph.specs.Sides.{class-link, class_same, class-exists, ring-class}
+use Rattle.theory_graph.proofs.Together.{Together, together_trans, together-flip, same-flip, same_trans}
+use Rattle.theory_graph.proofs.Together.{holds_same, ring-link}
+use Rattle.theory_graph.proofs.Sides.{class-link, class_same, class-exists, ring-class}
 
 -- each other link has another class
 abbrev pub Alone : (ℕ → ℕ → Type 0) → (ℕ → ℕ) → (ℕ → ℕ) → (ℕ → ℕ) → ℕ → ℕ → ℕ → Type 0

@@ -11,7 +11,7 @@ use Rattle.table.specs.Table.{end_a, end_b}
 use Rattle.spec_rules.specs.Basics.{ABSENT}
 use Rattle.spec_rules.specs.Tree.{visited_before, level_at, better, Neighbor, prefer, over_link, best_neighbor}
 use Rattle.spec_rules.specs.Tree.{chosen_parent}
-use Rattle.spec_rules.specs.ParentChoice.{better-behind, not_better}
+use Rattle.spec_rules.proofs.ParentChoice.{better-behind, not_better}
 
 -- document 01: the neighbour that link j gives v, and the least-numbered of them
 abbrev neighbor : ℕ → List ℕ → List ℕ → ℕ → ℕ → ℕ

@@ -19,10 +19,10 @@ use Rattle.file_spec.specs.File.{stated_count, units_in, ends_in, level_of, leve
 use Rattle.file_spec.specs.File.{read_refusal}
 use Rattle.file_spec.specs.RoundTrip.{line_back, file_back}
 use Rattle.file_spec.specs.LineLaws.{Whole, whole-line, line-fed}
-use Rattle.file_spec.specs.LineSteps.{ends-link, ends-units, levels-link, levels-units, stated-later}
-use Rattle.file_spec.specs.LineSteps.{stated-after, units-first, first-units, no_order_lem, length-ends}
+use Rattle.file_spec.proofs.LineSteps.{ends-link, ends-units, levels-link, levels-units, stated-later}
+use Rattle.file_spec.proofs.LineSteps.{stated-after, units-first, first-units, no_order_lem, length-ends}
 use Rattle.file_spec.specs.LinesRight.{joined, lines-right}
-use Rattle.file_spec.specs.ReadLaws.{Sound, accepted-sound}
+use Rattle.file_spec.proofs.ReadLaws.{Sound, accepted-sound}
 
 -- ---- one line
 

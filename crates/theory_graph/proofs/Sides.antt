@@ -9,7 +9,7 @@ use Rattle.theory_graph.specs.Walks.{follows-step, step_follows, follows-from, f
 use Rattle.theory_graph.specs.Routes.{Without, ring-around}
 use Rattle.theory_graph.specs.Forest.{Forest, Anc, self, up, TreeLink, OffTree, Aux, across, along, ClassOf}
 use Rattle.theory_graph.specs.Forest.{lower, upper, first, second}
-use Rattle.theory_graph.specs.Together.{ends-apart, ring-link}
+use Rattle.theory_graph.proofs.Together.{ends-apart, ring-link}
 use Rattle.theory_graph.specs.Ancestors.{anc_of, anc_trans, anc_depth, anc_level, anc_order, anc?, anc_child}
 use Rattle.theory_graph.specs.Ancestors.{root-along, top_anc, tree?, tree_anc, leaves-off}
 

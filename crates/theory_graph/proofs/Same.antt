@@ -3,7 +3,7 @@
 use Rattle.std.specs.Prelude.{◌↔◌, List, ℕ}
 use Rattle.theory_graph.specs.Rings.{Ring, Holds, OnRing, Route, Articulation}
 use Rattle.theory_graph.specs.Walks.{walk_map}
-use Rattle.theory_graph.specs.Together.{ring-more, on_ring_more}
+use Rattle.theory_graph.proofs.Together.{ring-more, on_ring_more}
 
 module _ (E F : ℕ → ℕ → Type 0) (more : (u v : ℕ) → E u v → F u v) where
   route_more : (a : ℕ) (l : List ℕ) (b : ℕ) → Route E a l b → Route F a l b

@@ -10,9 +10,9 @@ use Rattle.theory_graph.specs.Walks.{holds-first, holds-second}
 use Rattle.theory_graph.specs.Routes.{Without, ring-around}
 use Rattle.theory_graph.specs.Forest.{Forest, self, Classes, ClassOf, lower, upper}
 use Rattle.theory_graph.specs.Ancestors.{anc_depth, top_anc}
-use Rattle.theory_graph.specs.Together.{Together, ends-apart}
-use Rattle.theory_graph.specs.Sides.{Side, below, beside, side, side_route, side-own, class-link}
-use Rattle.theory_graph.specs.Blocks.{not_top, class-together}
+use Rattle.theory_graph.proofs.Together.{Together, ends-apart}
+use Rattle.theory_graph.proofs.Sides.{Side, below, beside, side, side_route, side-own, class-link}
+use Rattle.theory_graph.proofs.Blocks.{not_top, class-together}
 
 -- some link of class c ends at x
 abbrev pub Touches : (ℕ → ℕ → Type 0) → (ℕ → ℕ) → (ℕ → ℕ) → (ℕ → ℕ) → ℕ → ℕ → Type 0

@@ -10,13 +10,13 @@ use Rattle.theory_graph.specs.Forest.{Forest, Anc, TreeLink, OffTree, Aux, acros
 use Rattle.theory_graph.specs.Forest.{Classes, ClassOf, lower, upper, first, second}
 use Rattle.theory_graph.specs.Ancestors.{anc_depth, anc_level}
 use Rattle.theory_graph.specs.TreePath.{fundamental}
-use Rattle.theory_graph.specs.Together.{through}
-use Rattle.theory_graph.specs.Sides.{class-link, class-flip, class_unique}
-use Rattle.theory_graph.specs.Blocks.{Alone, blocks-other, bridge}
-use Rattle.theory_graph.specs.Cuts.{articulation}
+use Rattle.theory_graph.proofs.Together.{through}
+use Rattle.theory_graph.proofs.Sides.{class-link, class-flip, class_unique}
+use Rattle.theory_graph.proofs.Blocks.{Alone, blocks-other, bridge}
+use Rattle.theory_graph.proofs.Cuts.{articulation}
 use Rattle.theory_graph.specs.Propagation.{Rounds}
-use Rattle.theory_graph.specs.Joins.{classes-by_rounds}
-use Rattle.theory_graph.specs.Touches.{Touches, Names, touched-count}
+use Rattle.theory_graph.proofs.Joins.{classes-by_rounds}
+use Rattle.theory_graph.proofs.Touches.{Touches, Names, touched-count}
 
 abbrev Tail : ℕ → ℕ → Type 0
 Tail u v = SameLink 0 1 u v ⊎ (SameLink 1 2 u v ⊎ (SameLink 0 2 u v ⊎ SameLink 2 3 u v))

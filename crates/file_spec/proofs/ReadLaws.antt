@@ -1,5 +1,5 @@
 -- Reading: the reply by its tests, and what an accepted file holds.
-use Rattle.std.specs.Prelude.{◌≡◌, refl, Bool, true, false, cond, not, ◌||◌, ◌⊎◌, List, [], ◌∷◌, ◌++◌, ℕ, ◌*◌, ◌≤◌, ◌<◌}
+use Rattle.std.specs.Prelude.{◌≡◌, refl, Bool, true, false, cond, not, ◌||◌, ◌⊎◌, List, [], ◌++◌, ℕ, ◌*◌, ◌≤◌, ◌<◌}
 use Rattle.std.specs.Prelude.{eqb, ltb, length, take, drop, ℤ}
 use Rattle.std.proofs.Math.Path.{sym}
 use Rattle.std.proofs.Common.{ap, ◌∙◌, inl, inr, arith, take_at}
@@ -9,25 +9,19 @@ use borrow.Author.Tests.{eq-eqb, ne_eqb, eqb-true, eqb-false, lt-ltb, le-ltb, lt
 use Rattle.base_lists.specs.Folds.{every}
 use Rattle.base_lists.specs.Tests.{or_false-left, or_false-right}
 use Rattle.table_levels.specs.Level.{in_range}
-use Rattle.table.specs.Refusals.{first_of}
 use Rattle.table.specs.RefusalLaws.{passed-test}
 use Rattle.table.specs.Table.{max_links, level_outside}
 use Rattle.file_frames.specs.Frame.{word_at}
 use Rattle.file_frames.specs.Kinds.{UNITS, frame_bytes, kind_front, file_front}
 use Rattle.file_spec.specs.File.{Line, lines_of, faulty_line, in_order, link_frames, stated_count, units_in, ends_in}
-use Rattle.file_spec.specs.File.{levels_in, read_refusal, read_reply, read_words, read_levels}
+use Rattle.file_spec.specs.File.{levels_in, read_refusal, later_refusal, read_reply, read_words, read_levels}
 use Rattle.file_spec.specs.LineLaws.{none-lines, front_says, front-lines, front-kind, front-word, sound-front}
 use Rattle.file_spec.specs.LineLaws.{front_line, past_line}
-use Rattle.file_spec.specs.LineSteps.{first-units, units-first, no_order_lem, length-ends, length-levels}
+use Rattle.file_spec.proofs.LineSteps.{first-units, units-first, no_order_lem, length-ends, length-levels}
 use Rattle.file_spec.specs.declared.Reading.{Reading}
 use Rattle.file_spec.specs.declared.Reading.TheVariants.{Read}
 
 -- ---- the reply, by the tests passed and the one that holds
-
--- of a file in order, by its number of links and whether a level is out of range: 6, 16, 14
-unfoldable pub later_refusal : ℕ → Bool → ℕ → ℕ → ℕ
-later_refusal links outside places spaces =
-    first_of ((6, ltb max_links links) ∷ (16, outside) ∷ (14, ltb places (2 * links) || ltb spaces links) ∷ [])
 
 module _ (links : ℕ) (outside : Bool) (places spaces : ℕ) where
   pub later_6 : max_links < links → 6 ≡ later_refusal links outside places spaces

@@ -4,7 +4,7 @@ use Rattle.std.proofs.Common.{subst, inl, inr}
 use Rattle.base_lists.specs.Pigeonhole.{Picked}
 use Rattle.theory_graph.specs.Rings.{Graph, last, Walk}
 use Rattle.theory_graph.specs.Forest.{Forest, Aux, Joined, stay, on, back, Classes}
-use Rattle.theory_graph.specs.Blocks.{aux-ring}
+use Rattle.theory_graph.proofs.Blocks.{aux-ring}
 use Rattle.theory_graph.specs.Propagation.{Near, Rounds, Still, still-same, still-classes}
 
 module _

@@ -12,7 +12,7 @@ use Rattle.base_lists.specs.Tests.{and_left, and_right}
 use Rattle.table_levels.specs.Level.{in_range, level_byte}
 use Rattle.table_levels.specs.LevelLaws.{byte_below, byte_back}
 use Rattle.table.specs.Table.{link_count, max_links, stored_refusal}
-use Rattle.table.specs.Passes.{Passes, passes, table-alone, table-levelled, table-range}
+use Rattle.table.proofs.Passes.{Passes, passes, table-alone, table-levelled, table-range}
 use Rattle.file_frames.specs.Frame.{LF, word_bytes, hexes_of, check_byte, line_of, bytes_of}
 use Rattle.file_frames.specs.FrameLaws.{Bytes, line_hexes, hexes_digits, bytes_hexes, length_hexes, check_below}
 use Rattle.file_frames.specs.FrameLaws.{check_sum}
@@ -20,11 +20,11 @@ use Rattle.file_frames.specs.Kinds.{UNITS, LINK, END, frame_bytes, link_kind}
 use Rattle.file_frames.specs.Bodies.{units_body, link_body, end_body}
 use Rattle.file_spec.specs.File.{Line, lines_of, kind_of, number_at, whole, faulty_line, in_order_after, in_order}
 use Rattle.file_spec.specs.File.{link_frames, stated_count, units_in, ends_in, level_of, levels_in, link_lines, file_of}
-use Rattle.file_spec.specs.File.{read_refusal}
+use Rattle.file_spec.specs.File.{read_refusal, later_refusal}
 use Rattle.file_spec.specs.LineLaws.{lines_more, says_whole}
-use Rattle.file_spec.specs.LineSteps.{after-link, frames_link, ends-link, levels-link, frames_units, ends-units}
-use Rattle.file_spec.specs.LineSteps.{levels-units, units-first}
-use Rattle.file_spec.specs.ReadLaws.{later_refusal, counted}
+use Rattle.file_spec.proofs.LineSteps.{after-link, frames_link, ends-link, levels-link, frames_units, ends-units}
+use Rattle.file_spec.proofs.LineSteps.{levels-units, units-first}
+use Rattle.file_spec.proofs.ReadLaws.{counted}
 
 -- ---- the line of one frame
 

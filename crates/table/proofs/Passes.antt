@@ -11,7 +11,8 @@ use Rattle.table.specs.Table.{end_tests, count_refusal, level_refusal, end_refus
 use Rattle.table.specs.Table.{stored_refusal}
 use Rattle.table.specs.RefusalLaws.{SomeCause, passed-test, first-none}
 use Rattle.table.specs.TableLaws.{table-counts, table-levels, table-ends}
-use Rattle.table.specs.TableCauses.{SameEnds, bare_reasons, bare-some_cause}
+use Rattle.table.specs.TableCauses.{SameEnds, bare_reasons}
+use Rattle.table.proofs.TableReplies.{bare-some_cause}
 
 pub record Passes (n : ℕ) (t : List ℕ) : Type 0 where
   pub some_unit : 0 < n

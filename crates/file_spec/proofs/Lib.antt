@@ -1,0 +1,4 @@
+pub mod LineSteps
+pub mod ReadLaws
+pub mod RewrittenLaws
+pub mod WrittenLaws

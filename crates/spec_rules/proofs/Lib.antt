@@ -1,0 +1,3 @@
+pub mod ParentChoice
+pub mod BestParent
+pub mod EqualLevels

@@ -1,0 +1,3 @@
+pub mod TableReplies
+pub mod FreshReplies
+pub mod Passes

@@ -1,0 +1,9 @@
+pub mod Turn
+pub mod Sides
+pub mod Cuts
+pub mod Blocks
+pub mod Joins
+pub mod Same
+pub mod Together
+pub mod Touches
+pub mod Triangle
