@@ -7,7 +7,6 @@ pub mod Step
 pub mod StageLaws
 pub mod StepKept
 pub mod StepLaws
-pub mod PlannedLoad
 pub mod InStage
 pub mod LoadLaws
 pub mod Run

@@ -7,3 +7,4 @@ pub mod Same
 pub mod Together
 pub mod Touches
 pub mod Triangle
+pub mod Splice

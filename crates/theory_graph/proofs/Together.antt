@@ -7,7 +7,7 @@ use Rattle.theory_graph.specs.Rings.{Graph, last_of, Ring, Holds, OnRing, SameLi
 use Rattle.theory_graph.specs.Walks.{walk_step, walk_map, ring-closed, follows-step, holds-first, holds-second}
 use Rattle.theory_graph.specs.Walks.{holds-flip}
 use Rattle.theory_graph.proofs.Turn.{turn, turn-ring, turn_mem, turn-link}
-use Rattle.theory_graph.specs.Splice.{splice, splice-ring}
+use Rattle.theory_graph.proofs.Splice.{splice, splice-ring}
 
 pub ends-apart : {E : ℕ → ℕ → Type 0} → Graph E → (u v : ℕ) → E u v → u ≢ v
 ends-apart {E} G u v l e = G.loopless v (subst (λ (z : ℕ). E z v) e l)

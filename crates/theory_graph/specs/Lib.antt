@@ -2,7 +2,6 @@ pub mod Rings
 pub mod Walks
 pub mod Routes
 pub mod Propagation
-pub mod Splice
 pub mod Forest
 pub mod Ancestors
 pub mod TreePath

@@ -6,7 +6,7 @@ use Rattle.spec_machine.specs.State.{State, units}
 use Rattle.spec_machine.specs.Step.{countdown}
 use Rattle.spec_state.specs.declared.groups.Clock.{Clock}
 use Rattle.spec_machine.specs.Load.{begun, loaded, planned_loaded}
-use Rattle.spec_machine.specs.PlannedLoad.{plan-accepted}
+use Rattle.spec_machine.proofs.PlannedLoad.{plan-accepted}
 use Rattle.theory_reach.specs.AnyLevels.{with_levels}
 use Rattle.theory_reach.specs.AnyLevelsProof.{both-alike}
 use Rattle.theory_reach.specs.Started.{loaded-started}

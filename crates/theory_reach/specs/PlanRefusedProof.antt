@@ -20,7 +20,7 @@ use Rattle.spec_machine.specs.Load.{planned_load_refusal}
 use Rattle.spec_machine.specs.Load.{planned_loaded}
 use Rattle.spec_machine.specs.Calls.{planned_load_answer}
 use Rattle.spec_machine.specs.AnswerLaws.{answered-number}
-use Rattle.spec_machine.specs.PlannedLoad.{planned-stored, planned_17, planned_18, planned-last}
+use Rattle.spec_machine.proofs.PlannedLoad.{planned-stored, planned_17, planned_18, planned-last}
 use Rattle.theory_reach.specs.Site.{Site, Link, link-below}
 use Rattle.theory_reach.specs.Colors.{Colored}
 use Rattle.theory_reach.specs.PlanCause.{Climbs, Drawn, PlanCause}

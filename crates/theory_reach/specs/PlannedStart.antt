@@ -13,7 +13,7 @@ use Rattle.spec_machine.specs.State.{State}
 use Rattle.spec_machine.specs.Load.{Input, links_in, stored_load_refusal, absents, ends_of, begun, loaded, parents_of}
 use Rattle.spec_machine.specs.Load.{planned_load_refusal, planned_loaded}
 use Rattle.spec_machine.specs.StepLaws.{first-countdown}
-use Rattle.spec_machine.specs.PlannedLoad.{PlanAccepted, plan-accepted, parent-names, planned-well_formed}
+use Rattle.spec_machine.proofs.PlannedLoad.{PlanAccepted, plan-accepted, parent-names, planned-well_formed}
 use Rattle.theory_reach.specs.Site.{Site, Link, link-below}
 use Rattle.theory_reach.specs.Sized.{planned-sized}
 use Rattle.theory_reach.specs.Planned.{Fits}

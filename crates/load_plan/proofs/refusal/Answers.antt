@@ -6,7 +6,7 @@ use lib.ListN.{length}
 use borrow.Author.Tests.{eq-eqb, ne_eqb}
 use Rattle.table.proofs.Passes.{Passes, passes, table-alone}
 use Rattle.spec_machine.specs.Load.{Input, stored_load_refusal, parents_differ}
-use Rattle.spec_machine.specs.PlannedLoad.{planned-stored, planned_17, planned_18, planned-last}
+use Rattle.spec_machine.proofs.PlannedLoad.{planned-stored, planned_17, planned_18, planned-last}
 use Rattle.load_plan.proofs.refusal.Goals as goal
 
 pub returns-then-refused-ne0 : goal.returns-then-refused-ne0

@@ -6,7 +6,7 @@ use lib.ListN.{length}
 use lib.Seq.{take_all}
 use Rattle.table.proofs.Passes.{passes, table-alone}
 use Rattle.spec_machine.specs.Load.{Input, planned_loaded}
-use Rattle.spec_machine.specs.PlannedLoad.{PlanAccepted, plan-accepted}
+use Rattle.spec_machine.proofs.PlannedLoad.{PlanAccepted, plan-accepted}
 use Rattle.words_load.proofs.lay_planned.Goals as goal
 
 pub lay_loaded-requires : goal.lay_loaded-requires

@@ -9,7 +9,7 @@ use Rattle.spec_state.specs.declared.groups.Plan.{Plan}
 use Rattle.table.proofs.Passes.{passes, table-alone}
 use Rattle.spec_machine.specs.State.{with_plan}
 use Rattle.spec_machine.specs.Load.{Input, plan_of, planned_loaded}
-use Rattle.spec_machine.specs.PlannedLoad.{PlanAccepted, plan-accepted}
+use Rattle.spec_machine.proofs.PlannedLoad.{PlanAccepted, plan-accepted}
 use Rattle.survey.specs.View.{of}
 use Rattle.survey.proofs.load.drawn.Goals as goal
 
