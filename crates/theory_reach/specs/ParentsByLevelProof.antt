@@ -1,4 +1,4 @@
--- The parent that a round of stage 2 stores is the best: proofs, from spec_rules/specs/BestParent and what a kept state
+-- The parent that a round of stage 2 stores is the best: proofs, from spec_rules/proofs/BestParent and what a kept state
 -- is.
 use Rattle.std.specs.Prelude.{◌≡◌, refl, Bool, true, false, cond, not, ◌&&◌, ◌⊎◌, ◌≢◌, ℕ, ◌+◌, ◌*◌, ◌≤◌, ◌<◌, eqb, leb}
 use Rattle.std.specs.Prelude.{ℤ, pos, negsuc, length}
