@@ -1,5 +1,5 @@
--- The parent that a round of stage 2 stores is the best: proofs, from spec_rules/proofs/BestParent and what a kept state
--- is.
+-- The parent that a round of stage 2 stores is the best: proofs, from spec_rules/proofs/BestParent and what a kept
+-- state is.
 use Rattle.std.specs.Prelude.{◌≡◌, refl, Bool, true, false, cond, not, ◌&&◌, ◌⊎◌, ◌≢◌, ℕ, ◌+◌, ◌*◌, ◌≤◌, ◌<◌, eqb, leb}
 use Rattle.std.specs.Prelude.{ℤ, pos, negsuc, length}
 use Rattle.std.proofs.Common.{sym, subst, ◌∙◌, inl, inr, arith, get_or-take, eq-eqb, ne_eqb, leb-true}
