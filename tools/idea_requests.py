@@ -158,7 +158,7 @@ def faces():
         sheet.arrow((x + 55, 56), (x + 55, 104), GREY)
         sheet.arrow((x + 55, 194), (x + 55, 146), GREY)
         sheet.text(x + (40 if not mark else 70), 84, "of", 13, "end" if not mark else "start", GREY)
-        sheet.text(x + (40 if not mark else 70), 174, "stateOf", 13, "end" if not mark else "start", GREY)
+        sheet.text(x + (40 if not mark else 70), 174, "state_of", 13, "end" if not mark else "start", GREY)
     for y, words, color in ((35, "round, by value", BLUE), (125, "step", INK), (215, "round, on words", BLUE)):
         sheet.arrow((220, y), (400, y), color, 2.5)
         sheet.text(310, y - 9, words, 13, color=color)

@@ -136,9 +136,12 @@ class Check(Tree):
         self.assertEqual({line.split()[0] for line in listed}, set(groups))
 
     def test_an_archive_that_fails(self):
-        status, groups, _ = self.check(BAD_ARCHIVE="1")
-        self.assertEqual((status, groups["archive"][0]), (1, "failed"))
-        self.assertEqual(groups["differences"], ("skipped", "no archive of survey_c from these sources"))
+        """By rt's own word, or since it took too long: 124."""
+        for status_of_rt in "1", "124":
+            with self.subTest(status_of_rt):
+                status, groups, _ = self.check(BAD_ARCHIVE=status_of_rt)
+                self.assertEqual((status, groups["archive"][0]), (1, "failed"))
+                self.assertEqual(groups["differences"], ("skipped", "no archive of survey_c from these sources"))
 
     def test_each_failure(self):
         self.check("archive")
@@ -219,12 +222,6 @@ class Check(Tree):
         for name, time in ("crates/survey_c/out/libsurvey_c.a", later + 5), ("crates/a/out/newer", later + 9):
             os.utime(os.path.join(self.root, name), (time, time))
         self.assertEqual(self.check("archive")[1]["archive"], ("passed", "as it was built"))
-
-    def test_an_archive_that_takes_too_long(self):
-        status, groups, _ = self.check(BAD_ARCHIVE="124")
-        self.assertEqual((status, groups["archive"][0]), (0, "skipped"))
-        self.assertIn("not built within", groups["archive"][1])
-        self.assertEqual(groups["differences"], ("skipped", "no archive of survey_c from these sources"))
 
     def test_files_that_are_laid_out(self):
         """Of code, definitions and proofs, and nothing that rt makes."""

@@ -98,7 +98,7 @@ class Edits(unittest.TestCase):
 
 class PublicFunctions(unittest.TestCase):
     # what they give or do depends on the system, of which no contract can speak
-    UNPROMISED = {"base_io"}
+    UNPROMISED = {("base_io", name) for name in ("arg_count", "open_read", "write_all", "print_decimal", "fail")}
 
     def test_contracts(self):
         found = 0
@@ -111,7 +111,7 @@ class PublicFunctions(unittest.TestCase):
                 found += 1
                 with self.subTest(f"{os.path.relpath(path, ROOT)}: {name}"):
                     self.assertNotIn("requires", head)
-                    if crate not in self.UNPROMISED:
+                    if (crate, name) not in self.UNPROMISED:
                         self.assertIn("ensures", head)
         self.assertGreater(found, 0)
 

@@ -36,14 +36,6 @@ def sources(crate):
 SOURCES = {crate: sources(crate) for crate in CRATES}
 
 
-def definitions():
-    """The names that modules of definitions declare."""
-    found, declared = set(), r"(?m)^\s*(?:abbrev |unfoldable )?(?:pub )?(?:record |data )?(\w+)(?=[\s:])"
-    for path in glob.glob(os.path.join(ROOT, "crates", "*", "specs", "**", "*.antt"), recursive=True):
-        found.update(re.findall(declared, contents(path)))
-    return found
-
-
 def has(crate, name):
     """A crate has a function, constant, type or module of this name, or hands one on."""
     declared = rf"\b(?:fn|const|struct|enum|mod|type) {name}\b|pub use [\w:{{}}, ]*\b{name}\b"
@@ -93,12 +85,10 @@ class Names(unittest.TestCase):
         self.each(r"(\w+)/(src|specs|proofs)/([\w./-]+)", there)
 
     def test_crates(self):
-        """A name that begins with a room's word is a crate's, a function's or a definition's; EVIDENCE has names as
-        measured."""
+        """A name that begins with a room's word is a crate's, or a function's; EVIDENCE has names as measured."""
         room = r"(?:base|table|file|spec|theory|load|stage\d\d|leap|report|ring|value|words|check)_[a-z0-9_]+"
         others = [document for document in DOCUMENTS if not document.endswith("EVIDENCE.md")]
-        known = definitions() | set(CRATES)
-        self.each(room, lambda m: m[0] in known or any(has(crate, m[0]) for crate in CRATES), others)
+        self.each(room, lambda m: m[0] in CRATES or any(has(crate, m[0]) for crate in CRATES), others)
 
 
 class Decisions(unittest.TestCase):

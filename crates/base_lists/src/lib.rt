@@ -1,3 +1,3 @@
-// Laws on lists and tables: specs only.
+// Laws on lists and tables; no code.
 
 #![tactic(auto)]

@@ -46,6 +46,7 @@ pub(crate) fn byte(t: &[u8], c: u8, d: u8) -> u8
 }
 
 // Whether all characters are digits, and their bytes sum to 0 in eight bits.
+#[tactic(auto, using(crate::proofs::Ended::ended))]
 pub(crate) fn sums_to_0(t: &[u8], s: &[u8]) -> bool
     requires { Marks t.now × (length s.now % 2 ≡ 0) }
     ensures { result ≡ (all_digits s.now && sum_of (bytes_of s.now) % 256 == 0) }

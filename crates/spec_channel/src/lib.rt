@@ -1,4 +1,4 @@
 // Several sites over one channel (T-12): eight seats, a turn, and what is promised of any list of loads and ticks.
-// Specs only.
+// No code.
 
 #![tactic(auto)]

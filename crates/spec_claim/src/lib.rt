@@ -1,3 +1,3 @@
-// Demand 3, about a whole list of calls (specs/Claim.antt). Specs only.
+// Demand 3, about a whole list of calls (specs/Claim.antt). No code.
 
 #![tactic(auto)]

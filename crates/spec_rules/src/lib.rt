@@ -1,3 +1,3 @@
-// The ten stages as rules over tables: specs only.
+// The ten stages as rules over tables; no code.
 
 #![tactic(auto)]

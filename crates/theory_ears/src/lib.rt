@@ -1,3 +1,3 @@
-// Rings that are shown (T-04): specs only.
+// Rings that are shown (T-04); no code.
 
 #![tactic(auto)]

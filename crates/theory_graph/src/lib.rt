@@ -1,3 +1,3 @@
-// Walks, cycles, trees, auxiliary classes, blocks: specs only.
+// Walks, cycles, trees, auxiliary classes, blocks; no code.
 
 #![tactic(auto)]

@@ -1,3 +1,3 @@
-// What holds of every state that a load reaches: specs only.
+// What holds of every state that a load reaches; no code.
 
 #![tactic(auto)]

@@ -24,14 +24,6 @@ loop-i-preserved c =
       rw (c.mark-high.ensures, c.mark-low.ensures) (marks-more s c.loop-i.seen i within inv.4),
     )
 
-pub returns-then-seen-ge-NO_DIGIT : goal.returns-then-seen-ge-NO_DIGIT
-returns-then-seen-ge-NO_DIGIT c =
-    let s = c.args.s.now in
-    let seen = marks-seen s c.loop-i.seen c.loop-i.i
-    (omega (arith, c.loop-i.invariant.1, c.requires.1, c.loop-i-test.false))
-    c.loop-i.invariant.4 in
-    rw (seen, le-ltb c.loop-i.seen 16 c.if-seen-ge-NO_DIGIT.true)
-
 pub returns : goal.returns
 returns c =
     let s = c.args.s.now in
@@ -44,4 +36,4 @@ returns c =
     let seen = marks-seen s c.loop-i.seen c.loop-i.i over c.loop-i.invariant.4 in
     let sum : c.loop-i.sum ≡ sum_of (bytes_of s) % 256 =
     omega (arith, c.loop-i.invariant.2, c.loop-i.invariant.3, digit_sum_end s c.loop-i.i (omega arith)) in
-    rw (seen, lt-ltb c.loop-i.seen 16 (omega (arith, c.if-seen-ge-NO_DIGIT.false)), ← sum)
+    rw (seen, lt-ltb c.loop-i.seen 16 (search rules), ← sum)
