@@ -41,6 +41,7 @@ impl Answer {
 
 // A byte a link in `marks`, 0 for a sure one and any other for a doubtful one. Two questions are enough: whether the
 // sure links of a site have a ring that holds both, and whether all links have one.
+#[tactic(auto, using(crate::proofs::Told::told))]
 pub fn judged<'a>(
     marks: &'a [u8],
     units: u16,
