@@ -19,6 +19,14 @@ from survey_text import Fault, Site
 from testing import PROGRAM, Door, components, contents, example, text_of, weak_by_removal
 
 ANY = lambda u, v: True
+# Seconds of processor time that `plain_loop` takes on the machine for which the bounds of time below were set.
+PLAIN = 0.07
+
+
+def plain_loop():
+    begun = time.process_time()
+    sum(i * i for i in range(1_000_000))
+    return time.process_time() - begun
 
 
 def losses_of(units, links):
@@ -309,11 +317,12 @@ class AtTheDoor(Door):
         for name, links in large_sites():
             if name not in ("star", "tree", "town"):
                 continue
+            slower = max(1, *(plain_loop() / PLAIN for _ in range(3)))
             begun = time.process_time()
             code, said, told = self.run_door(self.at("site.txt", text_of(256, links)), "--spares", "--program", PROGRAM)
             self.assertEqual((code, told), (1, ""))
             self.assertIn("surveyed again: no weak place left", " ".join(said.split()))
-            self.assertLess(time.process_time() - begun, 10, name)
+            self.assertLess(time.process_time() - begun, 2 * slower, name)
 
     def test_a_program_that_contradicts(self):
         """A report of the proposed table that the links do not bear out is no proposal."""
