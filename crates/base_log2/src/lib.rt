@@ -11,6 +11,6 @@ pub fn lg(x: u16) -> u16
     if x <= 1 {
         0
     } else {
-        16 - u16::leading_zeros(x - 1) as u16
+        16 - (x - 1).leading_zeros() as u16
     }
 }

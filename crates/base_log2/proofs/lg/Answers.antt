@@ -1,12 +1,7 @@
 -- Of 16 digits x − 1 leaves as many as lg counts; there are at most 16 leading zeros.
-use Prim.Native.Nat.{◌-◌}
 use native.Mathlib.Omega.{arith}
-use lib.Count.{leading_le}
 use Rattle.base_log2.specs.LgLaws.{lg-small, lg-by_zeros}
 use Rattle.base_log2.proofs.lg.Goals as goal
-
-pub overflow_cast-result : goal.overflow_cast-result
-overflow_cast-result c = omega (arith, leading_le 16 (c.args.x - 1))
 
 pub returns-then-x-le1 : goal.returns-then-x-le1
 returns-then-x-le1 c = lg-small c.args.x c.if-x-le1.true
