@@ -10,40 +10,24 @@ ghost use Rattle.base_copies.specs.Parts.{part, laid, laid_in, copied, PartOr, c
 pub fn held(size: usize, count: usize) -> usize
     ensures { result ≡ min size count }
 {
-    if size < count { size } else { count }
+    size.min(count)
 }
 
 // Whether the slice has that many words from `at` on.
 fn fits(at: usize, count: usize, words: usize) -> bool
     ensures { result ≡ leb (at + count) words }
 {
-    if words < at {
-        return false;
-    }
-    count <= words - at
-}
-
-// Copies words from `at` on over those from `place` on.
-fn carry(from: &[u16], at: usize, count: usize, words: &mut [u16], place: usize)
-    requires { (at + count ≤ length from.now) × (place + count ≤ length words.old) }
-    ensures { words.new ≡ laid place (part at count from.now) words.old }
-{
-    let mut i = 0;
-    while i < count {
-        words[place + i] = from[at + i];
-        i += 1;
-    }
+    at <= words && count <= words - at
 }
 
 // A table over the words from `at` on.
 pub fn lay(table: &[u16], at: usize, words: &mut [u16])
     ensures { words.new ≡ laid_in at table.now words.old }
 {
-    let count = table.len();
-    if !fits(at, count, words.len()) {
+    if !fits(at, table.len(), words.len()) {
         return;
     }
-    carry(table, 0, count, words, at);
+    words[at..at + table.len()].copy_from_slice(table);
 }
 
 // Stores `x` in the given number of words from `at` on.
@@ -53,11 +37,7 @@ pub fn fill(x: u16, at: usize, count: usize, words: &mut [u16])
     if !fits(at, count, words.len()) {
         return;
     }
-    let mut i = 0;
-    while i < count {
-        words[at + i] = x;
-        i += 1;
-    }
+    words[at..at + count].fill(x);
 }
 
 // Levels over the words from `at` on, each as its word, which stands for it.
@@ -69,11 +49,8 @@ pub fn lay_levels(levels: &[i16], at: usize, words: &mut [u16])
     if !fits(at, levels.len(), words.len()) {
         return;
     }
-    let mut i = 0;
-    while i < levels.len() {
-        let level = levels[i];
+    for (i, &level) in levels.iter().enumerate() {
         words[at + i] = table_levels::word_of(level);
-        i += 1;
     }
 }
 
@@ -81,11 +58,9 @@ pub fn lay_levels(levels: &[i16], at: usize, words: &mut [u16])
 pub fn lay_first(count: u16, table: &[u16], words: &mut [u16])
     ensures { words.new ≡ over count (λ (i : ℕ). get_or table.now i 0) words.old }
 {
-    let mut v = 0;
-    while v < count {
+    for v in 0..count {
         let i = v as usize;
         base_slices::put(words, i, base_slices::word(table, i));
-        v += 1;
     }
 }
 
@@ -93,47 +68,33 @@ pub fn lay_first(count: u16, table: &[u16], words: &mut [u16])
 pub fn copy(words: &[u16], at: usize, to: &mut [u16])
     ensures { to.new ≡ copied at words.now to.old }
 {
-    let count = to.len();
-    if !fits(at, count, words.len()) {
+    if !fits(at, to.len(), words.len()) {
         return;
     }
-    carry(words, at, count, to, 0);
+    to.copy_from_slice(&words[at..at + to.len()]);
+}
+
+// So many words from `at` on, or as many zeros where they are not all there.
+pub fn table_at<const N: usize>(words: &[u16], at: usize) -> [u16; N]
+    ensures { PartOr at N words.now result }
+{
+    let mut table = [0; N];
+    copy(words, at, &mut table);
+    table
 }
 
 // Both ends of each link.
 pub fn ends_at(words: &[u16], at: usize) -> [u16; 2048]
     ensures { PartOr at 2048 words.now result }
 {
-    let mut table = [0; 2048];
-    copy(words, at, &mut table);
-    table
-}
-
-// A word a link.
-pub fn links_at(words: &[u16], at: usize) -> [u16; 1024]
-    ensures { PartOr at 1024 words.now result }
-{
-    let mut table = [0; 1024];
-    copy(words, at, &mut table);
-    table
-}
-
-// A word an arc.
-pub fn arcs_at(words: &[u16], at: usize) -> [u16; 512]
-    ensures { PartOr at 512 words.now result }
-{
-    let mut table = [0; 512];
-    copy(words, at, &mut table);
-    table
+    table_at(words, at)
 }
 
 // A word a unit.
 pub fn units_at(words: &[u16], at: usize) -> [u16; 256]
     ensures { PartOr at 256 words.now result }
 {
-    let mut table = [0; 256];
-    copy(words, at, &mut table);
-    table
+    table_at(words, at)
 }
 
 // A level a link.
@@ -160,10 +121,7 @@ fn levels_inside(words: &[u16], at: usize, to: &mut [i16])
     requires { at + length to.old ≤ length words.now }
     ensures { to.new ≡ from_words (part at (length to.old) words.now) }
 {
-    let mut i = 0;
-    while i < to.len() {
-        let level = table_levels::of_word(words[at + i]);
-        to[i] = level;
-        i += 1;
+    for (i, level) in to.iter_mut().enumerate() {
+        *level = table_levels::of_word(words[at + i]);
     }
 }

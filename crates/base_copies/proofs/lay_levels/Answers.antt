@@ -1,7 +1,8 @@
 -- The levels passed are laid down as words, which stand for them, and the rest is as it was.
 use mathlib.Core.Path.{◌≡◌, refl, sym, ap, ◌∙◌}
 use mathlib.Core.Bool.{false}
-use Prim.Native.Nat.{◌+◌}
+use Prim.Native.Nat.{◌+◌, ◌<◌}
+use Rattle.std.specs.Int.Signed.{mag}
 use native.Mathlib.Omega.{arith}
 use lib.Dec.{leb}
 use lib.IntN.{pos}
@@ -43,7 +44,7 @@ loop-i-preserved c =
     let i = c.loop-i.i in
     let v = c.loop-i.invariant in
     let h = c.loop-i-test.true in
-    let f = c.level-1.given in
+    let f : mag (get_or ls i (pos 0)) < 32768 = search rules in
     let w = c.word_of.ensures ∙ ap level_word (to_z-of_z w16 (get_or ls i (pos 0)) (record { sfits = f }))
     ∙ word-at ls i h in (
       search rules,

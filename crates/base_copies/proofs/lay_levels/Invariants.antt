@@ -1,6 +1,6 @@
 -- The levels passed are laid down as words, which stand for them, and the rest is as it was.
 use mathlib.Core.Path.{◌≡◌}
-use Prim.Native.Nat.{◌+◌, ◌≤◌, ◌-◌}
+use Prim.Native.Nat.{◌+◌, ◌≤◌}
 use lib.ListN.{length, take}
 use lib.Seq.{paste}
 use Rattle.table_levels.specs.Level.{to_words, from_words}
@@ -13,6 +13,3 @@ invariant-loop-i l =
     × (l.at + length l.levels ≤ length l.initial.words)
     × (l.words ≡ paste l.initial.words l.at (to_words l.levels) l.i)
     × (from_words (to_words (take l.i l.levels)) ≡ take l.i l.levels)
-
-abbrev pub decreases-loop-i : goal.decreases-loop-i
-decreases-loop-i l = length l.levels - l.i

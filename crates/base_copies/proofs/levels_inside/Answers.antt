@@ -22,7 +22,7 @@ loop-i-preserved c =
       search rules,
       search rules,
       rw (
-        c.of_word-level.ensures,
+        c.of_word.ensures,
         to_z-of_z w16 (word_level w) (record { sfits = level-small w }),
         c.loop-i.invariant.2,
       ) (levels-next a.words.now a.to.now a.at c.loop-i.i (search rules) c.requires),
