@@ -3,18 +3,11 @@
 
 ghost use Rattle.std.specs.Prelude.{◌≡◌, ◌&&◌, length};
 ghost use Rattle.base_lists.specs.Folds.{every};
-ghost use Rattle.table_levels.specs.Level.{raised_of, in_range, level_byte, byte_level, level_word, word_level};
+ghost use Rattle.table_levels.specs.Level.{in_range, level_byte, byte_level, level_word, word_level};
 ghost use Rattle.table_levels.specs.Level.{to_words, from_words};
 
 // The level of a link that came without one (a link line of kind 02).
 pub const LOWEST: i16 = -127;
-
-// A level by 65,536 higher, so that it is no longer negative.
-fn raised(level: i16) -> u32
-    ensures { result ≡ raised_of level }
-{
-    (level as i32 + 65536) as u32
-}
 
 // Whether a level is −127 to 0.
 pub fn in_range(level: i16) -> bool
@@ -27,32 +20,28 @@ pub fn in_range(level: i16) -> bool
 pub fn byte_of(level: i16) -> u8
     ensures { result ≡ level_byte level }
 {
-    (raised(level) % 256) as u8
+    (word_of(level) % 256) as u8
 }
 
 // The level in a byte.
 pub fn of_byte(b: u8) -> i16
     ensures { result ≡ byte_level b }
 {
-    if b < 128 { b as i16 } else { b as i16 - 256 }
+    i16::from(b.cast_signed())
 }
 
 // Its two's complement word.
 pub fn word_of(level: i16) -> u16
     ensures { result ≡ level_word level }
 {
-    (raised(level) % 65536) as u16
+    level.cast_unsigned()
 }
 
 // The level in a word.
 pub fn of_word(w: u16) -> i16
     ensures { result ≡ word_level w }
 {
-    if w < 32768 {
-        w as i16
-    } else {
-        (w as i32 - 65536) as i16
-    }
+    w.cast_signed()
 }
 
 // Whether all levels are −127 to 0. Every level is looked at: a loop without a way out is taken several at a time.
@@ -60,11 +49,8 @@ pub fn all_in_range(levels: &[i16]) -> bool
     ensures { result ≡ every in_range levels.now }
 {
     let mut ok = true;
-    let mut i = 0;
-    while i < levels.len() {
-        let level = levels[i];
-        ok = base_choice::both(ok, in_range(level));
-        i += 1;
+    for level in levels {
+        ok &= in_range(*level);
     }
     ok
 }
@@ -84,10 +70,7 @@ fn lay(levels: &[i16], words: &mut [u16])
     ensures words { words.new ≡ to_words levels.now }
     ensures back { from_words words.new ≡ levels.now }
 {
-    let mut i = 0;
-    while i < levels.len() {
-        let level = levels[i];
+    for (i, &level) in levels.iter().enumerate() {
         words[i] = word_of(level);
-        i += 1;
     }
 }

@@ -3,6 +3,8 @@ use mathlib.Core.Path.{◌≡◌, refl, ap, ◌∙◌}
 use native.Mathlib.Omega.{arith}
 use lib.ListN.{length, get_or, drop_of_length-le}
 use lib.IntN.{pos}
+use Prim.Native.Nat.{◌<◌}
+use Rattle.std.specs.Int.Signed.{mag}
 use lib.Seq.{take-length}
 use mathlib.Core.List.{append-nil}
 use mir.Syntax.{w16}
@@ -20,7 +22,7 @@ loop-i-preserved c =
     let ls = c.args.levels.now in
     let i = c.loop-i.i in
     let h = c.loop-i-test.true in
-    let f = c.level-1.given in
+    let f : mag (get_or ls i (pos 0)) < 32768 = search rules in
     let w = c.word_of.ensures ∙ ap level_word (to_z-of_z w16 (get_or ls i (pos 0)) (record { sfits = f })) in (
       search rules,
       search rules,

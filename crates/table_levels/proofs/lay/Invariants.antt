@@ -1,7 +1,7 @@
 -- The levels passed are laid down as words, which stand for them.
 use mathlib.Core.Path.{◌≡◌}
 use mathlib.Core.List.{◌++◌}
-use Prim.Native.Nat.{◌≤◌, ◌-◌}
+use Prim.Native.Nat.{◌≤◌}
 use lib.ListN.{length, take, drop}
 use Rattle.table_levels.specs.Level.{to_words, from_words}
 use Rattle.table_levels.proofs.lay.Given as goal
@@ -12,6 +12,3 @@ invariant-loop-i l =
     × (length l.words ≡ length l.initial.words)
     × (l.words ≡ to_words (take l.i l.levels) ++ drop l.i l.initial.words)
     × (from_words (to_words (take l.i l.levels)) ≡ take l.i l.levels)
-
-abbrev pub decreases-loop-i : goal.decreases-loop-i
-decreases-loop-i l = length l.levels - l.i
