@@ -1,15 +1,13 @@
 -- The levels passed are laid down as words, which stand for them.
-use mathlib.Core.Path.{◌≡◌, refl, ap, ◌∙◌}
+use mathlib.Core.Path.{refl, ap, ◌∙◌}
 use native.Mathlib.Omega.{arith}
-use lib.ListN.{length, get_or, drop_of_length-le}
+use lib.ListN.{get_or}
 use lib.IntN.{pos}
 use Prim.Native.Nat.{◌<◌}
 use Rattle.std.specs.Int.Signed.{mag}
-use lib.Seq.{take-length}
-use mathlib.Core.List.{append-nil}
 use mir.Syntax.{w16}
 use mir.ValLaws.{to_z-of_z}
-use Rattle.table_levels.specs.Level.{level_word, to_words, from_words}
+use Rattle.table_levels.specs.Level.{level_word}
 use Rattle.table_levels.specs.WordLaws.{words-next, back-next, back_none, none-words}
 use borrow.Author.Rules.{rules}
 use Rattle.table_levels.proofs.lay.Goals as goal
@@ -29,15 +27,3 @@ loop-i-preserved c =
       rw c.loop-i.invariant.2 (words-next ls c.args.words.now i c.word_of.result w h c.requires),
       back-next ls i h f c.loop-i.invariant.3,
     )
-
-pub returns : goal.returns
-returns c =
-    let ls = c.args.levels.now in
-    let e : c.loop-i.i ≡ length ls = omega (arith, c.loop-i.invariant.0, c.loop-i-test.false) in
-    let none = drop_of_length-le c.args.words.now {i = length ls} (omega (arith, c.requires)) in
-    let all : c.loop-i.words ≡ to_words ls =
-    rw (e, take-length ls, none, append-nil (to_words ls)) at c.loop-i.invariant.2 in
-    record {
-      words = all;
-      back = ap from_words all ∙ (rw (e, take-length ls) at c.loop-i.invariant.3);
-    }
