@@ -1,13 +1,9 @@
 -- Word by word.
-use mathlib.Core.Path.{refl, ◌∙◌}
 use Prim.Native.Nat.{ℕ}
 use lib.ListN.{get_or}
-use Rattle.base_lists.specs.Rounds.{over-more, over-all}
+use Rattle.base_lists.specs.Rounds.{over-more}
 use borrow.Author.Rules.{rules}
 use Rattle.base_copies.proofs.lay_first.Goals as goal
-
-pub loop-v-init : goal.loop-v-init
-loop-v-init c = (search rules, refl, refl)
 
 pub loop-v-preserved : goal.loop-v-preserved
 loop-v-preserved c = (
@@ -16,6 +12,3 @@ loop-v-preserved c = (
   over-more _ (λ (i : ℕ). get_or c.args.table.now i 0) _ _ _ _
       c.loop-v.invariant.2 c.word.ensures c.put.ensures,
 )
-
-pub returns : goal.returns
-returns c = c.loop-v.invariant.2 ∙ over-all _ _ _ _ c.loop-v.invariant.0 c.loop-v-test.false

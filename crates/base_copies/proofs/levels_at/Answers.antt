@@ -2,8 +2,5 @@
 use Rattle.base_copies.specs.CopyLaws.{levels_or}
 use Rattle.base_copies.proofs.levels_at.Goals as goal
 
-pub copy_levels-requires : goal.copy_levels-requires
-copy_levels-requires c = tt
-
 pub returns : goal.returns
 returns c = levels_or 1024 _ _ c.copy_levels.ensures

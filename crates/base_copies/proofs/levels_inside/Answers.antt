@@ -1,12 +1,12 @@
 -- The words passed are laid down as levels, and the rest is as it was.
-use mathlib.Core.Path.{refl, ◌∙◌}
+use mathlib.Core.Path.{refl}
 use Prim.Native.Nat.{◌+◌}
 use native.Mathlib.Omega.{arith}
 use lib.ListN.{get_or}
 use mir.Syntax.{w16}
 use mir.ValLaws.{to_z-of_z}
 use Rattle.table_levels.specs.Level.{word_level}
-use Rattle.base_copies.specs.LevelCopies.{level-small, levels-begin, levels-next, levels-end}
+use Rattle.base_copies.specs.LevelCopies.{level-small, levels-begin, levels-next}
 use borrow.Author.Rules.{rules}
 use Rattle.base_copies.proofs.levels_inside.Goals as goal
 
@@ -27,8 +27,3 @@ loop-i-preserved c =
         c.loop-i.invariant.2,
       ) (levels-next a.words.now a.to.now a.at c.loop-i.i (search rules) c.requires),
     )
-
-pub returns : goal.returns
-returns c =
-    let a = c.args in
-    c.loop-i.invariant.2 ∙ levels-end a.words.now a.to.now a.at c.loop-i.i (omega arith)

@@ -2,8 +2,5 @@
 use Rattle.base_copies.specs.CopyLaws.{part_or}
 use Rattle.base_copies.proofs.table_at.Goals as goal
 
-pub copy-requires : goal.copy-requires
-copy-requires g c = tt
-
 pub returns : goal.returns
 returns g c = part_or _ _ _ c.copy.ensures
