@@ -7,10 +7,8 @@ pub fn sum(f: &[u8]) -> u8
     ensures { result ≡ sum_of f.now % 256 }
 {
     let mut sum: u8 = 0;
-    let mut i = 0;
-    while i < f.len() {
-        sum = std::num::wrapping_add_u8(sum, f[i]);
-        i += 1;
+    for b in f {
+        sum = sum.wrapping_add(*b);
     }
     sum
 }
@@ -19,5 +17,5 @@ pub fn sum(f: &[u8]) -> u8
 pub fn check_byte(f: &[u8]) -> u8
     ensures { result ≡ check_byte f.now }
 {
-    std::num::wrapping_sub_u8(0, sum(f))
+    0u8.wrapping_sub(sum(f))
 }

@@ -7,7 +7,7 @@ fn digit(d: u8) -> u8
     requires { d < 16 }
     ensures { result ≡ digit_of d }
 {
-    if d < 10 { 48 + d } else { 55 + d }
+    if d < 10 { b'0' + d } else { b'A' + d - 10 }
 }
 
 // The first of the two characters of a byte.
@@ -28,12 +28,12 @@ pub fn low_digit(b: u8) -> u8
 pub fn high_byte(w: u16) -> u8
     ensures { result ≡ w / 256 % 256 }
 {
-    (w / 256) as u8
+    w.to_be_bytes()[0]
 }
 
 // The low byte.
 pub fn low_byte(w: u16) -> u8
     ensures { result ≡ w % 256 }
 {
-    (w % 256) as u8
+    w.to_be_bytes()[1]
 }

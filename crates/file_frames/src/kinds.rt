@@ -28,10 +28,9 @@ pub fn frame_bytes(kind: u8) -> u8
     ensures { result ≡ frame_bytes kind }
 {
     match kind {
-        UNITS => 4,
+        UNITS | END => 4,
         BARE_LINK => 6,
         LINK => 7,
-        END => 4,
         _ => 0,
     }
 }
@@ -40,9 +39,5 @@ pub fn frame_bytes(kind: u8) -> u8
 pub fn is_link(kind: u8) -> bool
     ensures { result ≡ link_kind kind }
 {
-    if kind == BARE_LINK {
-        true
-    } else {
-        kind == LINK
-    }
+    matches!(kind, BARE_LINK | LINK)
 }

@@ -5,7 +5,7 @@ ghost use Rattle.file_frames.specs.Frame.{digit_of, word_bytes, hexes_of, line_o
 use crate::{check, digits};
 
 // The line feed that ends a line.
-pub const LF: u8 = 10;
+pub const LF: u8 = b'\n';
 
 // The two characters of a byte, at `at`.
 fn put_byte(out: &mut [u8], at: usize, b: u8)
@@ -23,10 +23,8 @@ fn put_bytes(f: &[u8], out: &mut [u8])
     ensures { out.new ≡ hexes_of f.now
         ++ drop (2 * length f.now) out.old }
 {
-    let mut i = 0;
-    while i < f.len() {
-        put_byte(out, 2 * i, f[i]);
-        i += 1;
+    for (i, b) in f.iter().enumerate() {
+        put_byte(out, 2 * i, *b);
     }
 }
 
@@ -34,10 +32,7 @@ fn put_bytes(f: &[u8], out: &mut [u8])
 pub fn write(body: &[u8], out: &mut [u8])
     ensures { out.new ≡ line_over body.now out.old }
 {
-    if out.len() < 3 {
-        return;
-    }
-    if (out.len() - 3) / 2 < body.len() {
+    if out.len() < 3 || (out.len() - 3) / 2 < body.len() {
         return;
     }
     let at = 2 * body.len();
@@ -50,35 +45,24 @@ pub fn write(body: &[u8], out: &mut [u8])
 pub fn one_number(kind: u8, w: u16, out: &mut [u8])
     ensures { out.new ≡ line_over (kind ∷ word_bytes w) out.old }
 {
-    let body = [kind, digits::high_byte(w), digits::low_byte(w)];
-    write(&body, out);
+    let [high, low] = w.to_be_bytes();
+    write(&[kind, high, low], out);
 }
 
 // The line of a kind and two numbers.
 pub fn two_numbers(kind: u8, x: u16, y: u16, out: &mut [u8])
     ensures { out.new ≡ line_over (kind ∷ word_bytes x ++ word_bytes y) out.old }
 {
-    let body = [
-        kind,
-        digits::high_byte(x),
-        digits::low_byte(x),
-        digits::high_byte(y),
-        digits::low_byte(y),
-    ];
-    write(&body, out);
+    let [x_high, x_low] = x.to_be_bytes();
+    let [y_high, y_low] = y.to_be_bytes();
+    write(&[kind, x_high, x_low, y_high, y_low], out);
 }
 
 // The line of a kind, two numbers and a byte.
 pub fn two_numbers_and_byte(kind: u8, x: u16, y: u16, b: u8, out: &mut [u8])
     ensures { out.new ≡ line_over (kind ∷ word_bytes x ++ word_bytes y ++ b ∷ []) out.old }
 {
-    let body = [
-        kind,
-        digits::high_byte(x),
-        digits::low_byte(x),
-        digits::high_byte(y),
-        digits::low_byte(y),
-        b,
-    ];
-    write(&body, out);
+    let [x_high, x_low] = x.to_be_bytes();
+    let [y_high, y_low] = y.to_be_bytes();
+    write(&[kind, x_high, x_low, y_high, y_low, b], out);
 }

@@ -4,6 +4,4 @@ use Rattle.file_frames.specs.FrameLaws.{check_unique}
 use Rattle.file_frames.proofs.check.check_byte.Goals as goal
 
 pub returns : goal.returns
-returns c =
-    check_unique c.args.f.now c.wrapping_sub_u8.result (omega arith)
-    (omega arith)
+returns c = check_unique c.args.f.now _ (omega arith) (omega arith)

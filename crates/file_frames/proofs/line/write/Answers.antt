@@ -1,20 +1,16 @@
 -- Where the line fits, its parts are laid down one after the other.
-use Rattle.std.proofs.Common.{sym, arith, length-set, rules}
+use Rattle.std.proofs.Common.{sym, arith}
 use Rattle.file_frames.specs.FrameRests.{line_over-short, line-laid}
 use Rattle.file_frames.proofs.line.write.Goals as goal
+use Rattle.file_frames.proofs.line.write.Goals.{then-out-lt3-via-then-out-lt3, then-out-lt3-via-else-out-lt3+then-out-body}
 
 pub returns-then-out-lt3 : goal.returns-then-out-lt3
 returns-then-out-lt3 c =
     let a = c.args in
-    sym (line_over-short a.body.now a.out.now (omega arith))
-
-pub returns-then-out-body : goal.returns-then-out-body
-returns-then-out-body c =
-    let a = c.args in
-    sym (line_over-short a.body.now a.out.now (omega arith))
-
-pub shape_of-out : goal.shape_of-out
-shape_of-out c = simp length-set (search rules)
+    elim c.then-out-lt3.branch [
+      | then-out-lt3-via-then-out-lt3 w ↦ sym (line_over-short a.body.now a.out.now (omega arith))
+      | then-out-lt3-via-else-out-lt3+then-out-body w ↦ sym (line_over-short a.body.now a.out.now (omega arith))
+    ]
 
 pub returns : goal.returns
 returns c =
