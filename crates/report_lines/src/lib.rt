@@ -14,13 +14,13 @@ mod rows;
 pub use lines::{head_line, tail_line};
 
 // The line of unit `v`.
-fn unit_at<'a>(
-    pairs: &'a [u16],
+fn unit_at(
+    pairs: &[u16],
     v: u16,
-    color: &'a [u16],
-    parent: &'a [u16],
-    place: &'a [u16],
-    singles: &'a [u8],
+    color: &[u16],
+    parent: &[u16],
+    place: &[u16],
+    singles: &[u8],
     out: &mut [u8],
 )
     requires { (pairs.now ≡ pair_table) × (23 ≤ length out.old) }
@@ -37,12 +37,12 @@ fn unit_at<'a>(
 }
 
 // The lines of all units; nothing where they do not fit.
-pub fn unit_lines<'a>(
+pub fn unit_lines(
     units: u16,
-    color: &'a [u16],
-    parent: &'a [u16],
-    place: &'a [u16],
-    singles: &'a [u8],
+    color: &[u16],
+    parent: &[u16],
+    place: &[u16],
+    singles: &[u8],
     out: &mut [u8],
 )
     ensures { out.new ≡ lines_over 23 units
@@ -53,16 +53,14 @@ pub fn unit_lines<'a>(
         return;
     }
     let pairs = pairs::table();
-    let mut v = 0;
-    while v < units {
+    for v in 0..units {
         let at = 23 * (v as usize);
         unit_at(&pairs, v, color, parent, place, singles, &mut out[at..]);
-        v += 1;
     }
 }
 
 // The line of link `j`.
-fn link_at<'a>(pairs: &'a [u16], j: u16, label: &'a [u16], lones: &'a [u8], out: &mut [u8])
+fn link_at(pairs: &[u16], j: u16, label: &[u16], lones: &[u8], out: &mut [u8])
     requires { (pairs.now ≡ pair_table) × (15 ≤ length out.old) }
     ensures { out.new ≡ line_over (label_row label.now lones.now j)
         out.old }
@@ -74,7 +72,7 @@ fn link_at<'a>(pairs: &'a [u16], j: u16, label: &'a [u16], lones: &'a [u8], out:
 }
 
 // The lines of all links; nothing where they do not fit.
-pub fn link_lines<'a>(links: u16, label: &'a [u16], lones: &'a [u8], out: &mut [u8])
+pub fn link_lines(links: u16, label: &[u16], lones: &[u8], out: &mut [u8])
     ensures { out.new ≡ lines_over 15 links (label_row label.now lones.now)
         out.old }
 {
@@ -82,10 +80,8 @@ pub fn link_lines<'a>(links: u16, label: &'a [u16], lones: &'a [u8], out: &mut [
         return;
     }
     let pairs = pairs::table();
-    let mut j = 0;
-    while j < links {
+    for j in 0..links {
         let at = 15 * (j as usize);
         link_at(&pairs, j, label, lones, &mut out[at..]);
-        j += 1;
     }
 }

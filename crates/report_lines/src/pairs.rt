@@ -3,14 +3,14 @@ ghost use Rattle.std.specs.Prelude.{◌≡◌, ◌+◌, ◌-◌, ◌/◌, ◌%�
 ghost use Rattle.file_frames.specs.Frame.{digit_of, LF};
 ghost use Rattle.report_lines.specs.Pairs.{pair_of, pair_table, hex_at, word_hex_at};
 
-use file_frames::{digits, line};
+use file_frames::line;
 
 // The character of a digit, without a branch: six more carry a letter over 16.
 fn digit(d: u16) -> u16
     requires { d < 16 }
     ensures { result ≡ digit_of d }
 {
-    48 + d + 7 * ((d + 6) / 16)
+    b'0' as u16 + d + 7 * ((d + 6) / 16)
 }
 
 // The two characters of a byte in one word, the first in its low byte.
@@ -26,10 +26,8 @@ pub(crate) fn table() -> [u16; 256]
     ensures { result ≡ pair_table }
 {
     let mut pairs = [0u16; 256];
-    let mut b = 0u16;
-    while b < 256 {
+    for b in 0..256u16 {
         pairs[b as usize] = pair(b);
-        b += 1;
     }
     pairs
 }
@@ -39,9 +37,9 @@ pub(crate) fn put(pairs: &[u16], b: u8, at: usize, out: &mut [u8])
     requires { (pairs.now ≡ pair_table) × (at + 2 ≤ length out.old) }
     ensures { out.new ≡ hex_at at b out.old }
 {
-    let p = pairs[b as usize];
-    out[at] = digits::low_byte(p);
-    out[at + 1] = digits::high_byte(p);
+    let [first, second] = pairs[b as usize].to_le_bytes();
+    out[at] = first;
+    out[at + 1] = second;
 }
 
 // The characters of number `w`, at `at`.
@@ -49,8 +47,9 @@ pub(crate) fn put_word(pairs: &[u16], w: u16, at: usize, out: &mut [u8])
     requires { (pairs.now ≡ pair_table) × (at + 4 ≤ length out.old) }
     ensures { out.new ≡ word_hex_at at w out.old }
 {
-    put(pairs, digits::high_byte(w), at, out);
-    put(pairs, digits::low_byte(w), at + 2, out);
+    let [high, low] = w.to_be_bytes();
+    put(pairs, high, at, out);
+    put(pairs, low, at + 2, out);
 }
 
 // The byte that brings a sum to 0, and the line feed, at `at`.
@@ -58,6 +57,6 @@ pub(crate) fn close(pairs: &[u16], sum: u8, at: usize, out: &mut [u8])
     requires { (pairs.now ≡ pair_table) × (at + 3 ≤ length out.old) }
     ensures { out.new ≡ slice_set (hex_at at ((256 - sum) % 256) out.old) (at + 2) LF }
 {
-    put(pairs, std::num::wrapping_sub_u8(0, sum), at, out);
+    put(pairs, 0u8.wrapping_sub(sum), at, out);
     out[at + 2] = line::LF;
 }

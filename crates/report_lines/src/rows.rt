@@ -6,20 +6,14 @@ ghost use Rattle.file_frames.specs.Bodies.{unit_body, label_body};
 ghost use Rattle.report_lines.specs.Pairs.{pair_table};
 
 use super::pairs;
-use file_frames::{digits, kinds};
+use file_frames::kinds;
 
-// The sum with one byte more, in eight bits.
-fn with_byte(sum: u8, b: u8) -> u8
-    ensures { result ≡ (sum + b) % 256 }
-{
-    std::num::wrapping_add_u8(sum, b)
-}
-
-// The sum with both bytes of a number more.
+// The sum with both bytes of a number more, in eight bits.
 fn with_word(sum: u8, w: u16) -> u8
     ensures { result ≡ (sum + w / 256 % 256 + w % 256) % 256 }
 {
-    with_byte(with_byte(sum, digits::high_byte(w)), digits::low_byte(w))
+    let [high, low] = w.to_be_bytes();
+    sum.wrapping_add(high).wrapping_add(low)
 }
 
 // The sum of the bytes of a unit's line.
@@ -27,14 +21,14 @@ fn unit_sum(unit: u16, color: u16, parent: u16, place: u16, single: u8) -> u8
     ensures { result ≡ sum_of (unit_body unit color parent place single) % 256 }
 {
     let named = with_word(with_word(kinds::UNIT, unit), color);
-    with_byte(with_word(with_word(named, parent), place), single)
+    with_word(with_word(named, parent), place).wrapping_add(single)
 }
 
 // The sum of the bytes of a link's line.
 fn label_sum(position: u16, label: u16, lone: u8) -> u8
     ensures { result ≡ sum_of (label_body position label lone) % 256 }
 {
-    with_byte(with_word(with_word(kinds::LABEL, position), label), lone)
+    with_word(with_word(kinds::LABEL, position), label).wrapping_add(lone)
 }
 
 // 12: unit, colour, parent, place, and 1 for a single point, else 0.

@@ -8,5 +8,3 @@ invariant-loop-j l =
     (l.j ≤ l.links) × (length l.out ≡ length l.initial.out)
     × (l.out ≡ lines_of l.j (label_row l.label l.lones) ++ drop (15 * l.j) l.initial.out)
 
-abbrev pub decreases-loop-j : goal.decreases-loop-j
-decreases-loop-j l = l.links - l.j

@@ -8,5 +8,3 @@ invariant-loop-v l =
     (l.v ≤ l.units) × (length l.out ≡ length l.initial.out)
     × (l.out ≡ lines_of l.v (unit_row l.color l.parent l.place l.singles) ++ drop (23 * l.v) l.initial.out)
 
-abbrev pub decreases-loop-v : goal.decreases-loop-v
-decreases-loop-v l = l.units - l.v

@@ -1,6 +1,5 @@
 -- The characters of the bytes passed are laid down, and the rest is as it was.
-use Rattle.std.proofs.Common.{◌≡◌, ℕ, List, [], ◌++◌, length, refl, ◌∙◌, arith, rules}
-use lib.Seq.{take-length}
+use Rattle.std.proofs.Common.{◌≡◌, ℕ, List, [], ◌++◌, refl, arith, rules}
 use Rattle.file_frames.specs.Frame.{hexes_of}
 use Rattle.file_frames.specs.FrameRests.{hexes_more}
 use Rattle.file_frames.proofs.line.put_bytes.Goals as goal
@@ -22,9 +21,3 @@ loop-i-preserved c =
         c.loop-i.invariant.2,
       ) (hexes_more a.f.now a.out.now c.loop-i.i (search rules) (search rules)),
     )
-
-pub returns : goal.returns
-returns c =
-    let a = c.args in
-    let e : c.loop-i.i ≡ length a.f.now = omega arith in
-    c.loop-i.invariant.2 ∙ rw (e, take-length a.f.now)

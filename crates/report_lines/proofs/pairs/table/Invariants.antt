@@ -6,5 +6,3 @@ use Rattle.report_lines.proofs.pairs.table.Given as goal
 abbrev pub invariant-loop-b : goal.invariant-loop-b
 invariant-loop-b l = (l.b ≤ 256) × (l.pairs ≡ pairs_to l.b)
 
-abbrev pub decreases-loop-b : goal.decreases-loop-b
-decreases-loop-b l = 256 - l.b

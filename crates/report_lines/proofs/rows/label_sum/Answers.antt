@@ -1,9 +1,0 @@
--- Part by part.
-use Rattle.report_lines.specs.Pairs.{label_sum}
-use Rattle.report_lines.proofs.rows.label_sum.Goals as goal
-
-pub returns : goal.returns
-returns c =
-    let a = c.args in
-    label_sum a.position a.label a.lone c.with_word.result c.with_word-2.result c.with_byte.result
-    c.with_word.ensures c.with_word-2.ensures c.with_byte.ensures
