@@ -1,5 +1,5 @@
 -- The lines passed are laid down, and the rest is as it was.
-use Rattle.std.proofs.Common.{◌≡◌, ◌+◌, ◌-◌, ◌*◌, sym, refl, arith, length-drop, rules}
+use Rattle.std.proofs.Common.{◌≡◌, ◌+◌, ◌*◌, sym, refl, arith, length-drop, rules}
 use Rattle.base_lists.specs.Lent.{lent-rest}
 use Rattle.report_lines.specs.Lines.{label_row, lines_over-fits, lines_over-short, length-lines, lines_next}
 use Rattle.report_lines.proofs.link_lines.Goals as goal

@@ -1,5 +1,5 @@
 -- Entry by entry.
-use Rattle.std.proofs.Common.{◌-◌, length, ap, ◌∙◌, le_antisymm, arith, rules}
+use Rattle.std.proofs.Common.{length, ap, ◌∙◌, le_antisymm, arith, rules}
 use Rattle.report_lines.specs.Pairs.{pairs_to, pairs-none, pairs-more, length_pairs}
 use Rattle.report_lines.proofs.pairs.table.Goals as goal
 
