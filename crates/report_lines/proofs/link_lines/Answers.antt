@@ -1,6 +1,5 @@
 -- The lines passed are laid down, and the rest is as it was.
-use Rattle.std.proofs.Common.{◌≡◌, ◌+◌, ◌*◌, sym, refl, arith, length-drop, rules}
-use Rattle.base_lists.specs.Lent.{lent-rest}
+use Rattle.std.proofs.Common.{◌≡◌, ◌+◌, ◌*◌, sym, refl, arith, rules}
 use Rattle.report_lines.specs.Lines.{label_row, lines_over-fits, lines_over-short, length-lines, lines_next}
 use Rattle.report_lines.proofs.link_lines.Goals as goal
 
@@ -8,19 +7,6 @@ pub returns-then-out-links : goal.returns-then-out-links
 returns-then-out-links c =
     let a = c.args in
     sym (lines_over-short 15 a.links (label_row a.label.now a.lones.now) a.out.now c.if-out-links.true)
-
-pub link_at-requires : goal.link_at-requires
-link_at-requires c =
-    let at = 15 * c.loop-j.j in (
-      c.table-pairs.ensures,
-      rw (lent-rest at c.loop-j.out) (omega (
-        arith,
-        length-drop at c.loop-j.out,
-        c.loop-j.invariant.1,
-        c.if-out-links.false,
-        c.loop-j-test.true,
-      )),
-    )
 
 pub loop-j-preserved : goal.loop-j-preserved
 loop-j-preserved c =

@@ -1,6 +1,5 @@
 -- The lines passed are laid down, and the rest is as it was.
-use Rattle.std.proofs.Common.{◌≡◌, ◌+◌, ◌*◌, sym, refl, arith, length-drop, rules}
-use Rattle.base_lists.specs.Lent.{lent-rest}
+use Rattle.std.proofs.Common.{◌≡◌, ◌+◌, ◌*◌, sym, refl, arith, rules}
 use Rattle.report_lines.specs.Lines.{unit_row, lines_over-fits, lines_over-short, length-lines, lines_next}
 use Rattle.report_lines.proofs.unit_lines.Goals as goal
 
@@ -9,19 +8,6 @@ returns-then-out-units c =
     let a = c.args in
     sym (lines_over-short 23 a.units (unit_row a.color.now a.parent.now a.place.now a.singles.now)
     a.out.now c.if-out-units.true)
-
-pub unit_at-requires : goal.unit_at-requires
-unit_at-requires c =
-    let at = 23 * c.loop-v.v in (
-      c.table-pairs.ensures,
-      rw (lent-rest at c.loop-v.out) (omega (
-        arith,
-        length-drop at c.loop-v.out,
-        c.loop-v.invariant.1,
-        c.if-out-units.false,
-        c.loop-v-test.true,
-      )),
-    )
 
 pub loop-v-preserved : goal.loop-v-preserved
 loop-v-preserved c =
