@@ -1,6 +1,6 @@
 -- Folds over the bits of numbers: the bits that all of them have are no more than any one, and no one is more than the
 -- bits that any has.
-use Rattle.std.specs.Prelude.{◌≡◌, ℕ, zero, suc, ◌+◌, ◌*◌, ◌/◌, ◌%◌, ◌<◌, ◌≤◌, min, max, ◌⊎◌, bit_and, bit_or, refl}
+use Rattle.std.specs.Prelude.{◌≡◌, ℕ, zero, suc, ◌/◌, ◌%◌, ◌<◌, ◌≤◌, min, max, ◌⊎◌, bit_and, bit_or, refl}
 use Rattle.std.proofs.Common.{ap, ◌∙◌, inl, inr, le_refl, not-suc-le-zero, arith}
 use Rattle.std.proofs.Math.Nat.{le_step}
 use Rattle.std.proofs.Math.Decide.{dec_lt}

@@ -4,7 +4,6 @@ ghost use Rattle.spec_rules.specs.Labels.{lone};
 ghost use Rattle.report_flags.specs.Flags.{flag_table};
 ghost use Rattle.report_flags.specs.Sharing.{sharing, counted, lookup, Shared};
 
-use super::flags;
 use table::ABSENT;
 
 // How many links have the label `x`.
@@ -12,11 +11,8 @@ fn sharing(links: u16, label: &[u16], x: u16) -> u16
     ensures { result ≡ sharing links label.now x }
 {
     let mut n = 0;
-    let mut k = 0;
-    while k < links {
-        let one = base_choice::one_if(base_slices::word(label, k as usize) == x);
-        n += one;
-        k += 1;
+    for k in 0..links {
+        n += u16::from(base_slices::word(label, k as usize) == x);
     }
     n
 }
@@ -32,7 +28,7 @@ pub fn lone(links: u16, label: &[u16], j: u16) -> bool
 fn count_in(bucket: &mut [u16], q: u16)
     ensures { bucket.new ≡ counted bucket.old q }
 {
-    let more = std::num::wrapping_add_u16(base_slices::word(bucket, q as usize), 1);
+    let more = base_slices::word(bucket, q as usize).wrapping_add(1);
     base_slices::put(bucket, q as usize, more);
 }
 
@@ -43,32 +39,29 @@ fn count_labels(links: u16, label: &[u16], bucket: &mut [u16]) -> u16
     ensures absent { result ≡ sharing links label.now 65535 }
 {
     let mut absent = 0;
-    let mut k = 0;
-    while k < links {
+    for k in 0..links {
         let q = base_slices::word(label, k as usize);
-        k += 1;
         if q < 1024 {
             count_in(bucket, q);
-            continue;
+        } else {
+            absent += u16::from(q == ABSENT);
         }
-        let one = base_choice::one_if(q == ABSENT);
-        absent += one;
     }
     absent
 }
 
 // The count of the label `x` from the buckets, and from `absent` for the absent label; a label that no state holds is
 // counted.
-fn look_up<'a>(links: u16, label: &'a [u16], bucket: &'a [u16], absent: u16, x: u16) -> u16
+fn look_up(links: u16, label: &[u16], bucket: &[u16], absent: u16, x: u16) -> u16
     ensures { result ≡ lookup links label.now bucket.now absent x }
 {
     if x < 1024 {
-        return base_slices::word(bucket, x as usize);
+        base_slices::word(bucket, x as usize)
+    } else if x == ABSENT {
+        absent
+    } else {
+        sharing(links, label, x)
     }
-    if x == ABSENT {
-        return absent;
-    }
-    sharing(links, label, x)
 }
 
 // The flags of all lone links.
@@ -78,12 +71,10 @@ pub fn lones(links: u16, label: &[u16]) -> [u8; 1024]
     let mut bucket = [0u16; 1024];
     let absent = count_labels(links, label, &mut bucket);
     let mut table = [0u8; 1024];
-    let mut j = 0;
-    while j < links {
+    for j in 0..links {
         let x = base_slices::word(label, j as usize);
-        let alone = flags::flag(look_up(links, label, &bucket, absent, x) == 1);
+        let alone = u8::from(look_up(links, label, &bucket, absent, x) == 1);
         base_slices::put_byte(&mut table, j as usize, alone);
-        j += 1;
     }
     table
 }

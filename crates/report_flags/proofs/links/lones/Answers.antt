@@ -1,8 +1,9 @@
 -- One flag more at a time.
-use Rattle.std.proofs.Common.{◌≡◌, ℕ, ◌-◌, cond, refl, ap, ◌∙◌, arith, rules}
+use Rattle.std.proofs.Common.{◌≡◌, ℕ, cond, refl, ap, ◌∙◌, arith, rules}
 use Rattle.spec_rules.specs.Labels.{lone}
 use Rattle.report_flags.specs.Flags.{flag_table, flags_none, flags_more}
 use Rattle.report_flags.specs.Sharing.{shared_none, lookup-lone}
+use Rattle.report_flags.proofs.Ones.{one}
 use Rattle.report_flags.proofs.links.lones.Goals as goal
 
 pub count_labels-absent-requires : goal.count_labels-absent-requires
@@ -23,7 +24,8 @@ loop-j-preserved c =
       search rules,
       rw (
         c.put_byte.ensures,
-        c.flag-alone.ensures,
+        c.from-alone.ensures,
+        one _,
         c.look_up.ensures,
         c.word-x.ensures,
         lookup-lone a.links a.label.now counts.new.bucket counts.ensures.buckets counts.result

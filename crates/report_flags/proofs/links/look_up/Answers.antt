@@ -11,6 +11,6 @@ pub returns-then-x-eq-ABSENT : goal.returns-then-x-eq-ABSENT
 unfolding lookup
 returns-then-x-eq-ABSENT c = rw (le-ltb _ _ c.if-x-lt1024.false, eq-eqb _ _ c.if-x-eq-ABSENT.true)
 
-pub returns : goal.returns
+pub returns-else-x-eq-ABSENT : goal.returns-else-x-eq-ABSENT
 unfolding lookup
-returns c = rw (le-ltb _ _ c.if-x-lt1024.false, ne_eqb _ _ c.if-x-eq-ABSENT.false) c.sharing.ensures
+returns-else-x-eq-ABSENT c = rw (le-ltb _ _ c.if-x-lt1024.false, ne_eqb _ _ c.if-x-eq-ABSENT.false) c.sharing.ensures

@@ -1,5 +1,5 @@
 -- One link more at a time.
-use Rattle.std.proofs.Common.{◌≡◌, ◌-◌, sym, ◌∙◌, arith, rules}
+use Rattle.std.proofs.Common.{◌≡◌, sym, ◌∙◌, arith, rules}
 use Rattle.report_flags.specs.LabelBits.{label_bits-none, label_bits-more}
 use Rattle.report_flags.proofs.units.label_bits.Goals as goal
 

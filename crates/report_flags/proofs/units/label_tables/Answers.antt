@@ -1,5 +1,5 @@
 -- One link more at a time.
-use Rattle.std.proofs.Common.{◌≡◌, ◌-◌, true, false, arith, rules}
+use Rattle.std.proofs.Common.{◌≡◌, true, false, arith, rules}
 use Rattle.report_flags.specs.LabelBits.{bits-more}
 use Rattle.report_flags.proofs.units.label_tables.Goals as goal
 

@@ -7,4 +7,4 @@ pub returns : goal.returns
 returns c =
     let a = c.args in
     rw (c.label_bits-2.ensures, c.label_bits.ensures)
-    (single-bits a.links a.ends.now a.label.now a.u (λ i. omega (arith, c.shared_slice_known-2-1.given i)))
+    (single-bits a.links a.ends.now a.label.now a.u (λ i. omega (arith, c.type_inv.label i)))

@@ -1,8 +1,9 @@
 -- One flag more at a time.
-use Rattle.std.proofs.Common.{◌≡◌, ℕ, ◌-◌, true, false, ap, ◌∙◌, arith, rules}
+use Rattle.std.proofs.Common.{◌≡◌, ℕ, true, false, ap, ◌∙◌, arith, rules}
 use Rattle.spec_rules.specs.Labels.{single}
 use Rattle.report_flags.specs.Flags.{flag_table, flags_none, flags_more}
 use Rattle.report_flags.specs.LabelBits.{bits_none, single-bits}
+use Rattle.report_flags.proofs.Ones.{one}
 use Rattle.report_flags.proofs.units.singles.Goals as goal
 
 pub label_tables-requires : goal.label_tables-requires
@@ -23,7 +24,8 @@ loop-u-preserved c =
       search rules,
       rw (
         c.put_byte.ensures,
-        c.flag-meets.ensures,
+        c.from-meets.ensures,
+        one _,
         c.word-in-loop-u.ensures,
         c.word.ensures,
         c.loop-u.invariant.2,
@@ -33,7 +35,7 @@ loop-u-preserved c =
             c.label_tables.ensures.low.known u h,
             c.label_tables.ensures.high.known u h,
             single-bits a.links a.ends.now a.label.now u
-                (λ i. omega (arith, c.shared_slice_known-2-1.given i)),
+                (λ i. omega (arith, c.type_inv.label i)),
           ))),
     )
 
