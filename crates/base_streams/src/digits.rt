@@ -13,13 +13,7 @@ pub(crate) struct Digits {
 fn goes(value: u32, byte: u8) -> bool
     ensures { result ≡ goes value byte }
 {
-    if byte < 48 {
-        return false;
-    }
-    if 57 < byte {
-        return false;
-    }
-    value < 100000000
+    matches!(byte, b'0'..=b'9') && value < 100000000
 }
 
 // The number with a digit more.
@@ -27,7 +21,7 @@ fn more(value: u32, byte: u8) -> u32
     requires { (value < 100000000) × (48 ≤ byte) }
     ensures { result ≡ 10 * value + (byte - 48) }
 {
-    10 * value + (byte - 48) as u32
+    10 * value + u32::from(byte - b'0')
 }
 
 // The value of the digits from `at` on, and where they end.
@@ -48,14 +42,7 @@ pub(crate) fn read(stream: &[u8], at: usize) -> Digits
 pub(crate) fn closed(stream: &[u8], end: usize) -> bool
     ensures { result ≡ closed stream.now end }
 {
-    if stream.len() <= end {
-        return true;
-    }
-    let byte = base_slices::byte(stream, end);
-    if byte == 32 {
-        return true;
-    }
-    byte == 10
+    stream.len() <= end || matches!(base_slices::byte(stream, end), b' ' | b'\n')
 }
 
 // Past the space or the line feed.
@@ -69,13 +56,9 @@ pub(crate) fn after(stream: &[u8], end: usize) -> usize
 pub(crate) fn start(stream: &[u8], at: usize) -> usize
     ensures { result ≡ start stream.now at }
 {
-    if stream.len() <= at {
-        return at;
-    }
-    if base_slices::byte(stream, at) == 45 {
-        at + 1
-    } else {
-        at
+    match stream.get(at) {
+        Some(b'-') => at + 1,
+        _ => at,
     }
 }
 
@@ -85,5 +68,5 @@ pub(crate) fn signed(negative: bool, value: u32) -> i16
     ensures { result ≡ signed negative value }
 {
     let v = value as i16;
-    if negative { 0 - v } else { v }
+    if negative { -v } else { v }
 }

@@ -46,18 +46,14 @@ pub fn begin() -> Cursor
 pub fn ended(stream: &[u8], cursor: Cursor) -> bool
     ensures { result ≡ ended_at stream.now cursor }
 {
-    if cursor.fault {
-        return false;
-    }
-    stream.len() <= cursor.at
+    !cursor.fault && stream.len() <= cursor.at
 }
 
 // The next number: below 1,000,000,000, and not negative.
 pub fn next_number(stream: &[u8], cursor: Cursor) -> Number
     ensures { result ≡ number_at stream.now cursor }
 {
-    let from = cursor.at;
-    part(stream, cursor, from)
+    part(stream, cursor, cursor.at)
 }
 
 // The next level: from −32767 to 32767.
@@ -65,7 +61,7 @@ pub fn next_level(stream: &[u8], cursor: Cursor) -> Level
     ensures { result ≡ level_at stream.now cursor }
 {
     let at = cursor.at;
-    let negative = base_slices::byte(stream, at) == 45;
+    let negative = base_slices::byte(stream, at) == b'-';
     let number = part(stream, cursor, digits::start(stream, at));
     let after = number.cursor;
     let faulty = Level {

@@ -12,13 +12,10 @@ pub fn words(stream: &[u8], cursor: Cursor, count: u32, words: &mut [u16]) -> Cu
         ≡ over count (word_from stream.now cursor) words.old }
 {
     let mut c = cursor;
-    let mut i: u32 = 0;
-    while i < count {
+    for i in 0..count {
         let next = super::next_number(stream, c);
         base_slices::put(words, i as usize, (next.value % 65536) as u16);
-        let after = next.cursor;
-        c = after;
-        i += 1;
+        c = next.cursor;
     }
     c
 }
@@ -30,13 +27,10 @@ pub fn levels(stream: &[u8], cursor: Cursor, count: u32, levels: &mut [i16]) -> 
         ≡ over count (level_from stream.now cursor) levels.old }
 {
     let mut c = cursor;
-    let mut i: u32 = 0;
-    while i < count {
+    for i in 0..count {
         let next = super::next_level(stream, c);
         put_level(levels, i as usize, next.value);
-        let after = next.cursor;
-        c = after;
-        i += 1;
+        c = next.cursor;
     }
     c
 }

@@ -25,14 +25,12 @@ pub fn number(value: u32, at: usize, out: &mut [u8]) -> usize
         return at;
     }
     let mut power: u32 = 1000000000;
-    let mut k: u8 = 9;
     let mut end = at;
-    while k != 0 {
+    for i in 0..9u8 {
         end = digit(value, power, end, out);
-        power = power / 10;
-        k -= 1;
+        power /= 10;
     }
-    base_slices::put_byte(out, end, (value % 10) as u8 + 48);
+    base_slices::put_byte(out, end, (value % 10) as u8 + b'0');
     end + 1
 }
 
@@ -46,6 +44,6 @@ fn digit(value: u32, power: u32, at: usize, out: &mut [u8]) -> usize
     if value < power {
         return at;
     }
-    base_slices::put_byte(out, at, (value / power % 10) as u8 + 48);
+    base_slices::put_byte(out, at, (value / power % 10) as u8 + b'0');
     at + 1
 }

@@ -9,6 +9,3 @@ abbrev pub invariant-loop-i : goal.invariant-loop-i
 invariant-loop-i l =
     (l.i ≤ l.count) × (l.c ≡ after_levels l.i l.stream l.initial.c)
     × (l.levels ≡ over l.i (level_from l.stream l.initial.c) l.initial.levels)
-
-abbrev pub decreases-loop-i : goal.decreases-loop-i
-decreases-loop-i l = l.count - l.i
