@@ -1,7 +1,7 @@
 -- One flag more at a time.
-use Rattle.std.proofs.Common.{◌≡◌, ℕ, cond, refl, ap, ◌∙◌, arith, rules}
+use Rattle.std.proofs.Common.{cond, refl, rules}
 use Rattle.spec_rules.specs.Labels.{lone}
-use Rattle.report_flags.specs.Flags.{flag_table, flags_none, flags_more}
+use Rattle.report_flags.specs.Flags.{flags_none, flags_more}
 use Rattle.report_flags.specs.Sharing.{shared_none, lookup-lone}
 use Rattle.report_flags.proofs.Ones.{one}
 use Rattle.report_flags.proofs.links.lones.Goals as goal
@@ -33,9 +33,3 @@ loop-j-preserved c =
         c.loop-j.invariant.2,
       ) (flags_more 1024 j p (cond (p j) 1 0) (λ _. refl)),
     )
-
-pub returns : goal.returns
-returns c =
-    let a = c.args in
-    let e : c.loop-j.j ≡ a.links = omega arith in
-    c.loop-j.invariant.2 ∙ ap (λ (n : ℕ). flag_table 1024 n (lone a.links a.label.now)) e

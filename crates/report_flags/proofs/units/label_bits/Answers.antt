@@ -1,5 +1,5 @@
 -- One link more at a time.
-use Rattle.std.proofs.Common.{◌≡◌, sym, ◌∙◌, arith, rules}
+use Rattle.std.proofs.Common.{sym, ◌∙◌, rules}
 use Rattle.report_flags.specs.LabelBits.{label_bits-none, label_bits-more}
 use Rattle.report_flags.proofs.units.label_bits.Goals as goal
 
@@ -22,8 +22,3 @@ loop-j-preserved c =
       )
           (label_bits-more a.any c.loop-j.j a.ends.now a.label.now a.u),
     )
-
-pub returns : goal.returns
-returns c =
-    let e : c.loop-j.j ≡ c.args.links = omega arith in
-    rw e at c.loop-j.invariant.1

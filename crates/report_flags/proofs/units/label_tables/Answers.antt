@@ -1,5 +1,5 @@
 -- One link more at a time.
-use Rattle.std.proofs.Common.{◌≡◌, true, false, arith, rules}
+use Rattle.std.proofs.Common.{true, false, rules}
 use Rattle.report_flags.specs.LabelBits.{bits-more}
 use Rattle.report_flags.proofs.units.label_tables.Goals as goal
 
@@ -12,11 +12,3 @@ loop-j-preserved c =
       rw c.take_link-in-loop-j.ensures
           (bits-more true c.loop-j.j a.ends.now a.label.now c.loop-j.high c.loop-j.invariant.2),
     )
-
-pub returns : goal.returns
-returns c =
-    let e : c.loop-j.j ≡ c.args.links = omega arith in
-    record {
-      low = rw e at c.loop-j.invariant.1;
-      high = rw e at c.loop-j.invariant.2;
-    }

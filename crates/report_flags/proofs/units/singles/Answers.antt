@@ -1,7 +1,7 @@
 -- One flag more at a time.
-use Rattle.std.proofs.Common.{◌≡◌, ℕ, true, false, ap, ◌∙◌, arith, rules}
+use Rattle.std.proofs.Common.{true, false, arith, rules}
 use Rattle.spec_rules.specs.Labels.{single}
-use Rattle.report_flags.specs.Flags.{flag_table, flags_none, flags_more}
+use Rattle.report_flags.specs.Flags.{flags_none, flags_more}
 use Rattle.report_flags.specs.LabelBits.{bits_none, single-bits}
 use Rattle.report_flags.proofs.Ones.{one}
 use Rattle.report_flags.proofs.units.singles.Goals as goal
@@ -38,9 +38,3 @@ loop-u-preserved c =
                 (λ i. omega (arith, c.type_inv.label i)),
           ))),
     )
-
-pub returns : goal.returns
-returns c =
-    let a = c.args in
-    let e : c.loop-u.u ≡ a.units = omega arith in
-    c.loop-u.invariant.2 ∙ ap (λ (n : ℕ). flag_table 256 n (single a.links a.ends.now a.label.now)) e
