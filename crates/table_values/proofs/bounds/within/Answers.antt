@@ -2,4 +2,4 @@
 use Rattle.table_values.proofs.bounds.within.Goals as goal
 
 pub returns : goal.returns
-returns c = c.top.ensures _
+returns c = rw c.from.ensures (c.top.ensures _)

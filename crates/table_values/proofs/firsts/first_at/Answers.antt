@@ -1,5 +1,5 @@
 -- One item more at a time.
-use Rattle.std.proofs.Common.{◌-◌, refl, ◌∙◌, rules}
+use Rattle.std.proofs.Common.{refl, ◌∙◌, rules}
 use Rattle.spec_rules.specs.FirstLaws.{first_at, scan_more, scan_all}
 use Rattle.table_values.proofs.firsts.first_at.Goals as goal
 

@@ -1,5 +1,5 @@
 -- Entry by entry.
-use Rattle.std.proofs.Common.{ℕ, ◌-◌, refl, ◌∙◌, rules}
+use Rattle.std.proofs.Common.{ℕ, refl, ◌∙◌, rules}
 use Rattle.base_lists.specs.Rounds.{over-more, over-all}
 use Rattle.table_values.proofs.propagation.numbered.Goals as goal
 
