@@ -20,12 +20,12 @@ pub(crate) fn next_round(units: u16, parent: &[u16], next: [u16; 512]) -> [u16; 
 }
 
 // The same from the tables of the scan, a fixed number of reads for each.
-fn next_by<'a>(
+fn next_by(
     units: u16,
-    parent: &'a [u16],
-    eldest: &'a [u16],
-    later: &'a [u16],
-    past: &'a [u16],
+    parent: &[u16],
+    eldest: &[u16],
+    later: &[u16],
+    past: &[u16],
     next: [u16; 512],
 ) -> [u16; 512]
     requires parents { Parents units parent.now }
@@ -35,20 +35,16 @@ fn next_by<'a>(
     ensures { result ≡ next_round units parent.now next }
 {
     let mut new = next;
-    let mut v = 0;
-    while v < units {
+    for v in 0..units {
         let at = 2 * (v as usize);
-        let x = in_by(parent, eldest, past, v);
-        let y = out_by(parent, eldest, later, v);
-        new[at] = x;
-        new[at + 1] = y;
-        v += 1;
+        new[at] = in_by(parent, eldest, past, v);
+        new[at + 1] = out_by(parent, eldest, later, v);
     }
     new
 }
 
 // Of the arc into `v`. A root has none: what is read for it does not count.
-fn in_by<'a>(parent: &'a [u16], eldest: &'a [u16], past: &'a [u16], v: u16) -> u16
+fn in_by(parent: &[u16], eldest: &[u16], past: &[u16], v: u16) -> u16
     requires { (v < length parent.now) × (v < length eldest.now) × (v < length past.now) }
     ensures { result ≡ in_by parent.now eldest.now past.now v }
 {
@@ -60,7 +56,7 @@ fn in_by<'a>(parent: &'a [u16], eldest: &'a [u16], past: &'a [u16], v: u16) -> u
 }
 
 // Of the arc out of `v`.
-fn out_by<'a>(parent: &'a [u16], eldest: &'a [u16], later: &'a [u16], v: u16) -> u16
+fn out_by(parent: &[u16], eldest: &[u16], later: &[u16], v: u16) -> u16
     requires { (v < length parent.now) × (v < length later.now) }
     ensures { result ≡ out_by parent.now eldest.now later.now v }
 {
@@ -76,12 +72,8 @@ fn out_by<'a>(parent: &'a [u16], eldest: &'a [u16], later: &'a [u16], v: u16) ->
 fn turn_to(later: u16, eldest: u16, own: u16, u: u16) -> u16
     ensures { result ≡ turn_to later eldest own u }
 {
-    let greater = base_choice::least_of(later, base_choice::choose(u < own, own, ABSENT));
-    base_choice::choose(
-        greater == ABSENT,
-        base_choice::least_of(eldest, own),
-        greater,
-    )
+    let greater = later.min(base_choice::choose(u < own, own, ABSENT));
+    base_choice::choose(greater == ABSENT, eldest.min(own), greater)
 }
 
 // The arc from `v` to `w`: into `w` where `down`, else out of `v`.
@@ -89,7 +81,8 @@ fn arc_word(down: bool, v: u16, w: u16) -> u16
     ensures { result ≡ min (cond down (2 * w) (2 * v + 1)) ABSENT }
 {
     if down {
-        return table_values::word_of(2 * (w as u32));
+        table_values::word_of(2 * (w as u32))
+    } else {
+        table_values::word_of(2 * (v as u32) + 1)
     }
-    table_values::word_of(2 * (v as u32) + 1)
 }

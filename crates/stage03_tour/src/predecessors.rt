@@ -21,10 +21,10 @@ pub(crate) struct Begun {
 }
 
 // All three after the round.
-pub(crate) fn pred_round<'a>(
+pub(crate) fn pred_round(
     units: u16,
-    parent: &'a [u16],
-    next: &'a [u16; 512],
+    parent: &[u16],
+    next: &[u16; 512],
     pred: [u16; 512],
     jump: [u16; 512],
     sum: [u16; 512],
@@ -39,8 +39,7 @@ pub(crate) fn pred_round<'a>(
     let mut new_pred = pred;
     let mut new_jump = jump;
     let mut new_sum = sum;
-    let mut v = 0;
-    while v < units {
+    for v in 0..units {
         let at = 2 * (v as usize);
         let x = pred_in(parent, &child, &first, v);
         let y = pred_out(parent, &first, v);
@@ -51,7 +50,6 @@ pub(crate) fn pred_round<'a>(
         new_jump[at + 1] = y;
         new_sum[at] = z;
         new_sum[at + 1] = z;
-        v += 1;
     }
     Begun {
         pred: new_pred,
@@ -67,33 +65,25 @@ fn fill(count: u16, key: &[u16]) -> [u16; 512]
     ensures { (q : ℕ) → q < BUCKETS → get_or result q 0 ≡ first_at count key.now q }
 {
     let mut first = tables::blank_arcs();
-    let mut k = count;
-    while k > 0 {
-        k -= 1;
-        let at = k as usize;
-        let q = key[at];
-        tables::store(&mut first, q, k);
+    for k in (0..count).rev() {
+        tables::store(&mut first, key[k as usize], k);
     }
     first
 }
 
 // Of the arc into `v`: the arc that it follows, none where it starts its list, as a root's first child.
-fn pred_in<'a>(parent: &'a [u16], child: &'a [u16], first: &'a [u16], v: u16) -> u16
+fn pred_in(parent: &[u16], child: &[u16], first: &[u16], v: u16) -> u16
     requires { (v < length parent.now) × (2 * v < length first.now) }
     ensures { result ≡ into_by parent.now child.now first.now v }
 {
     let at = v as usize;
     let p = parent[at];
-    let starts = base_choice::both(tables::at(parent, p) == ABSENT, tables::at(child, p) == v);
-    base_choice::choose(
-        base_choice::both(p != ABSENT, !starts),
-        first[2 * at],
-        ABSENT,
-    )
+    let starts = (tables::at(parent, p) == ABSENT) & (tables::at(child, p) == v);
+    base_choice::choose((p != ABSENT) & !starts, first[2 * at], ABSENT)
 }
 
 // Of the arc out of `v`.
-fn pred_out<'a>(parent: &'a [u16], first: &'a [u16], v: u16) -> u16
+fn pred_out(parent: &[u16], first: &[u16], v: u16) -> u16
     requires { (v < length parent.now) × (2 * v + 1 < length first.now) }
     ensures { result ≡ pred_out parent.now first.now v }
 {

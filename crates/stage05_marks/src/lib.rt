@@ -22,12 +22,12 @@ pub struct Ran {
 }
 
 // Runs up to `budget` rounds of this stage.
-pub fn run<'a>(
+pub fn run(
     units: u16,
     budget: u16,
-    color: &'a [u16; 256],
-    parent: &'a [u16; 256],
-    pred: &'a [u16; 512],
+    color: &[u16; 256],
+    parent: &[u16; 256],
+    pred: &[u16; 512],
     clock: Clock,
     forward: [u16; 512],
     nd: [u16; 256],
@@ -71,18 +71,16 @@ pub fn run<'a>(
 fn forward_mark(arc: bool, own: u16, other: u16) -> u16
     ensures { result ≡ cond (arc && ltb own other) 1 0 }
 {
-    base_choice::choose(base_choice::both(arc, own < other), 1, 0)
+    base_choice::choose(arc & (own < other), 1, 0)
 }
 
 // Round one: the forward marks.
-fn mark<'a>(units: u16, parent: &'a [u16; 256], rank: &'a [u16; 512], forward: &mut [u16; 512])
+fn mark(units: u16, parent: &[u16; 256], rank: &[u16; 512], forward: &mut [u16; 512])
     requires { units ≤ 256 }
     ensures { forward.new
         ≡ forward_round units parent.now rank.now forward.old }
 {
-    let n = units as usize;
-    let mut v: usize = 0;
-    while v < n {
+    for v in 0..units as usize {
         let into = 2 * v;
         let out = into + 1;
         let arc = parent[v] != ABSENT;
@@ -90,16 +88,15 @@ fn mark<'a>(units: u16, parent: &'a [u16; 256], rank: &'a [u16; 512], forward: &
         let up = rank[out];
         forward[into] = forward_mark(arc, down, up);
         forward[out] = forward_mark(arc, up, down);
-        v += 1;
     }
 }
 
 // Round two: the descendants; of a root its component's units.
-fn descend<'a>(
+fn descend(
     units: u16,
-    color: &'a [u16; 256],
-    parent: &'a [u16; 256],
-    rank: &'a [u16; 512],
+    color: &[u16; 256],
+    parent: &[u16; 256],
+    rank: &[u16; 512],
     nd: &mut [u16; 256],
 )
     requires { units ≤ 256 }
@@ -108,14 +105,11 @@ fn descend<'a>(
 {
     let bucket = counts::equal_table(units, color);
     let absent = counts::count_at(false, units, color, ABSENT);
-    let n = units as usize;
-    let mut v: usize = 0;
-    while v < n {
+    for v in 0..units as usize {
         let into = 2 * v;
         let size = counts::count_by(false, units, color, &bucket, absent, color[v]);
         let span = table_values::half_span(rank[into], rank[into + 1]);
         nd[v] = base_choice::choose(parent[v] == ABSENT, size, span);
-        v += 1;
     }
 }
 
@@ -123,15 +117,15 @@ fn descend<'a>(
 fn second_sum(arc: bool, mark: u16) -> u16
     ensures { result ≡ cond (arc && not (eqb mark 0)) 1 0 }
 {
-    base_choice::choose(base_choice::both(arc, mark != 0), 1, 0)
+    base_choice::choose(arc & (mark != 0), 1, 0)
 }
 
 // Round two: the second ranking begins with the forward links and the tour's predecessors.
-fn second<'a>(
+fn second(
     units: u16,
-    parent: &'a [u16; 256],
-    pred: &'a [u16; 512],
-    forward: &'a [u16; 512],
+    parent: &[u16; 256],
+    pred: &[u16; 512],
+    forward: &[u16; 512],
     jump: &mut [u16; 512],
     sum: &mut [u16; 512],
 )
@@ -140,9 +134,7 @@ fn second<'a>(
     ensures sums { sum.new
         ≡ second_sums units parent.now forward.now sum.old }
 {
-    let n = units as usize;
-    let mut v: usize = 0;
-    while v < n {
+    for v in 0..units as usize {
         let into = 2 * v;
         let out = into + 1;
         let arc = parent[v] != ABSENT;
@@ -150,6 +142,5 @@ fn second<'a>(
         jump[out] = pred[out];
         sum[into] = second_sum(arc, forward[into]);
         sum[out] = second_sum(arc, forward[out]);
-        v += 1;
     }
 }

@@ -24,14 +24,14 @@ pub struct Ran {
 }
 
 // Runs up to `budget` rounds of this stage.
-pub fn run<'a>(
+pub fn run(
     units: u16,
     links: u16,
     budget: u16,
-    ends: &'a [u16; 2048],
-    parent: &'a [u16; 256],
-    nd: &'a [u16; 256],
-    pre: &'a [u16; 256],
+    ends: &[u16; 2048],
+    parent: &[u16; 256],
+    nd: &[u16; 256],
+    pre: &[u16; 256],
     clock: Clock,
     low: [u16; 256],
     high: [u16; 256],

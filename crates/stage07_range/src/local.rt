@@ -31,9 +31,9 @@ fn hear(greatest: bool, pre: &[u16; 256], a: u16, b: u16, t: &mut [u16; 256])
 }
 
 // The same for low and for high, if the link is off the tree.
-fn hear_off<'a>(
-    parent: &'a [u16; 256],
-    pre: &'a [u16; 256],
+fn hear_off(
+    parent: &[u16; 256],
+    pre: &[u16; 256],
     a: u16,
     b: u16,
     low: &mut [u16; 256],
@@ -49,7 +49,7 @@ fn hear_off<'a>(
 {
     let at_a = a as usize;
     let at_b = b as usize;
-    let off = base_choice::both(parent[at_a] != b, parent[at_b] != a);
+    let off = (parent[at_a] != b) & (parent[at_b] != a);
     if !off {
         return;
     }
@@ -58,13 +58,7 @@ fn hear_off<'a>(
 }
 
 // The local values, from the places.
-fn locals<'a>(
-    n: u16,
-    links: u16,
-    ends: &'a [u16],
-    parent: &'a [u16; 256],
-    pre: &'a [u16; 256],
-) -> Local
+fn locals(n: u16, links: u16, ends: &[u16], parent: &[u16; 256], pre: &[u16; 256]) -> Local
     requires { (n ≤ 256) × EndsWithin n links ends.now }
     ensures low { result.low ≡ local_table false links ends.now parent.now
         pre.now }
@@ -73,23 +67,19 @@ fn locals<'a>(
 {
     let mut low = *pre;
     let mut high = *pre;
-    let mut j = 0;
-    while j < links {
+    for j in 0..links {
         let at = 2 * (j as usize);
-        let a = ends[at];
-        let b = ends[at + 1];
-        hear_off(parent, pre, a, b, &mut low, &mut high);
-        j += 1;
+        hear_off(parent, pre, ends[at], ends[at + 1], &mut low, &mut high);
     }
     Local { low, high }
 }
 
 // The segments begin with the local values of their places; 0 where no unit is.
-fn segments_begin<'a>(
+fn segments_begin(
     n: u16,
-    first: &'a [u16; 512],
-    lows: &'a [u16; 256],
-    highs: &'a [u16; 256],
+    first: &[u16; 512],
+    lows: &[u16; 256],
+    highs: &[u16; 256],
     least: &mut [u16; 256],
     greatest: &mut [u16; 256],
 )
@@ -99,13 +89,10 @@ fn segments_begin<'a>(
     ensures greatest { greatest.new
         ≡ over n (local_by first.now highs.now) greatest.old }
 {
-    let count = n as usize;
-    let mut q: usize = 0;
-    while q < count {
+    for q in 0..n as usize {
         let u = first[q];
         least[q] = tables::at(lows, u);
         greatest[q] = tables::at(highs, u);
-        q += 1;
     }
 }
 
@@ -113,7 +100,7 @@ fn segments_begin<'a>(
 fn end_place(own: u16, count: u16) -> u32
     ensures { result ≡ own + count }
 {
-    own as u32 + count as u32
+    u32::from(own) + u32::from(count)
 }
 
 // The unit at the place before `end`, absent where that is none of `n` places.
@@ -121,24 +108,21 @@ fn unit_before(n: u16, first: &[u16; 512], end: u32) -> u16
     requires { n ≤ 256 }
     ensures { result ≡ cond (leb 1 end && leb end n) (get_or first.now (end - 1) 0) 65535 }
 {
-    if end == 0 {
-        return ABSENT;
+    if end == 0 || (n as u32) < end {
+        ABSENT
+    } else {
+        first[(end - 1) as usize]
     }
-    if (n as u32) < end {
-        return ABSENT;
-    }
-    let at = (end - 1) as usize;
-    first[at]
 }
 
 // Units begin with the local values of their last descendants' places.
-fn units_begin<'a>(
+fn units_begin(
     n: u16,
-    first: &'a [u16; 512],
-    lows: &'a [u16; 256],
-    highs: &'a [u16; 256],
-    nd: &'a [u16; 256],
-    pre: &'a [u16; 256],
+    first: &[u16; 512],
+    lows: &[u16; 256],
+    highs: &[u16; 256],
+    nd: &[u16; 256],
+    pre: &[u16; 256],
     low: &mut [u16; 256],
     high: &mut [u16; 256],
 )
@@ -150,13 +134,10 @@ fn units_begin<'a>(
         ≡ over n (begin_by n first.now highs.now nd.now pre.now)
         high.old }
 {
-    let count = n as usize;
-    let mut v: usize = 0;
-    while v < count {
+    for v in 0..n as usize {
         let u = unit_before(n, first, end_place(pre[v], nd[v]));
         low[v] = tables::at(lows, u);
         high[v] = tables::at(highs, u);
-        v += 1;
     }
 }
 
@@ -164,17 +145,14 @@ fn units_begin<'a>(
 fn last_place(end: u32) -> u16
     ensures { result ≡ min (end - 1) 2048 }
 {
-    if end == 0 {
-        return 0;
-    }
-    table_values::bounded(end - 1)
+    table_values::bounded(end.saturating_sub(1))
 }
 
 // Little begins at a unit's place, big at that of its last descendant.
-fn ends_begin<'a>(
+fn ends_begin(
     n: u16,
-    nd: &'a [u16; 256],
-    pre: &'a [u16; 256],
+    nd: &[u16; 256],
+    pre: &[u16; 256],
     little: &mut [u16; 256],
     big: &mut [u16; 256],
 )
@@ -182,24 +160,20 @@ fn ends_begin<'a>(
     ensures little { little.new ≡ little_first n pre.now little.old }
     ensures big { big.new ≡ big_first n nd.now pre.now big.old }
 {
-    let count = n as usize;
-    let mut v: usize = 0;
-    while v < count {
-        let own = pre[v];
-        little[v] = own;
-        big[v] = last_place(end_place(own, nd[v]));
-        v += 1;
+    for v in 0..n as usize {
+        little[v] = pre[v];
+        big[v] = last_place(end_place(pre[v], nd[v]));
     }
 }
 
 // All tables after the first round.
-pub(crate) fn begin<'a>(
+pub(crate) fn begin(
     n: u16,
     links: u16,
-    ends: &'a [u16; 2048],
-    parent: &'a [u16; 256],
-    nd: &'a [u16; 256],
-    pre: &'a [u16; 256],
+    ends: &[u16; 2048],
+    parent: &[u16; 256],
+    nd: &[u16; 256],
+    pre: &[u16; 256],
     low: &mut [u16; 256],
     high: &mut [u16; 256],
     little: &mut [u16; 256],

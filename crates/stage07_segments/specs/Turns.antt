@@ -1,6 +1,6 @@
 -- A unit's turn in a later round, from what the code reads: little and big, and whether each is odd, by a mask.
 use Rattle.std.specs.Prelude.{◌≡◌, refl, Bool, true, not, cond, List, ℕ, suc, ◌+◌, ◌*◌, ◌-◌, ◌^◌, ◌≤◌, ◌<◌, min, eqb}
-use Rattle.std.specs.Prelude.{ltb, leb}
+use Rattle.std.specs.Prelude.{ltb}
 use Rattle.std.proofs.Math.Decide.{dec_lt}
 use Rattle.std.proofs.Common.{arith, lt-ltb, le-ltb, le-leb}
 use Rattle.std.specs.Int.Bits.{bit_and}

@@ -15,14 +15,7 @@ fn span_of(i: u16) -> u32
     ensures length { result ≡ 2 ^ min i 16 }
     ensures small { result ≤ 65536 }
 {
-    let last = base_choice::least_of(i, 16);
-    let mut span: u32 = 1;
-    let mut k = 0;
-    while k < last {
-        span *= 2;
-        k += 1;
-    }
-    span
+    1u32 << i.min(16)
 }
 
 // Whether `x` is no multiple of a power of two, by the mask below it.
@@ -37,8 +30,7 @@ fn segment_at(n: u16, global: &[u16; 256], q: u16) -> u16
     requires { n ≤ 256 }
     ensures { result ≡ segment n global.now q }
 {
-    let at = q as usize;
-    if q < n { global[at] } else { 0 }
+    if q < n { global[q as usize] } else { 0 }
 }
 
 // The place where a segment begins that ends before place `q`; absent, which is no place, where there is none.
@@ -53,10 +45,11 @@ fn with_segment(greatest: bool, moves: bool, n: u16, global: &[u16; 256], q: u16
     requires { n ≤ 256 }
     ensures { result ≡ cond moves (op_of greatest x (segment n global.now q)) x }
 {
-    if !moves {
-        return x;
+    if moves {
+        table_values::op_of(greatest, x, segment_at(n, global, q))
+    } else {
+        x
     }
-    table_values::op_of(greatest, x, segment_at(n, global, q))
 }
 
 // Both, little first.
@@ -81,11 +74,11 @@ fn take(
 
 // A round of the units' tables in place: a unit's entries are read before they are made anew. Where little is not
 // before big nothing moves.
-fn units_move<'a>(
+fn units_move(
     i: u16,
     n: u16,
-    least: &'a [u16; 256],
-    greatest: &'a [u16; 256],
+    least: &[u16; 256],
+    greatest: &[u16; 256],
     low: &mut [u16; 256],
     high: &mut [u16; 256],
     little: &mut [u16; 256],
@@ -103,13 +96,10 @@ fn units_move<'a>(
 {
     let span = span_of(i);
     let mask = 2 * span - 1;
-    let count = n as usize;
-    let mut v: usize = 0;
-    while v < count {
+    for v in 0..n as usize {
         let from = little[v];
         let to = big[v];
         if to <= from {
-            v += 1;
             continue;
         }
         let left = is_odd(mask, from);
@@ -118,7 +108,6 @@ fn units_move<'a>(
         high[v] = take(true, left, right, span, n, greatest, from, to, high[v]);
         little[v] = step_on(left, span, from);
         big[v] = step_back(right, span, to);
-        v += 1;
     }
 }
 
@@ -146,12 +135,10 @@ fn segments_move(i: u16, n: u16, low: &mut [u16; 256], high: &mut [u16; 256])
     let step = span as usize;
     let period = 2 * step;
     let last = table_values::less_step(n, span) as usize;
-    let mut q: usize = 0;
-    while q < last {
+    for q in (0..last).step_by(period) {
         let next = q + step;
-        low[q] = base_choice::least_of(low[q], low[next]);
-        high[q] = base_choice::greatest_of(high[q], high[next]);
-        q += period;
+        low[q] = low[q].min(low[next]);
+        high[q] = high[q].max(high[next]);
     }
 }
 

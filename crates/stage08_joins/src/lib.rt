@@ -21,16 +21,16 @@ pub struct Ran {
 }
 
 // Runs up to `budget` rounds of this stage.
-pub fn run<'a>(
+pub fn run(
     units: u16,
     links: u16,
     budget: u16,
-    ends: &'a [u16; 2048],
-    parent: &'a [u16; 256],
-    nd: &'a [u16; 256],
-    pre: &'a [u16; 256],
-    low: &'a [u16; 256],
-    high: &'a [u16; 256],
+    ends: &[u16; 2048],
+    parent: &[u16; 256],
+    nd: &[u16; 256],
+    pre: &[u16; 256],
+    low: &[u16; 256],
+    high: &[u16; 256],
     clock: Clock,
     parents: [u16; 256],
     linked: [u16; 1024],
@@ -63,13 +63,13 @@ pub fn run<'a>(
 }
 
 // 1 for each link that joins its ends, else 0.
-fn link_joins<'a>(
+fn link_joins(
     units: u16,
     links: u16,
-    ends: &'a [u16; 2048],
-    parent: &'a [u16; 256],
-    nd: &'a [u16; 256],
-    pre: &'a [u16; 256],
+    ends: &[u16; 2048],
+    parent: &[u16; 256],
+    nd: &[u16; 256],
+    pre: &[u16; 256],
     marks: [u16; 1024],
 ) -> [u16; 1024]
     requires { (units ≤ 256) × (links ≤ 1024) × EndsWithin units links ends.now }
@@ -77,52 +77,41 @@ fn link_joins<'a>(
         pre.now marks }
 {
     let mut new = marks;
-    let mut j = 0;
-    while j < links {
+    for j in 0..links {
         let at = j as usize;
-        let a = ends[2 * at];
-        let b = ends[2 * at + 1];
-        new[at] = link_join(parent, nd, pre, a, b);
-        j += 1;
+        new[at] = link_join(parent, nd, pre, ends[2 * at], ends[2 * at + 1]);
     }
     new
 }
 
 // 1 where a link of two units is off the tree and neither is the other's ancestor, else 0.
-fn link_join<'a>(
-    parent: &'a [u16; 256],
-    nd: &'a [u16; 256],
-    pre: &'a [u16; 256],
-    a: u16,
-    b: u16,
-) -> u16
+fn link_join(parent: &[u16; 256], nd: &[u16; 256], pre: &[u16; 256], a: u16, b: u16) -> u16
     requires { (a < 256) × (b < 256) }
     ensures { result ≡ cond (joins_ends parent.now nd.now pre.now a b) 1 0 }
 {
-    let off = base_choice::both(parent[a as usize] != b, parent[b as usize] != a);
+    let off = (parent[a as usize] != b) & (parent[b as usize] != a);
     let here = pre[a as usize];
     let there = pre[b as usize];
     let above = within(here, nd[a as usize], there);
     let below = within(there, nd[b as usize], here);
-    let apart = base_choice::both(base_choice::both(off, !above), !below);
-    base_choice::choose(apart, 1, 0)
+    base_choice::choose(off & !above & !below, 1, 0)
 }
 
 // Whether a place is among the `nd` places from `place` on: those of a unit and its descendants.
 fn within(place: u16, nd: u16, other: u16) -> bool
     ensures { result ≡ (leb place other && ltb other (place + nd)) }
 {
-    base_choice::both(place <= other, (other as u32) < place as u32 + nd as u32)
+    (place <= other) & (u32::from(other) < u32::from(place) + u32::from(nd))
 }
 
 // 1 for each unit that joins its parent, else 0.
-fn parent_joins<'a>(
+fn parent_joins(
     units: u16,
-    parent: &'a [u16; 256],
-    nd: &'a [u16; 256],
-    pre: &'a [u16; 256],
-    low: &'a [u16; 256],
-    high: &'a [u16; 256],
+    parent: &[u16; 256],
+    nd: &[u16; 256],
+    pre: &[u16; 256],
+    low: &[u16; 256],
+    high: &[u16; 256],
     marks: [u16; 256],
 ) -> [u16; 256]
     requires { units ≤ 256 }
@@ -130,22 +119,20 @@ fn parent_joins<'a>(
         low.now high.now marks }
 {
     let mut new = marks;
-    let mut u = 0;
-    while u < units {
+    for u in 0..units {
         let joins = joins_parent(parent, nd, pre, low, high, u);
         new[u as usize] = base_choice::choose(joins, 1, 0);
-        u += 1;
     }
     new
 }
 
 // Whether unit `u` joins its parent, which may be absent: its entries are read with a test.
-fn joins_parent<'a>(
-    parent: &'a [u16; 256],
-    nd: &'a [u16; 256],
-    pre: &'a [u16; 256],
-    low: &'a [u16; 256],
-    high: &'a [u16; 256],
+fn joins_parent(
+    parent: &[u16; 256],
+    nd: &[u16; 256],
+    pre: &[u16; 256],
+    low: &[u16; 256],
+    high: &[u16; 256],
     u: u16,
 ) -> bool
     requires { u < 256 }
@@ -156,16 +143,12 @@ fn joins_parent<'a>(
     let p = parent[at];
     let place = tables::at(pre, p);
     let past = reaches(place, tables::at(nd, p), high[at]);
-    let out = base_choice::either(low[at] < place, past);
-    base_choice::both(
-        base_choice::both(p != ABSENT, tables::at(parent, p) != ABSENT),
-        out,
-    )
+    (p != ABSENT) & (tables::at(parent, p) != ABSENT) & ((low[at] < place) | past)
 }
 
 // Whether a value is at or past the end of `nd` places from `place` on.
 fn reaches(place: u16, nd: u16, high: u16) -> bool
     ensures { result ≡ leb (place + nd) high }
 {
-    place as u32 + nd as u32 <= high as u32
+    u32::from(place) + u32::from(nd) <= u32::from(high)
 }

@@ -21,14 +21,14 @@ pub struct Ran {
 }
 
 // Runs up to `budget` rounds of this stage: classes, then labels.
-pub fn run<'a>(
+pub fn run(
     units: u16,
     links: u16,
     budget: u16,
-    ends: &'a [u16; 2048],
-    parent: &'a [u16; 256],
-    pre: &'a [u16; 256],
-    color: &'a [u16; 256],
+    ends: &[u16; 2048],
+    parent: &[u16; 256],
+    pre: &[u16; 256],
+    color: &[u16; 256],
     clock: Clock,
     class: [u16; 1024],
     label: [u16; 1024],
@@ -65,13 +65,13 @@ pub fn run<'a>(
 }
 
 // Round one: the classes.
-fn class_round<'a>(
+fn class_round(
     units: u16,
     links: u16,
-    ends: &'a [u16; 2048],
-    parent: &'a [u16; 256],
-    pre: &'a [u16; 256],
-    color: &'a [u16; 256],
+    ends: &[u16; 2048],
+    parent: &[u16; 256],
+    pre: &[u16; 256],
+    color: &[u16; 256],
     class: [u16; 1024],
 ) -> [u16; 1024]
     requires { (units ≤ 256) × (links ≤ 1024) × EndsWithin units links ends.now }
@@ -79,20 +79,16 @@ fn class_round<'a>(
         color.now class }
 {
     let mut new = class;
-    let mut j = 0;
-    while j < links {
+    for j in 0..links {
         let at = j as usize;
-        let a = ends[2 * at];
-        let b = ends[2 * at + 1];
-        let u = naming(parent, pre, a, b) as usize;
-        new[at] = color[u];
-        j += 1;
+        let u = naming(parent, pre, ends[2 * at], ends[2 * at + 1]);
+        new[at] = color[u as usize];
     }
     new
 }
 
 // The unit that names the link of two units.
-fn naming<'a>(parent: &'a [u16; 256], pre: &'a [u16; 256], a: u16, b: u16) -> u16
+fn naming(parent: &[u16; 256], pre: &[u16; 256], a: u16, b: u16) -> u16
     requires { (a < 256) × (b < 256) }
     ensures exact { result ≡ naming_unit parent.now pre.now a b }
     ensures within { result < 256 }
@@ -112,11 +108,7 @@ fn named(up: bool, down: bool, before: bool, a: u16, b: u16) -> u16
 {
     let off = base_choice::choose(before, a, base_choice::choose(up, a, b));
     let one = base_choice::choose(down, b, off);
-    base_choice::choose(
-        base_choice::both(up, down),
-        base_choice::least_of(a, b),
-        one,
-    )
+    base_choice::choose(up & down, a.min(b), one)
 }
 
 // Round two: the labels.
@@ -127,11 +119,9 @@ fn label_round(links: u16, class: &[u16; 1024], label: [u16; 1024]) -> [u16; 102
     let first = firsts::firsts(links, class);
     let absent = firsts::first_at(links, class, ABSENT);
     let mut new = label;
-    let mut j = 0;
-    while j < links {
+    for j in 0..links {
         let at = j as usize;
         new[at] = firsts::first_by(links, class, &first, absent, class[at]);
-        j += 1;
     }
     new
 }

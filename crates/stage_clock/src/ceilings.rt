@@ -7,7 +7,7 @@ fn ranking_ceiling(units: u16) -> u16
     requires { units ≤ 256 }
     ensures { result ≡ ranking_ceiling units }
 {
-    base_log2::lg(base_choice::difference(2 * units, 2)) + 1
+    base_log2::lg((2 * units).saturating_sub(2)) + 1
 }
 
 // The ceiling of a stage from 1 to 10.
@@ -16,12 +16,12 @@ pub(crate) fn ceiling(units: u16, stage: u16) -> u16
     ensures { result ≡ ceiling units stage }
 {
     match stage {
-        1 => base_choice::greatest_of(2, units),
+        1 => units.max(2),
         2 => units + 1,
         4 | 6 => ranking_ceiling(units),
         7 => base_log2::lg(units) + 1,
         8 => 1,
-        9 => base_choice::greatest_of(2, base_choice::difference(units, 1)),
+        9 => units.saturating_sub(1).max(2),
         _ => 2,
     }
 }
@@ -30,14 +30,11 @@ pub(crate) fn ceiling(units: u16, stage: u16) -> u16
 pub(crate) fn stage_ceiling(units: u16, stage: u16) -> u16
     ensures { result ≡ ceiling (min units 256) stage }
 {
-    let count = base_choice::least_of(units, 256);
-    if stage < 1 {
-        return ceiling(count, 1);
-    }
     if 10 < stage {
-        return 0;
+        0
+    } else {
+        ceiling(units.min(256), stage.max(1))
     }
-    ceiling(count, stage)
 }
 
 // The rounds still to come at most: the ceilings from this stage on, less the rounds made of it. At most 256 units
@@ -45,12 +42,10 @@ pub(crate) fn stage_ceiling(units: u16, stage: u16) -> u16
 pub fn countdown(units: u16, stage: u16, made: u16) -> u16
     ensures { result ≡ countdown (min units 256) stage made }
 {
-    let count = base_choice::least_of(units, 256);
+    let count = units.min(256);
     let mut sum: u16 = 0;
-    let mut k = base_choice::greatest_of(stage, 1);
-    while k <= 10 {
+    for k in stage.max(1)..11 {
         sum += ceiling(count, k);
-        k += 1;
     }
-    base_choice::difference(sum, made)
+    sum.saturating_sub(made)
 }

@@ -11,10 +11,7 @@ use spec_state::Clock;
 pub fn front_ok(units: u16, links: u16, ends: &[u16], c: Clock) -> bool
     ensures { result ≡ (table_ok units links ends.now && clock_ok units c) }
 {
-    if !table_ok(units, links, ends) {
-        return false;
-    }
-    clock_ok(units, c)
+    table_ok(units, links, ends) && clock_ok(units, c)
 }
 
 // The first words of the table, or all that are there, pass 4 to 9.
@@ -42,16 +39,10 @@ fn clock_ok(units: u16, c: Clock) -> bool
     requires { units ≤ 256 }
     ensures { result ≡ clock_ok units c }
 {
-    if c.stage < 1 {
+    if c.stage < 1 || Clock::FINISHED < c.stage {
         return false;
     }
-    if Clock::FINISHED < c.stage {
-        return false;
-    }
-    base_choice::both(
-        base_choice::both(made_ok(units, c), c.rounds <= Clock::MAX_ROUNDS),
-        c.requests <= Clock::MAX_REQUESTS,
-    )
+    made_ok(units, c) & (c.rounds <= Clock::MAX_ROUNDS) & (c.requests <= Clock::MAX_REQUESTS)
 }
 
 fn made_ok(units: u16, c: Clock) -> bool

@@ -8,6 +8,7 @@ ghost use Rattle.table_values.specs.Tops.{Tells};
 
 // A test of entries: one passes that is at most `most` once it is raised by `more` within a word. Raised by 1, an
 // absent entry is 0.
+// Stays: no plainer: an enum of the four kinds would be matched into this pair before each pass over a table.
 #[derive(Clone, Copy)]
 pub struct Limit {
     pub more: u16,
@@ -58,12 +59,9 @@ pub fn levels() -> Limit
 fn top(more: u16, t: &[u16]) -> u16
     ensures { (most : ℕ) (p : ℕ → Bool) → Tells more most p → nat_le result most ≡ every p t.now }
 {
-    let mut greatest = 0;
-    let mut i = 0;
-    while i < t.len() {
-        let x = std::num::wrapping_add_u16(t[i], more);
-        greatest = base_choice::greatest_of(greatest, x);
-        i += 1;
+    let mut greatest: u16 = 0;
+    for x in t {
+        greatest = greatest.max(x.wrapping_add(more));
     }
     greatest
 }
@@ -72,8 +70,7 @@ fn top(more: u16, t: &[u16]) -> u16
 pub fn within(limit: Limit, t: &[u16]) -> bool
     ensures { (p : ℕ → Bool) → Tells limit.more limit.most p → result ≡ every p t.now }
 {
-    let most = limit.most;
-    (top(limit.more, t) as u32) <= most
+    u32::from(top(limit.more, t)) <= limit.most
 }
 
 // Every entry names one of `count` things that exist, or is absent.
@@ -102,7 +99,7 @@ pub fn all_below(count: u16, t: &[u16]) -> bool
     ensures { result ≡ every (λ (x : ℕ). nat_lt x count) t.now }
 {
     if count == 0 {
-        return t.len() == 0;
+        return t.is_empty();
     }
     top(0, t) <= count - 1
 }
@@ -115,8 +112,5 @@ pub fn links_fit(units: u16, links: u16, ends: &[u16]) -> bool
         return false;
     }
     let count = 2 * (links as usize);
-    if ends.len() < count {
-        return all_below(units, ends);
-    }
-    all_below(units, &ends[..count])
+    all_below(units, &ends[..count.min(ends.len())])
 }

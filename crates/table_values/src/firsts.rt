@@ -11,11 +11,8 @@ pub fn firsts(count: u16, key: &[u16]) -> [u16; 512]
     ensures { (q : ℕ) → q < BUCKETS → slice_index result q ≡ first_at count key.now q }
 {
     let mut first = tables::blank_arcs();
-    let mut k = 0;
-    while k < count {
-        let q = tables::at(key, k);
-        tables::take_in(false, 512, &mut first, q, k);
-        k += 1;
+    for k in 0..count {
+        tables::take_in(false, 512, &mut first, tables::at(key, k), k);
     }
     first
 }
@@ -25,17 +22,14 @@ pub fn first_at(count: u16, key: &[u16], q: u16) -> u16
     ensures { result ≡ first_at count key.now q }
 {
     let mut x = ABSENT;
-    let mut k = 0;
-    while k < count {
-        let y = base_choice::choose(tables::at(key, k) == q, k, ABSENT);
-        x = base_choice::least_of(x, y);
-        k += 1;
+    for k in 0..count {
+        x = x.min(base_choice::choose(tables::at(key, k) == q, k, ABSENT));
     }
     x
 }
 
 // The same from the buckets, and from `absent` for the absent key; a key that no state holds is looked for.
-pub fn first_by<'a>(count: u16, key: &'a [u16], first: &'a [u16], absent: u16, q: u16) -> u16
+pub fn first_by(count: u16, key: &[u16], first: &[u16], absent: u16, q: u16) -> u16
     ensures { result ≡ lookup (first_at count key.now) first.now absent q }
 {
     if q < 512 {

@@ -14,63 +14,47 @@ pub mod tables;
 pub fn half_span(from: u16, to: u16) -> u16
     ensures { result ≡ (to + 1 - from) / 2 }
 {
-    if to < from {
-        0
-    } else {
-        (((to - from) as u32 + 1) / 2) as u16
-    }
+    ((u32::from(to) + 1).saturating_sub(u32::from(from)) / 2) as u16
 }
 
 // The greater of two, or the lesser.
 pub fn op_of(greatest: bool, x: u16, y: u16) -> u16
     ensures { result ≡ op_of greatest x y }
 {
-    if greatest {
-        base_choice::greatest_of(x, y)
-    } else {
-        base_choice::least_of(x, y)
-    }
+    if greatest { x.max(y) } else { x.min(y) }
 }
 
 // A number stored: one that would exceed 2,048 is stored as 2,048.
 pub fn bounded(x: u32) -> u16
     ensures { result ≡ min x 2048 }
 {
-    if x < 2048 { x as u16 } else { 2048 }
+    x.min(2048) as u16
 }
 
 // A number as a word holds it: one that no word holds is absent.
 pub fn word_of(x: u32) -> u16
     ensures { result ≡ min x 65535 }
 {
-    if x < 65535 { x as u16 } else { 65535 }
+    x.min(65535) as u16
 }
 
 // The sum of a word and a number that may be large, stored within its bound.
 pub fn bounded_step(x: u16, y: u32) -> u16
     ensures { result ≡ min (x + y) 2048 }
 {
-    if y < 2048 {
-        bounded(x as u32 + y)
-    } else {
-        2048
-    }
+    bounded(y.saturating_add(u32::from(x)))
 }
 
 // What is left of a word after a number that may be large is taken away.
 pub fn less_step(x: u16, y: u32) -> u16
     ensures { result ≡ x - y }
 {
-    if (x as u32) < y {
-        0
-    } else {
-        (x as u32 - y) as u16
-    }
+    u32::from(x).saturating_sub(y) as u16
 }
 
 // A sum stored within its bound.
 pub fn bounded_sum(x: u16, y: u16) -> u16
     ensures { result ≡ min (x + y) 2048 }
 {
-    bounded(x as u32 + y as u32)
+    bounded(u32::from(x) + u32::from(y))
 }

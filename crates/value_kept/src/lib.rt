@@ -10,35 +10,35 @@ use spec_state::Clock;
 use table_values::bounds;
 use table_values::bounds::Limit;
 
-pub fn kept<'a>(
+pub fn kept(
     units: u16,
     links: u16,
     clock: Clock,
-    ends: &'a [u16; 2048],
-    color: &'a [u16; 256],
-    parent: &'a [u16; 256],
-    dist: &'a [u16; 256],
-    next: &'a [u16; 512],
-    pred: &'a [u16; 512],
-    jump: &'a [u16; 512],
-    sum: &'a [u16; 512],
-    forward: &'a [u16; 512],
-    nd: &'a [u16; 256],
-    pre: &'a [u16; 256],
-    low: &'a [u16; 256],
-    high: &'a [u16; 256],
-    little: &'a [u16; 256],
-    big: &'a [u16; 256],
-    least: &'a [u16; 256],
-    greatest: &'a [u16; 256],
-    parents: &'a [u16; 256],
-    linked: &'a [u16; 1024],
-    classes: &'a [u16; 256],
-    class: &'a [u16; 1024],
-    label: &'a [u16; 1024],
-    levels: &'a [i16; 1024],
+    ends: &[u16; 2048],
+    color: &[u16; 256],
+    parent: &[u16; 256],
+    dist: &[u16; 256],
+    next: &[u16; 512],
+    pred: &[u16; 512],
+    jump: &[u16; 512],
+    sum: &[u16; 512],
+    forward: &[u16; 512],
+    nd: &[u16; 256],
+    pre: &[u16; 256],
+    low: &[u16; 256],
+    high: &[u16; 256],
+    little: &[u16; 256],
+    big: &[u16; 256],
+    least: &[u16; 256],
+    greatest: &[u16; 256],
+    parents: &[u16; 256],
+    linked: &[u16; 1024],
+    classes: &[u16; 256],
+    class: &[u16; 1024],
+    label: &[u16; 1024],
+    levels: &[i16; 1024],
     given: u16,
-    plan: &'a [u16; 256],
+    plan: &[u16; 256],
 ) -> bool
     ensures { result
         ≡ well_formed (record {
@@ -71,43 +71,26 @@ pub fn kept<'a>(
     }
     let unit = bounds::names(units as u32);
     let ended = bounds::within(unit, ends);
-    let colored = bounds::within(unit, color);
-    let named = base_choice::both(colored, four_ok(unit, parent, classes, class, plan));
+    let named = all_within(unit, &[color, parent, classes, class, plan]);
     let arc = bounds::names(2 * (units as u32));
-    let arcs = three_ok(arc, next, pred, jump);
+    let arcs = all_within(arc, &[next, pred, jump]);
     let labels = bounds::names_ok(links as u32, label);
     let dists = bounds::dists_ok(dist);
     let number = bounds::numbers();
-    let sums = four_ok(number, sum, forward, nd, pre);
-    let ranges = four_ok(number, low, high, little, big);
-    let joins = four_ok(number, least, greatest, parents, linked);
+    let sums = all_within(number, &[sum, forward, nd, pre]);
+    let ranges = all_within(number, &[low, high, little, big]);
+    let joins = all_within(number, &[least, greatest, parents, linked]);
     let heard = table_levels::all_in_range(levels);
-    let names = base_choice::both(
-        base_choice::both(base_choice::both(ended, named), arcs),
-        labels,
-    );
-    let entries = base_choice::both(
-        base_choice::both(names, dists),
-        base_choice::both(sums, base_choice::both(ranges, joins)),
-    );
-    base_choice::both(base_choice::both(entries, heard), given <= 2048)
+    ended & named & arcs & labels & dists & sums & ranges & joins & heard & (given <= 2048)
 }
 
-// Every entry of three tables passes.
-fn three_ok<'a>(limit: Limit, a: &'a [u16], b: &'a [u16], c: &'a [u16]) -> bool
-    ensures { (p : ℕ → Bool) → Tells limit.more limit.most p →
-        result ≡ every (every p) (a.now ∷ b.now ∷ c.now ∷ []) }
+// Every entry of every table passes.
+fn all_within(limit: Limit, tables: &[&[u16]]) -> bool
+    ensures { (p : ℕ → Bool) → Tells limit.more limit.most p → result ≡ every (λ t. every p t.now) tables.now }
 {
-    base_choice::both(
-        bounds::within(limit, a),
-        base_choice::both(bounds::within(limit, b), bounds::within(limit, c)),
-    )
-}
-
-// The same of four.
-fn four_ok<'a>(limit: Limit, a: &'a [u16], b: &'a [u16], c: &'a [u16], d: &'a [u16]) -> bool
-    ensures { (p : ℕ → Bool) → Tells limit.more limit.most p
-        → result ≡ every (every p) (a.now ∷ b.now ∷ c.now ∷ d.now ∷ []) }
-{
-    base_choice::both(bounds::within(limit, a), three_ok(limit, b, c, d))
+    let mut ok = true;
+    for t in tables {
+        ok &= bounds::within(limit, t);
+    }
+    ok
 }

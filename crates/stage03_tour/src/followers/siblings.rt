@@ -23,9 +23,7 @@ pub(crate) fn scan(units: u16, parent: &[u16]) -> Siblings
     let mut eldest = tables::blank();
     let mut later = tables::blank();
     let mut past = tables::blank();
-    let mut w = units;
-    while w > 0 {
-        w -= 1;
+    for w in (0..units).rev() {
         let at = w as usize;
         let p = parent[at];
         let own = tables::at(parent, p);

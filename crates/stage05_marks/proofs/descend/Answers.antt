@@ -1,7 +1,6 @@
 -- Unit by unit, from the buckets.
 use borrow.Author.Rules.{rules}
 use mathlib.Core.Path.{refl, ◌∙◌}
-use Prim.Native.Nat.{◌-◌}
 use native.Mathlib.Nat.{le_antisymm}
 use Rattle.base_lists.specs.Rounds.{over-more}
 use Rattle.spec_rules.specs.OrderLaws.{nd-round}

@@ -1,7 +1,7 @@
 -- Unit by unit, both arcs.
 use borrow.Author.Rules.{rules}
 use mathlib.Core.Path.{◌≡◌, refl, ◌∙◌}
-use Prim.Native.Nat.{◌+◌, ◌*◌, ◌-◌}
+use Prim.Native.Nat.{◌+◌, ◌*◌}
 use native.Mathlib.Nat.{le_antisymm}
 use Rattle.base_lists.specs.Rounds.{over-pair}
 use Rattle.spec_rules.specs.Order.{forward_mark, forward_round}

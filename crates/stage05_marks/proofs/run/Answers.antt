@@ -1,7 +1,6 @@
 -- Round after round: each is one of the definition's, as long as the stage goes on.
 use mathlib.Core.Path.{sym, ◌∙◌}
 use mathlib.Core.Bool.{true}
-use Prim.Native.Nat.{◌-◌}
 use native.Mathlib.Omega.{arith}
 use borrow.Author.Tests.{eq-eqb, ne_eqb}
 use Rattle.spec_machine.specs.InStage.{Goes, goes}

@@ -1,10 +1,9 @@
 -- Unit by unit, both arcs.
 use borrow.Author.Rules.{rules}
 use mathlib.Core.Path.{◌≡◌, refl, ◌∙◌}
-use Prim.Native.Nat.{◌+◌, ◌*◌, ◌-◌}
+use Prim.Native.Nat.{◌+◌, ◌*◌}
 use native.Mathlib.Nat.{le_antisymm}
 use Rattle.base_lists.specs.Rounds.{over-pair}
-use Rattle.spec_rules.specs.Basics.{at}
 use Rattle.spec_rules.specs.Order.{second_sum, second_sums, second_jumps}
 use Rattle.stage05_marks.specs.Pairs.{second-into, second-out}
 use Rattle.stage05_marks.proofs.second.Goals as goal

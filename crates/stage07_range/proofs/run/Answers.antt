@@ -1,6 +1,5 @@
 -- Round after round: each is one of the definition's, as long as the stage goes on.
 use mathlib.Core.Path.{sym, ◌∙◌}
-use Prim.Native.Nat.{◌-◌}
 use native.Mathlib.Omega.{arith}
 use borrow.Author.Tests.{le-leb}
 use Rattle.base_lists.specs.Tests.{cond_true}

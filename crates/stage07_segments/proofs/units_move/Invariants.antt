@@ -1,6 +1,6 @@
 -- Unit by unit: what a turn finds is as it was before the round.
 use mathlib.Core.Path.{◌≡◌}
-use Prim.Native.Nat.{◌*◌, ◌-◌, ◌≤◌, min, max}
+use Prim.Native.Nat.{◌*◌, ◌≤◌, min, max}
 use Rattle.base_lists.specs.Tables.{over}
 use Rattle.spec_rules.specs.MoveLaws.{little_by, big_by, range_by}
 use Rattle.stage07_segments.proofs.units_move.Given as goal
@@ -14,6 +14,3 @@ invariant-loop-v l =
     l.initial.high) l.initial.high)
     × (l.little ≡ over l.v (little_by l.span (2 * l.span) l.initial.little l.initial.big) l.initial.little)
     × (l.big ≡ over l.v (big_by l.span (2 * l.span) l.initial.little l.initial.big) l.initial.big)
-
-abbrev pub decreases-loop-v : goal.decreases-loop-v
-decreases-loop-v l = l.n - l.v

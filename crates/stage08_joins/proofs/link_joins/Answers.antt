@@ -1,9 +1,9 @@
 -- Link by link.
 use native.Mathlib.Omega.{arith}
 use mathlib.Core.Path.{refl, ◌∙◌}
-use Prim.Native.Nat.{◌-◌, ◌*◌, ◌+◌}
+use Prim.Native.Nat.{◌*◌, ◌+◌}
 use Rattle.base_lists.specs.Rounds.{over-more, over-all}
-use Rattle.spec_rules.specs.Aux.{link_join, link_joins_round}
+use Rattle.spec_rules.specs.Aux.{link_joins_round}
 use borrow.Author.Rules.{rules}
 use Rattle.stage08_joins.proofs.link_joins.Goals as goal
 

@@ -1,6 +1,6 @@
 -- Link by link.
 use mathlib.Core.Path.{◌≡◌}
-use Prim.Native.Nat.{◌≤◌, ◌-◌}
+use Prim.Native.Nat.{◌≤◌}
 use lib.ListN.{length}
 use Rattle.base_lists.specs.Tables.{over}
 use Rattle.spec_rules.specs.Aux.{link_join}
@@ -9,6 +9,3 @@ use Rattle.stage08_joins.proofs.link_joins.Given as goal
 abbrev pub invariant-loop-j : goal.invariant-loop-j
 invariant-loop-j l =
     (l.j ≤ l.links) × (length l.new ≡ 1024) × (l.new ≡ over l.j (link_join l.ends l.parent l.nd l.pre) l.initial.new)
-
-abbrev pub decreases-loop-j : goal.decreases-loop-j
-decreases-loop-j l = l.links - l.j

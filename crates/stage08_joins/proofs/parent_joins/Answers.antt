@@ -1,6 +1,5 @@
 -- Unit by unit.
 use mathlib.Core.Path.{◌≡◌, refl, ◌∙◌}
-use Prim.Native.Nat.{◌-◌}
 use Rattle.base_lists.specs.Rounds.{over-more, over-all}
 use Rattle.spec_rules.specs.Aux.{parent_join, parent_joins_round}
 use borrow.Author.Rules.{rules}

@@ -1,6 +1,6 @@
 -- Unit by unit.
 use mathlib.Core.Path.{◌≡◌}
-use Prim.Native.Nat.{◌≤◌, ◌-◌}
+use Prim.Native.Nat.{◌≤◌}
 use lib.ListN.{length}
 use Rattle.base_lists.specs.Tables.{over}
 use Rattle.spec_rules.specs.Aux.{parent_join}
@@ -10,6 +10,3 @@ abbrev pub invariant-loop-u : goal.invariant-loop-u
 invariant-loop-u l =
     (l.u ≤ l.units) × (length l.new ≡ 256) ×
     (l.new ≡ over l.u (parent_join l.parent l.nd l.pre l.low l.high) l.initial.new)
-
-abbrev pub decreases-loop-u : goal.decreases-loop-u
-decreases-loop-u l = l.units - l.u

@@ -1,6 +1,5 @@
 -- Round after round: each is one of the definition's, as long as the stage goes on.
 use mathlib.Core.Path.{sym, ◌∙◌}
-use Prim.Native.Nat.{◌-◌}
 use native.Mathlib.Omega.{arith}
 use Rattle.spec_rules.specs.Fits.{links_fit, fit-few, fit-within}
 use Rattle.spec_machine.specs.InStage.{Goes, goes}

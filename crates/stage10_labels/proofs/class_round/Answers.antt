@@ -1,6 +1,6 @@
 -- Link by link.
 use mathlib.Core.Path.{refl, ◌∙◌}
-use Prim.Native.Nat.{◌-◌, ◌*◌, ◌+◌}
+use Prim.Native.Nat.{◌*◌, ◌+◌}
 use native.Mathlib.Omega.{arith}
 use Rattle.base_lists.specs.Rounds.{over-more, over-all}
 use Rattle.spec_rules.specs.Labels.{class_round}

@@ -1,6 +1,5 @@
 -- Link by link, from the buckets.
 use mathlib.Core.Path.{refl, ◌∙◌}
-use Prim.Native.Nat.{◌-◌}
 use Rattle.base_lists.specs.Rounds.{over-more, over-all}
 use Rattle.spec_rules.specs.LabelsLaws.{label_round_lem}
 use borrow.Author.Rules.{rules}

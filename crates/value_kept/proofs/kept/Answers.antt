@@ -1,9 +1,14 @@
 -- The front, then the entries, table by table.
-use mathlib.Core.Path.{refl, sym, ap₂, ◌∙◌}
-use mathlib.Core.Bool.{◌&&◌}
+use mathlib.Core.Path.{◌≡◌, refl, sym, ◌∙◌}
+use mathlib.Core.Bool.{Bool, ◌&&◌}
+use lib.Dec.{leb}
+use Rattle.std.proofs.Math.Bool.{and_assoc}
 use Rattle.spec_machine.specs.State.{State}
 use Rattle.spec_machine.specs.KeptLaws.{kept-front, kept-parts}
 use Rattle.value_kept.proofs.kept.Goals as goal
+
+joined : (x n1 n2 n3 v g : Bool) → (x && n1 && n2 && n3 && v && g) ≡ ((x && (n1 && (n2 && n3))) && v && g)
+joined x n1 n2 n3 v g = rw (and_assoc x n1 n2, and_assoc x (n1 && n2) n3, and_assoc n1 n2 n3) refl
 
 pub returns-then-not-front_ok : goal.returns-then-not-front_ok
 returns-then-not-front_ok c =
@@ -42,14 +47,14 @@ returns c =
       aux = record { parents = a.parents.now; links = a.linked.now; color = a.classes.now };
       labels = record { class = a.class.now; label = a.label.now };
     } in
+    let unit = c.names-unit.ensures in
+    let number = c.numbers-number.ensures in
     kept-parts (the) _ _ _ _ _ _ _ _ _ _ _ _ _ _ _ _ _ _ _
     (sym c.front_ok.ensures ∙ c.if-not-front_ok.false)
-    (c.within-ended.ensures _ c.names-unit.ensures) (c.both-named.ensures
-    ∙ ap₂ ◌&&◌ (c.within-colored.ensures _ c.names-unit.ensures) (c.four_ok.ensures _ c.names-unit.ensures))
-    (c.three_ok-arcs.ensures _ c.names-arc.ensures) c.names_ok-labels.ensures
-    c.dists_ok-dists.ensures
-    (c.four_ok-sums.ensures _ c.numbers-number.ensures) (c.four_ok-ranges.ensures _ c.numbers-number.ensures)
-    (c.four_ok-joins.ensures _ c.numbers-number.ensures) c.all_in_range-heard.ensures refl
-    c.both.ensures c.both-2.ensures c.both-names.ensures c.both-3.ensures
-    c.both-4.ensures c.both-5.ensures c.both-entries.ensures
-    c.both-6.ensures c.both-7.ensures
+    (c.within-ended.ensures _ unit) (c.all_within-named.ensures _ unit) (c.all_within-arcs.ensures _ c.names-arc.ensures)
+    c.names_ok-labels.ensures c.dists_ok-dists.ensures (c.all_within-sums.ensures _ number)
+    (c.all_within-ranges.ensures _ number) (c.all_within-joins.ensures _ number) c.all_in_range-heard.ensures refl
+    refl refl refl refl refl refl refl refl
+    (joined (c.within-ended.result && c.all_within-named.result && c.all_within-arcs.result && c.names_ok-labels.result
+    && c.dists_ok-dists.result) c.all_within-sums.result c.all_within-ranges.result c.all_within-joins.result
+    c.all_in_range-heard.result (leb c.args.given 2048))

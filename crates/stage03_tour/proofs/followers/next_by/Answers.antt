@@ -12,12 +12,12 @@ use Rattle.stage03_tour.proofs.followers.next_by.Goals as goal
 pub loop-v-preserved : goal.loop-v-preserved
 loop-v-preserved c =
     let a = c.args in
-    let is-in : c.in_by-x.result ≡ stored_next a.units a.parent.now (2 * c.loop-v.v) =
-    c.in_by-x.ensures
+    let is-in : c.in_by.result ≡ stored_next a.units a.parent.now (2 * c.loop-v.v) =
+    c.in_by.ensures
     ∙ in_right a.units a.parent.now a.eldest.now a.later.now a.past.now c.requires.parents c.requires.eldest_len.1
     c.requires.later_len.1 c.requires.past_len.1 c.loop-v.v c.loop-v-test.true in
-    let is-out : c.out_by-y.result ≡ stored_next a.units a.parent.now (2 * c.loop-v.v + 1) =
-    c.out_by-y.ensures
+    let is-out : c.out_by.result ≡ stored_next a.units a.parent.now (2 * c.loop-v.v + 1) =
+    c.out_by.ensures
     ∙ out-right a.units a.parent.now a.eldest.now a.later.now a.past.now c.requires.parents c.requires.eldest_len.1
     c.requires.later_len.1 c.requires.past_len.1 c.loop-v.v c.loop-v-test.true in (
       search rules,

@@ -9,6 +9,3 @@ use Rattle.stage03_tour.proofs.predecessors.fill.Given as goal
 abbrev pub invariant-loop-k : goal.invariant-loop-k
 invariant-loop-k l =
     (l.k ≤ l.count) × (length l.first ≡ 512) × Eldest BUCKETS l.count l.k l.key l.first
-
-abbrev pub decreases-loop-k : goal.decreases-loop-k
-decreases-loop-k l = l.k

@@ -1,6 +1,6 @@
 -- Unit by unit, from the buckets.
 use mathlib.Core.Path.{◌≡◌}
-use Prim.Native.Nat.{◌*◌, ◌≤◌, ◌-◌}
+use Prim.Native.Nat.{◌*◌, ◌≤◌}
 use lib.ListN.{length}
 use Rattle.base_lists.specs.Tables.{over}
 use Rattle.spec_rules.specs.Tour.{predecessor, first_sum}
@@ -15,6 +15,3 @@ invariant-loop-v l =
     × (l.new_pred ≡ over (2 * l.v) (predecessor l.units l.parent l.next) l.initial.new_pred)
     × (l.new_jump ≡ over (2 * l.v) (predecessor l.units l.parent l.next) l.initial.new_jump)
     × (l.new_sum ≡ over (2 * l.v) (first_sum l.parent) l.initial.new_sum)
-
-abbrev pub decreases-loop-v : goal.decreases-loop-v
-decreases-loop-v l = l.units - l.v

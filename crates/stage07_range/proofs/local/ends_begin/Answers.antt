@@ -1,10 +1,8 @@
 -- Unit by unit.
 use borrow.Author.Rules.{rules}
 use mathlib.Core.Path.{refl}
-use Prim.Native.Nat.{◌-◌}
 use native.Mathlib.Nat.{le_antisymm}
 use Rattle.base_lists.specs.Rounds.{over-more}
-use Rattle.spec_rules.specs.Basics.{at}
 use Rattle.spec_rules.specs.Range.{little_first, big_first}
 use Rattle.stage07_range.proofs.local.ends_begin.Goals as goal
 

@@ -1,5 +1,5 @@
 -- By the test of the tree.
-use mathlib.Core.Path.{◌≡◌, refl, sym, ◌∙◌}
+use mathlib.Core.Path.{◌≡◌, refl}
 use mathlib.Core.Bool.{true, false}
 use Rattle.spec_rules.specs.Basics.{off_tree}
 use Rattle.stage07_range.proofs.local.hear_off.Goals as goal
@@ -8,7 +8,7 @@ pub returns-then-not-off : goal.returns-then-not-off
 returns-then-not-off c =
     let a = c.args in
     let on : off_tree a.parent.now a.a a.b ≡ false =
-    sym c.both-off.ensures ∙ c.if-not-off.true in
+    c.if-not-off.true in
     rw on (record {
       low = refl;
       high = refl;
@@ -18,7 +18,7 @@ pub returns : goal.returns
 returns c =
     let a = c.args in
     let off : off_tree a.parent.now a.a a.b ≡ true =
-    sym c.both-off.ensures ∙ c.if-not-off.false in
+    c.if-not-off.false in
     rw off (record {
       low = c.hear.ensures;
       high = c.hear-2.ensures;

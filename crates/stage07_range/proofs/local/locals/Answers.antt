@@ -1,7 +1,7 @@
 -- Link by link, from the places.
 use borrow.Author.Rules.{rules}
 use mathlib.Core.Bool.{true, false}
-use Prim.Native.Nat.{◌+◌, ◌*◌, ◌-◌}
+use Prim.Native.Nat.{◌+◌, ◌*◌}
 use native.Mathlib.Nat.{le_antisymm}
 use native.Mathlib.Omega.{arith}
 use Rattle.spec_rules.specs.RangeLaws.{local-none, local-more}

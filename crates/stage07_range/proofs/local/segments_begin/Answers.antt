@@ -1,7 +1,6 @@
 -- Place by place.
 use borrow.Author.Rules.{rules}
 use mathlib.Core.Path.{refl}
-use Prim.Native.Nat.{◌-◌}
 use native.Mathlib.Nat.{le_antisymm}
 use Rattle.base_lists.specs.Rounds.{over-more}
 use Rattle.stage07_range.specs.Begins.{local-value}

@@ -1,6 +1,6 @@
 -- What is summed and the ceilings from stage k on are together those from this stage on.
 use mathlib.Core.Path.{◌≡◌, ◌∙◌, ap}
-use Prim.Native.Nat.{◌-◌, ◌≤◌, min}
+use Prim.Native.Nat.{◌≤◌, min}
 use native.Mathlib.Omega.{arith}
 use Rattle.spec_rules.specs.Ceilings.{ceiling, countdown}
 use Rattle.spec_rules.specs.CeilingLaws.{ceiling-small}
@@ -10,7 +10,7 @@ use Rattle.stage_clock.proofs.ceilings.countdown.Goals as goal
 pub loop-k-init : goal.loop-k-init
 loop-k-init c =
     let a = c.args in
-    rw c.greatest_of-k.ensures (omega arith, (omega arith, omega (arith, left-from (min a.units 256) a.stage)))
+    rw c.max-k.ensures (omega arith, (omega arith, omega (arith, left-from (min a.units 256) a.stage)))
 
 pub overflow_add-sum : goal.overflow_add-sum
 overflow_add-sum c =
@@ -24,7 +24,7 @@ loop-k-preserved c =
     (ceiling-small _ c.loop-k.k (omega arith) (omega arith) (omega arith)) in
     let a = c.args in
     let exact : c.ceiling-sum.result ≡ ceiling (min a.units 256) c.loop-k.k =
-    c.ceiling-sum.ensures ∙ ap (λ n. ceiling n c.loop-k.k) c.least_of-count.ensures in
+    c.ceiling-sum.ensures ∙ ap (λ n. ceiling n c.loop-k.k) c.min-count.ensures in
     omega (arith, small, left-stage (min a.units 256) c.loop-k.k (omega arith) (omega arith), exact)
 
 pub returns : goal.returns

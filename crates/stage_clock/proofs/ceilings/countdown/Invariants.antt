@@ -7,6 +7,3 @@ use Rattle.stage_clock.proofs.ceilings.countdown.Given as goal
 abbrev pub invariant-loop-k : goal.invariant-loop-k
 invariant-loop-k l =
     (1 ≤ l.k) × ((l.sum ≤ 257 * (l.k - 1)) × (l.sum + left (min l.units 256) l.k ≡ left (min l.units 256) l.stage))
-
-abbrev pub decreases-loop-k : goal.decreases-loop-k
-decreases-loop-k l = 11 - l.k

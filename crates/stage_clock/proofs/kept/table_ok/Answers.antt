@@ -1,6 +1,6 @@
 -- Too many links, or the checks of the words.
 use mathlib.Core.Path.{refl, sym, ◌∙◌}
-use mathlib.Core.Bool.{true, true≢false}
+use mathlib.Core.Bool.{true≢false}
 use Prim.Native.Nat.{◌*◌}
 use lib.ListN.{take}
 use native.Mathlib.Omega.{arith}

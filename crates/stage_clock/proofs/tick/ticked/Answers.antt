@@ -6,18 +6,15 @@ use native.Mathlib.Omega.{arith}
 use Rattle.spec_machine.specs.InStage.{in_stage, may-tick}
 use Rattle.stage_clock.proofs.tick.ticked.Goals as goal
 
-pub returns-then-not-within : goal.returns-then-not-within
-returns-then-not-within c = rw (sym c.within.ensures ∙ c.if-not-within.true)
-
 pub next-requires : goal.next-requires
 next-requires c =
-    let on : in_stage c.args.units c.args.stage c.args.c ≡ true = sym c.within.ensures ∙ c.if-not-within.false in
+    let on : in_stage c.args.units c.args.stage c.args.c ≡ true = sym c.within.ensures ∙ c.if-within.true in
     let m = may-tick _ _ _ on in
     (m.1.0, (m.1.1.0, m.1.1.1))
 
-pub returns : goal.returns
-returns c =
-    let on : in_stage c.args.units c.args.stage c.args.c ≡ true = sym c.within.ensures ∙ c.if-not-within.false in
+pub returns-then-within : goal.returns-then-within
+returns-then-within c =
+    let on : in_stage c.args.units c.args.stage c.args.c ≡ true = sym c.within.ensures ∙ c.if-within.true in
     let a = c.args in
     let all : min a.units 256 ≡ a.units = omega (arith, (may-tick _ _ _ on).0) in
     rw (on, c.next.ensures, c.is_last.ensures, all)

@@ -1,11 +1,7 @@
 -- None, or the greatest within the limit.
-use Rattle.table_values.specs.TopLaws.{below-within, below_none}
+use Rattle.std.proofs.Common.{◌∙◌}
+use Rattle.table_values.specs.TopLaws.{below_none}
 use Rattle.table_values.proofs.bounds.all_below.Goals as goal
 
 pub returns-then-count-eq0 : goal.returns-then-count-eq0
-returns-then-count-eq0 c =
-    let a = c.args in
-    rw c.if-count-eq0.true (below_none a.t.now)
-
-pub returns : goal.returns
-returns c = c.top.ensures _ _ (below-within c.args.count c.if-count-eq0.false)
+returns-then-count-eq0 c = rw c.if-count-eq0.true (c.is_empty.ensures ∙ below_none c.args.t.now)

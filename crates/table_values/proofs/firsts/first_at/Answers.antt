@@ -1,6 +1,6 @@
 -- One item more at a time.
-use Rattle.std.proofs.Common.{◌-◌, refl, ◌∙◌, rules}
-use Rattle.spec_rules.specs.FirstLaws.{first_at, scan_more, scan_all}
+use Rattle.std.proofs.Common.{refl, rules}
+use Rattle.spec_rules.specs.FirstLaws.{first_at, scan_more}
 use Rattle.table_values.proofs.firsts.first_at.Goals as goal
 
 pub loop-k-init : goal.loop-k-init
@@ -11,6 +11,3 @@ pub loop-k-preserved : goal.loop-k-preserved
 loop-k-preserved c =
     let a = c.args in
     (search rules, scan_more a.key.now c.loop-k.k a.q _ _ c.loop-k.invariant.1 (cc))
-
-pub returns : goal.returns
-returns c = c.loop-k.invariant.1 ∙ scan_all _ _ _ _ c.loop-k.invariant.0 c.loop-k-test.false

@@ -1,5 +1,5 @@
 -- Item by item, from empty buckets.
-use Rattle.std.proofs.Common.{◌≡◌, ◌-◌, min, rules}
+use Rattle.std.proofs.Common.{◌≡◌, min, rules}
 use Rattle.base_lists.specs.Scatter.{takes_in}
 use Rattle.spec_rules.specs.Basics.{at}
 use Rattle.spec_rules.specs.Buckets.{BUCKETS}

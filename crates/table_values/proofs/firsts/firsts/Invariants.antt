@@ -1,5 +1,5 @@
 -- Item by item, from empty buckets.
-use Rattle.std.proofs.Common.{◌≡◌, ◌-◌, ◌≤◌, length}
+use Rattle.std.proofs.Common.{◌≡◌, ◌≤◌, length}
 use Rattle.spec_rules.specs.Buckets.{bucket_table}
 use Rattle.spec_rules.specs.FirstLaws.{first_at}
 use Rattle.table_values.proofs.firsts.firsts.Given as goal
@@ -7,6 +7,3 @@ use Rattle.table_values.proofs.firsts.firsts.Given as goal
 abbrev pub invariant-loop-k : goal.invariant-loop-k
 invariant-loop-k l =
     (l.k ≤ l.count) × (length l.first ≡ 512) × (l.first ≡ bucket_table (first_at l.k l.key) l.initial.first)
-
-abbrev pub decreases-loop-k : goal.decreases-loop-k
-decreases-loop-k l = l.count - l.k

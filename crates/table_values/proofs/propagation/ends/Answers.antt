@@ -3,10 +3,10 @@ use Rattle.std.proofs.Common.{eq-eqb, ne_eqb}
 use Rattle.spec_rules.specs.Components.{color_ends}
 use Rattle.table_values.proofs.propagation.ends.Goals as goal
 
-pub returns-then-made-eq0 : goal.returns-then-made-eq0
+pub returns-then-made-ne0 : goal.returns-then-made-ne0
 unfolding color_ends
-returns-then-made-eq0 c = rw (eq-eqb c.args.made 0 c.if-made-eq0.true)
+returns-then-made-ne0 c = rw (ne_eqb c.args.made 0 c.if-made-ne0.true) c.agree.ensures
 
-pub returns-else-made-eq0 : goal.returns-else-made-eq0
+pub returns-else-made-ne0 : goal.returns-else-made-ne0
 unfolding color_ends
-returns-else-made-eq0 c = rw (ne_eqb c.args.made 0 c.if-made-eq0.false) c.agree.ensures
+returns-else-made-ne0 c = rw (eq-eqb c.args.made 0 c.if-made-ne0.false)

@@ -1,6 +1,6 @@
 -- Entry by entry.
-use Rattle.std.proofs.Common.{ℕ, ◌-◌, refl, ◌∙◌, rules}
-use Rattle.base_lists.specs.Rounds.{over-more, over-all}
+use Rattle.std.proofs.Common.{ℕ, refl, rules}
+use Rattle.base_lists.specs.Rounds.{over-more}
 use Rattle.table_values.proofs.propagation.numbered.Goals as goal
 
 pub loop-v-preserved : goal.loop-v-preserved
@@ -10,6 +10,3 @@ loop-v-preserved c = (
   over-more _ (λ (i : ℕ). i) _ _ _ _ c.loop-v.invariant.2 refl
       c.store.ensures,
 )
-
-pub returns : goal.returns
-returns c = c.loop-v.invariant.2 ∙ over-all _ _ _ _ c.loop-v.invariant.0 c.loop-v-test.false

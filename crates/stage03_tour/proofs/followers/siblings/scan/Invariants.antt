@@ -14,6 +14,3 @@ invariant-loop-w l =
     × Eldest 256 l.units l.w l.parent l.eldest
     × Later l.units l.w l.parent l.later
     × Past l.units l.w l.parent l.past
-
-abbrev pub decreases-loop-w : goal.decreases-loop-w
-decreases-loop-w l = l.w

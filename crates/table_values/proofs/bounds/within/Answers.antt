@@ -1,5 +1,0 @@
--- By the greatest.
-use Rattle.table_values.proofs.bounds.within.Goals as goal
-
-pub returns : goal.returns
-returns c = c.top.ensures _
