@@ -1,7 +1,9 @@
 -- By the law of leaps, where the stage makes a round.
 use mathlib.Core.Path.{◌≡◌, sym, ap, ◌∙◌}
+use mathlib.Core.Bool.{true}
 use Prim.Native.Nat.{ℕ, ◌-◌, max}
 use native.Mathlib.Omega.{arith}
+use borrow.Author.Rules.{rules}
 use Rattle.std.proofs.lemmas.Option.{IfSome_then}
 use Rattle.spec_rules.specs.Fits.{links_fit}
 use Rattle.spec_machine.specs.InStage.{Goes, goes}
@@ -14,8 +16,9 @@ use Rattle.stage01_components.proofs.leapt.Goals as goal
 pub returns : goal.returns
 returns c =
     let a = c.args in
+    let goes_on : c.goes_on-goes_on.result ≡ true = search rules in
     let go : Goes a.units 1 0 a.budget (links_fit a.units a.links a.ends.now) a.clock =
-    goes _ _ _ _ _ _ (rw c.requires at (sym c.goes_on-goes_on.ensures ∙ c.if-not-goes_on.false)) in
+    goes _ _ _ _ _ _ (rw c.requires at (sym c.goes_on-goes_on.ensures ∙ goes_on)) in
     let most : c.max.result ≡ max 2 a.units = omega (arith, c.max.ensures) in
     let all : a.budget - 0 ≡ a.budget = omega arith in
     IfSome_then c.leap.result c.leap.ensures.leapt
