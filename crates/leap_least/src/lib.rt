@@ -1,21 +1,21 @@
 // Leaps: many rounds of the least value at once, of stage 1 over links and of stage 9 over joins.
 #![tactic(auto)]
 
-ghost use Rattle.std.specs.Prelude.{◌≡◌, true, false, ◌+◌, ◌≤◌, min};
+ghost use Rattle.std.specs.Prelude.{◌≡◌, true, ◌+◌, ◌≤◌, IfSome};
 ghost use Rattle.leap_least.specs.Leapt.{Leapt, rounds_in, passed};
 
 use spec_state::Clock;
 
-// What a run of a stage leaves that ends within its budget, and whether that is right.
+// What a run of a stage leaves that ends within its budget.
 #[derive(Clone, Copy)]
 pub struct Landed {
-    pub right: bool,
     pub value: [u16; 256],
     pub clock: Clock,
     pub made: u16,
 }
 
-// The rest of a stage whose ceiling is `most`, from what its units say, over pairs of them.
+// The rest of a stage whose ceiling is `most`, from what its units say, over pairs of them. None where that is not
+// found right, or is not within budget and ceiling.
 pub fn leap(
     units: u16,
     pairs: u16,
@@ -25,30 +25,21 @@ pub fn leap(
     value: [u16; 256],
     clock: Clock,
     made: u16,
-) -> Landed
-    ensures leapt { result.right ≡ true →
-        Leapt units pairs ends.now most budget value clock made result.value
-        result.clock result.made }
-    ensures stays { result.right ≡ false → (result.value ≡ value) × (result.clock ≡ clock) × (result.made ≡ made) }
+) -> Option<Landed>
+    ensures leapt { IfSome result (λ rest.
+        Leapt units pairs ends.now most budget value clock made rest.value rest.clock rest.made) }
 {
     let mut new = value;
-    let found = leap_search::found(units, pairs, ends, &mut new);
-    let rounds = rounds_in(clock.made, found.rounds);
-    let covered = covers(rounds, budget, most, clock, made);
-    if !base_choice::both(found.right, covered) {
-        return Landed {
-            right: false,
-            value,
-            clock,
-            made,
-        };
+    let changing = leap_search::found(units, pairs, ends, &mut new)?;
+    let rounds = rounds_in(clock.made, changing);
+    if !covers(rounds, budget, most, clock, made) {
+        return None;
     }
-    Landed {
-        right: true,
+    Some(Landed {
         value: new,
         clock: passed(rounds, clock),
         made: made + rounds as u16,
-    }
+    })
 }
 
 // So many rounds are within the budget and the ceiling, from one of the ten stages.
@@ -56,13 +47,9 @@ fn covers(rounds: u32, budget: u16, most: u16, clock: Clock, made: u16) -> bool
     requires { rounds ≤ 65536 }
     ensures { result ≡ true → (clock.stage ≤ 10) × (made + rounds ≤ budget) × (clock.made + rounds ≤ most) }
 {
-    if 10 < clock.stage {
-        return false;
-    }
-    if (budget as u32) < made as u32 + rounds {
-        return false;
-    }
-    clock.made as u32 + rounds <= most as u32
+    clock.stage <= 10
+        && made as u32 + rounds <= budget as u32
+        && clock.made as u32 + rounds <= most as u32
 }
 
 // The rounds of the stage still to come: those that change something and the one that does not, which is not the first
@@ -72,7 +59,7 @@ fn rounds_in(made: u16, rounds: u16) -> u32
     ensures few { result ≤ 65536 }
 {
     if made == 0 {
-        base_choice::greatest_of(rounds, 1) as u32 + 1
+        rounds.max(1) as u32 + 1
     } else {
         rounds as u32 + 1
     }
@@ -83,21 +70,11 @@ fn passed(rounds: u32, clock: Clock) -> Clock
     requires { (clock.stage ≤ 10) × (rounds ≤ 65536) }
     ensures { result ≡ passed rounds clock }
 {
+    let all = clock.rounds as u32 + rounds;
     Clock {
         stage: clock.stage + 1,
         made: 0,
-        rounds: limited(clock.rounds as u32 + rounds),
-        requests: base_choice::least_of(clock.requests, Clock::MAX_REQUESTS),
-    }
-}
-
-// All rounds, within their limit.
-fn limited(rounds: u32) -> u16
-    ensures { result ≡ min rounds 804 }
-{
-    if rounds < Clock::MAX_ROUNDS as u32 {
-        rounds as u16
-    } else {
-        Clock::MAX_ROUNDS
+        rounds: all.min(Clock::MAX_ROUNDS as u32) as u16,
+        requests: clock.requests.min(Clock::MAX_REQUESTS),
     }
 }

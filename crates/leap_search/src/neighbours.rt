@@ -10,15 +10,13 @@ pub(crate) fn chained(pairs: u16, ends: &[u16], next: &mut [u16]) -> [u16; 256]
     ensures { Chained (2 * pairs) result next.new }
 {
     let mut first = [0; 256];
-    let mut j = 0;
-    while j < pairs {
+    for j in 0..pairs {
         let i = 2 * j;
         let at = i as usize;
         let a = ends[at] % 256;
         let b = ends[at + 1] % 256;
         join(b, i, &mut first, next);
         join(a, i + 1, &mut first, next);
-        j += 1;
     }
     first
 }

@@ -5,12 +5,7 @@ ghost use Rattle.std.specs.Prelude.{◌*◌, ◌≤◌, ◌<◌, length};
 ghost use Rattle.leap_search.specs.Chains.{Chained};
 
 // The number of a unit that was not reached.
-const NONE: u32 = 4294967295;
-
-// A round later.
-fn later(key: u32) -> u32 {
-    if key < NONE { key + 1 } else { NONE }
-}
+pub(crate) const NONE: u32 = u32::MAX;
 
 // The number of a unit that has the value with which it ends.
 fn there(value: u16) -> u32 {
@@ -23,7 +18,7 @@ fn reached(from: u32, value: u16) -> u32 {
     if last == value as u32 {
         65536 * last
     } else {
-        later(from)
+        from.saturating_add(1)
     }
 }
 
@@ -52,13 +47,13 @@ fn visit(
 }
 
 // The neighbours of unit `u`.
-fn reach<'a>(
+fn reach(
     u: u16,
     pairs: u16,
-    ends: &'a [u16],
-    first: &'a [u16; 256],
-    next: &'a [u16],
-    value: &'a [u16; 256],
+    ends: &[u16],
+    first: &[u16; 256],
+    next: &[u16],
+    value: &[u16; 256],
     key: &mut [u32; 256],
     via: &mut [u16; 256],
     queue: &mut [u16; 256],
@@ -76,23 +71,22 @@ fn reach<'a>(
         let at = i as usize;
         let w = ends[at] % 256;
         p = next[at];
-        if key[w as usize] != NONE {
-            continue;
+        if key[w as usize] == NONE {
+            end = visit(w, i / 2, from, value, key, via, queue, end);
         }
-        end = visit(w, i / 2, from, value, key, via, queue, end);
     }
     end
 }
 
 // The queue from `start` on, until each unit is in it.
-fn follow<'a>(
+fn follow(
     units: u16,
     pairs: u16,
     start: u16,
-    ends: &'a [u16],
-    first: &'a [u16; 256],
-    next: &'a [u16],
-    value: &'a [u16; 256],
+    ends: &[u16],
+    first: &[u16; 256],
+    next: &[u16],
+    value: &[u16; 256],
     key: &mut [u32; 256],
     via: &mut [u16; 256],
     queue: &mut [u16; 256],
@@ -104,10 +98,7 @@ fn follow<'a>(
 {
     let mut end = had;
     let mut k = start;
-    while k < end {
-        if units <= end {
-            return end;
-        }
+    while k < end && end < units {
         let u = queue[k as usize] % 256;
         end = reach(u, pairs, ends, first, next, value, key, via, queue, end);
         k += 1;
@@ -116,14 +107,14 @@ fn follow<'a>(
 }
 
 // From unit `v`, if none has reached it.
-fn begin<'a>(
+fn begin(
     units: u16,
     pairs: u16,
     v: u16,
-    ends: &'a [u16],
-    first: &'a [u16; 256],
-    next: &'a [u16],
-    value: &'a [u16; 256],
+    ends: &[u16],
+    first: &[u16; 256],
+    next: &[u16],
+    value: &[u16; 256],
     key: &mut [u32; 256],
     via: &mut [u16; 256],
     queue: &mut [u16; 256],
@@ -144,19 +135,14 @@ fn begin<'a>(
     )
 }
 
-// No unit is reached.
-pub(crate) fn none() -> [u32; 256] {
-    [NONE; 256]
-}
-
-// From each unit.
-pub(crate) fn search<'a>(
+// From each unit, until each is reached.
+pub(crate) fn search(
     units: u16,
     pairs: u16,
-    ends: &'a [u16],
-    first: &'a [u16; 256],
-    next: &'a [u16],
-    value: &'a [u16; 256],
+    ends: &[u16],
+    first: &[u16; 256],
+    next: &[u16],
+    value: &[u16; 256],
     key: &mut [u32; 256],
     via: &mut [u16; 256],
 )
@@ -165,11 +151,12 @@ pub(crate) fn search<'a>(
 {
     let mut queue = [0; 256];
     let mut end = 0;
-    let mut v = 0;
-    while v < units {
+    for v in 0..units {
+        if units <= end {
+            break;
+        }
         end = begin(
             units, pairs, v, ends, first, next, value, key, via, &mut queue, end,
         );
-        v = base_choice::choose(end < units, v + 1, units);
     }
 }

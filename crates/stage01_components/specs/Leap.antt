@@ -1,11 +1,11 @@
 -- Stage 1 as rounds of the least value over the links.
-use Rattle.std.specs.Prelude.{◌≡◌, refl, true, ◌&&◌, List, ℕ, ◌+◌, ◌<◌}
+use Rattle.std.specs.Prelude.{◌≡◌, refl, true, ◌&&◌, List, ℕ}
 use Rattle.std.proofs.Math.Path.{sym}
-use Rattle.std.proofs.Common.{◌∙◌, arith}
+use Rattle.std.proofs.Common.{arith}
 use borrow.Author.Tests.{eq-eqb, ne_eqb}
 use Rattle.base_lists.specs.Tables.{over}
 use Rattle.base_lists.specs.Tests.{refuted, and_right, and-true}
-use Rattle.spec_rules.specs.Components.{color_said, color_round, color_ends}
+use Rattle.spec_rules.specs.Components.{color_ends}
 use Rattle.spec_rules.specs.ComponentsLaws.{color_round_lem}
 use Rattle.spec_rules.specs.Fits.{links_fit}
 use Rattle.spec_state.specs.declared.groups.Clock.{Clock}

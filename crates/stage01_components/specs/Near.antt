@@ -3,11 +3,10 @@ use Rattle.std.specs.Prelude.{◌≡◌, Bool, true, false, cond, length, set, l
 use Rattle.std.proofs.Math.Path.{sym, ap}
 use Rattle.std.proofs.Common.{◌∙◌, le_antisymm, arith, get_or-set_other, lt-ltb, le-ltb}
 use mathlib.Core.List.{List}
-use Prim.Native.Nat.{ℕ, ◌+◌, ◌*◌, ◌≤◌, ◌<◌, min, max}
+use Prim.Native.Nat.{ℕ, ◌≤◌, ◌<◌, min}
 use Rattle.std.proofs.Math.Decide.{dec_lt}
 use Rattle.std.proofs.Math.ListN.{get_or}
 use Rattle.std.proofs.lemmas.List.{set-get_or}
-use Rattle.base_lists.specs.Below.{below_more}
 use Rattle.base_lists.specs.LeastLaws.{least_start}
 use Rattle.base_lists.specs.Tables.{over, length_over, get_d_over}
 use Rattle.base_lists.specs.Scatter.{takes_in}

@@ -1,5 +1,5 @@
 -- One round of stage 1 on the table that it changes, and that it is a step of the state.
-use Rattle.std.specs.Prelude.{◌≡◌, refl, Bool, ◌&&◌, List, ℕ, ◌+◌}
+use Rattle.std.specs.Prelude.{refl, Bool, ◌&&◌, List, ℕ, ◌+◌}
 use Rattle.std.proofs.Common.{arith}
 use Rattle.spec_rules.specs.Components.{color_round, color_ends}
 use Rattle.spec_rules.specs.Fits.{links_fit}

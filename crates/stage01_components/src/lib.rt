@@ -1,7 +1,7 @@
 // Stage 1, colour: the least unit of each component, by propagation.
 #![tactic(auto)]
 
-ghost use Rattle.std.specs.Prelude.{◌≡◌, true, false, ◌<◌, ◌≤◌, min, length, get_or, set};
+ghost use Rattle.std.specs.Prelude.{◌≡◌, false, ◌<◌, ◌≤◌, min, length, get_or, set, IfSome};
 ghost use Rattle.base_lists.specs.Tables.{over};
 ghost use Rattle.spec_rules.specs.Components.{least_heard, color_round};
 ghost use Rattle.spec_rules.specs.Fits.{links_fit, EndsWithin};
@@ -36,13 +36,11 @@ pub fn run(
         (record { color = color; clock = clock; made = 0 }) }
 {
     let fits = bounds::links_fit(units, links, ends);
-    let rest = leapt(fits, units, links, budget, ends, clock, color);
-    if rest.right {
+    if let Some(rest) = leapt(fits, units, links, budget, ends, clock, color) {
         let value = rest.value;
-        let c = rest.clock;
         return Ran {
             color: value,
-            clock: c,
+            clock: rest.clock,
             made: rest.made,
         };
     }
@@ -58,52 +56,33 @@ fn leapt(
     ends: &[u16; 2048],
     clock: Clock,
     color: [u16; 256],
-) -> Landed
+) -> Option<Landed>
     requires { fits ≡ links_fit units links ends.now }
-    ensures { result.right ≡ true → ran result.value result.clock result.made
+    ensures { IfSome result (λ rest. ran rest.value rest.clock rest.made
         ≡ stage_run (on units links ends.now) (one units links ends.now) budget
-        (record { color = color; clock = clock; made = 0 }) }
+        (record { color = color; clock = clock; made = 0 })) }
 {
     let goes_on = stage_clock::goes_on(fits, units, 1, 0, budget, clock);
-    if !base_choice::both(pays(units, links, budget, ends), goes_on) {
-        return Landed {
-            right: false,
-            value: color,
-            clock,
-            made: 0,
-        };
+    if !goes_on || !pays(units, links, budget, ends) {
+        return None;
     }
     let said = propagation::said(units, clock.made, color);
-    leap_least::leap(
-        units,
-        links,
-        ends,
-        base_choice::greatest_of(2, units),
-        budget,
-        said,
-        clock,
-        0,
-    )
+    leap_least::leap(units, links, ends, units.max(2), budget, said, clock, 0)
 }
 
 // Whether a leap is likely to pay: the budget covers a round for each unit, which is the most there can be, and many
 // rounds are to be expected: there are not few units, and the first is not linked with half of them. This affects speed
 // only.
 fn pays(units: u16, links: u16, budget: u16, ends: &[u16; 2048]) -> bool {
-    if base_choice::either(units < 32, budget < units) {
-        return false;
-    }
-    first_named(links, ends) < units / 2
+    units >= 32 && units <= budget && first_named(links, ends) < units / 2
 }
 
 // How often the first unit is named.
 fn first_named(links: u16, ends: &[u16; 2048]) -> u16 {
-    let words = 2 * base_choice::least_of(links, 1024);
-    let mut count: u16 = 0;
-    let mut i: u16 = 0;
-    while i < words {
-        count += base_choice::one_if(ends[i as usize] == 0);
-        i += 1;
+    let words = 2 * links.min(1024) as usize;
+    let mut count = 0;
+    for x in &ends[..words] {
+        count += u16::from(*x == 0);
     }
     count
 }
@@ -154,13 +133,11 @@ fn heard(n: u16, links: u16, ends: &[u16], value: [u16; 256]) -> [u16; 256]
     ensures { result ≡ over n (least_heard links ends.now value) value }
 {
     let mut new = value;
-    let mut j = 0;
-    while j < links {
-        let at = 2 * (j as usize);
+    for j in 0..links {
+        let at = 2 * j as usize;
         let a = ends[at];
         let b = ends[at + 1];
         hear(n, &value, a, b, &mut new);
-        j += 1;
     }
     new
 }
@@ -175,11 +152,7 @@ fn hear(n: u16, said: &[u16], a: u16, b: u16, t: &mut [u16])
     let at_b = b as usize;
     let x = said[at_a];
     let y = said[at_b];
-    lower(
-        t,
-        base_choice::choose(x < y, b, a),
-        base_choice::least_of(x, y),
-    );
+    lower(t, base_choice::choose(x < y, b, a), x.min(y));
 }
 
 // `x` at `i` where that is less.

@@ -10,18 +10,15 @@ use table_values::tables;
 
 // Each unit's head: its parent where `parents` marks their join; itself where it does not, or where the unit is a root.
 // Absent past the units.
-pub fn of<'a>(units: u16, parent: &'a [u16; 256], parents: &'a [u16; 256]) -> [u16; 256]
+pub fn of(units: u16, parent: &[u16; 256], parents: &[u16; 256]) -> [u16; 256]
     ensures { (u : ℕ) → u < 256 →
         get_or result u 0 ≡ cond (ltb u (min units 256)) (head_of parent.now parents.now u) ABSENT }
 {
-    let count = base_choice::least_of(units, 256);
     let mut new = tables::blank();
-    let mut u = 0;
-    while u < count {
+    for u in 0..units.min(256) {
         let at = u as usize;
-        let alone = base_choice::either(parents[at] == 0, parent[at] == ABSENT);
+        let alone = (parents[at] == 0) | (parent[at] == ABSENT);
         new[at] = base_choice::choose(alone, u, parent[at]);
-        u += 1;
     }
     new
 }
@@ -30,29 +27,25 @@ pub fn of<'a>(units: u16, parent: &'a [u16; 256], parents: &'a [u16; 256]) -> [u
 pub fn without_roots(units: u16, parent: &[u16; 256], value: [u16; 256]) -> [u16; 256]
     ensures { result ≡ over (min units 256) (said_by parent.now value) value }
 {
-    let old = value;
-    least(units, parent, &value, &value, old)
+    least(units, parent, &value, &value, value)
 }
 
 // What a unit took in, and what its head told it; roots are absent.
-pub fn least<'a>(
+pub fn least(
     units: u16,
-    parent: &'a [u16; 256],
-    told: &'a [u16; 256],
-    t: &'a [u16; 256],
+    parent: &[u16; 256],
+    told: &[u16; 256],
+    t: &[u16; 256],
     old: [u16; 256],
 ) -> [u16; 256]
     ensures { result ≡ over (min units 256)
         (least_of parent.now told.now t.now) old }
 {
-    let count = base_choice::least_of(units, 256);
     let mut new = old;
-    let mut v = 0;
-    while v < count {
+    for v in 0..units.min(256) {
         let at = v as usize;
-        let x = base_choice::least_of(t[at], told[at]);
+        let x = t[at].min(told[at]);
         new[at] = base_choice::choose(parent[at] == ABSENT, ABSENT, x);
-        v += 1;
     }
     new
 }

@@ -7,13 +7,13 @@ use table::ABSENT;
 use table_values::tables;
 
 // How many there are. At most 256 units and 1,024 links count.
-pub fn joins<'a>(
+pub fn joins(
     units: u16,
     links: u16,
-    ends: &'a [u16; 2048],
-    parent: &'a [u16; 256],
-    linked: &'a [u16; 1024],
-    parents: &'a [u16; 256],
+    ends: &[u16; 2048],
+    parent: &[u16; 256],
+    linked: &[u16; 1024],
+    parents: &[u16; 256],
     pairs: &mut [u16; 2560],
 ) -> u16
     ensures heard { Hears result pairs.new
@@ -21,65 +21,57 @@ pub fn joins<'a>(
         parents.now) }
     ensures room { length pairs.new ≡ 2560 }
 {
-    let most = base_choice::least_of(links, 1024);
-    let all = base_choice::least_of(units, 256);
-    let count = of_links(most, ends, parent, linked, pairs);
-    of_parents(all, parent, parents, pairs, count)
+    let count = of_links(links.min(1024), ends, parent, linked, pairs);
+    of_parents(units.min(256), parent, parents, pairs, count)
 }
 
 // The joins of links. Those that are not marked are passed over.
-fn of_links<'a>(
+fn of_links(
     links: u16,
-    ends: &'a [u16; 2048],
-    parent: &'a [u16; 256],
-    linked: &'a [u16; 1024],
-    pairs: &mut [u16],
+    ends: &[u16; 2048],
+    parent: &[u16; 256],
+    linked: &[u16; 1024],
+    pairs: &mut [u16; 2560],
 ) -> u16
-    requires { (links ≤ 1024) × (length pairs.old ≡ 2560) }
+    requires { links ≤ 1024 }
     ensures few { result ≤ links }
     ensures heard { Hears result pairs.new
         (links_heard links ends.now parent.now linked.now) }
 {
     let mut count = 0;
-    let mut j = 0;
-    while j < links {
+    for j in 0..links {
         let at = j as usize;
         if linked[at] == 0 {
-            j += 1;
             continue;
         }
         let a = ends[2 * at];
         let b = ends[2 * at + 1];
         count = push(no_roots(parent, a, b), a, b, pairs, count);
-        j += 1;
     }
     count
 }
 
 // The joins with parents, after those of links.
-fn of_parents<'a>(
+fn of_parents(
     units: u16,
-    parent: &'a [u16; 256],
-    parents: &'a [u16; 256],
-    pairs: &mut [u16],
+    parent: &[u16; 256],
+    parents: &[u16; 256],
+    pairs: &mut [u16; 2560],
     had: u16,
 ) -> u16
-    requires { (units ≤ 256) × (had ≤ 1024) × (length pairs.old ≡ 2560) }
+    requires { (units ≤ 256) × (had ≤ 1024) }
     ensures { (m : ℕ) (ends linked : List ℕ) →
         Hears had pairs.old (links_heard m ends parent.now linked)
         → Hears result pairs.new (joins_heard units m ends parent.now linked parents.now) }
 {
     let mut count = had;
-    let mut u = 0;
-    while u < units {
+    for u in 0..units {
         let at = u as usize;
         if parents[at] == 0 {
-            u += 1;
             continue;
         }
         let b = parent[at];
         count = push(no_roots(parent, u, b), u, b, pairs, count);
-        u += 1;
     }
     count
 }
@@ -88,19 +80,16 @@ fn of_parents<'a>(
 fn no_roots(parent: &[u16; 256], a: u16, b: u16) -> bool
     ensures { result ≡ (not (is_root parent.now a) && not (is_root parent.now b)) }
 {
-    base_choice::both(
-        tables::at(parent, a) != ABSENT,
-        tables::at(parent, b) != ABSENT,
-    )
+    (tables::at(parent, a) != ABSENT) & (tables::at(parent, b) != ABSENT)
 }
 
 // A pair, counted where the test holds.
-fn push(counts: bool, a: u16, b: u16, pairs: &mut [u16], count: u16) -> u16
-    requires { (count < 1280) × (length pairs.old ≡ 2560) }
+fn push(counts: bool, a: u16, b: u16, pairs: &mut [u16; 2560], count: u16) -> u16
+    requires { count < 1280 }
     ensures stored { pairs.new ≡ set (set pairs.old (2 * count) a) (2 * count + 1) b }
     ensures counted { result ≡ cond counts (count + 1) count }
 {
-    let at = 2 * (count as usize);
+    let at = 2 * count as usize;
     pairs[at] = a;
     pairs[at + 1] = b;
     base_choice::choose(counts, count + 1, count)

@@ -14,7 +14,7 @@ use Rattle.base_lists.specs.Tables.{over, length_over, get_d_over, get_d_over_pa
 use Rattle.base_lists.specs.Rounds.{over-same}
 use Rattle.base_lists.specs.Tests.{either, refuted, and_right, and-true, cond_true, cond_false}
 use Rattle.table.specs.Table.{end_a, end_b}
-use Rattle.spec_rules.specs.Basics.{ABSENT, at, is_root, heard}
+use Rattle.spec_rules.specs.Basics.{ABSENT, at, is_root}
 use Rattle.spec_rules.specs.Components.{least_heard}
 use Rattle.spec_rules.specs.Aux.{heard_over, least_joined, aux_round, aux_ends}
 use Rattle.spec_state.specs.declared.groups.Clock.{Clock}

@@ -1,7 +1,7 @@
 // Stage 9, classes: the components of the auxiliary graph, by stage 1's rule.
 #![tactic(auto)]
 
-ghost use Rattle.std.specs.Prelude.{◌≡◌, true, List, ℕ, ◌≤◌, ◌<◌, length, get_or};
+ghost use Rattle.std.specs.Prelude.{◌≡◌, true, List, ℕ, ◌≤◌, ◌<◌, length, get_or, IfSome};
 ghost use Rattle.spec_rules.specs.Aux.{aux_round};
 ghost use Rattle.spec_rules.specs.Fits.{EndsWithin};
 ghost use Rattle.spec_machine.specs.InStage.{in_stage};
@@ -26,14 +26,14 @@ pub struct Ran {
 }
 
 // Runs up to `budget` rounds of this stage.
-pub fn run<'a>(
+pub fn run(
     units: u16,
     links: u16,
     budget: u16,
-    ends: &'a [u16; 2048],
-    parent: &'a [u16; 256],
-    linked: &'a [u16; 1024],
-    parents: &'a [u16; 256],
+    ends: &[u16; 2048],
+    parent: &[u16; 256],
+    linked: &[u16; 1024],
+    parents: &[u16; 256],
     clock: Clock,
     color: [u16; 256],
 ) -> Ran
@@ -41,19 +41,14 @@ pub fn run<'a>(
         (one units links ends.now parent.now linked.now parents.now) budget
         (record { color = color; clock = clock; made = 0 }) }
 {
-    let fits = base_choice::both(
-        bounds::links_fit(units, links, ends),
-        bounds::names_ok(units as u32, parent),
-    );
-    let rest = leapt(
+    let fits = bounds::links_fit(units, links, ends) & bounds::names_ok(units as u32, parent);
+    if let Some(rest) = leapt(
         fits, units, links, budget, ends, parent, linked, parents, clock, color,
-    );
-    if rest.right {
+    ) {
         let value = rest.value;
-        let c = rest.clock;
         return Ran {
             color: value,
-            clock: c,
+            clock: rest.clock,
             made: rest.made,
         };
     }
@@ -63,32 +58,27 @@ pub fn run<'a>(
 }
 
 // The whole stage at once, where that pays and is found right.
-fn leapt<'a>(
+fn leapt(
     fit: bool,
     units: u16,
     links: u16,
     budget: u16,
-    ends: &'a [u16; 2048],
-    parent: &'a [u16; 256],
-    linked: &'a [u16; 1024],
-    parents: &'a [u16; 256],
+    ends: &[u16; 2048],
+    parent: &[u16; 256],
+    linked: &[u16; 1024],
+    parents: &[u16; 256],
     clock: Clock,
     color: [u16; 256],
-) -> Landed
+) -> Option<Landed>
     requires { fit ≡ fits units links ends.now parent.now }
-    ensures { result.right ≡ true → ran result.value result.clock result.made
+    ensures { IfSome result (λ rest. ran rest.value rest.clock rest.made
         ≡ stage_run (on units links ends.now parent.now)
         (one units links ends.now parent.now linked.now parents.now) budget
-        (record { color = color; clock = clock; made = 0 }) }
+        (record { color = color; clock = clock; made = 0 })) }
 {
     let goes_on = stage_clock::goes_on(fit, units, 9, 0, budget, clock);
-    if !base_choice::both(pays(units, budget, clock.made, parents), goes_on) {
-        return Landed {
-            right: false,
-            value: color,
-            clock,
-            made: 0,
-        };
+    if !goes_on || !pays(units, budget, clock.made, parents) {
+        return None;
     }
     over_pairs(
         units, links, budget, ends, parent, linked, parents, clock, color,
@@ -101,63 +91,55 @@ fn leapt<'a>(
 fn pays(units: u16, budget: u16, made: u16, parents: &[u16; 256]) -> bool
     ensures { result ≡ true → made ≡ 0 }
 {
-    if made != 0 {
-        return false;
-    }
-    if base_choice::either(units < 32, budget < units) {
-        return false;
-    }
-    some_joins(parents)
+    made == 0 && units >= 32 && units <= budget && some_joins(parents)
 }
 
 // Whether a unit joins its parent. Every mark is looked at, without a branch.
 fn some_joins(parents: &[u16; 256]) -> bool {
     let mut some = false;
-    let mut u = 0;
-    while u < 256 {
-        some = base_choice::either(some, parents[u] != 0);
-        u += 1;
+    for mark in parents {
+        some |= *mark != 0;
     }
     some
 }
 
 // Over the joins as pairs.
-fn over_pairs<'a>(
+fn over_pairs(
     units: u16,
     links: u16,
     budget: u16,
-    ends: &'a [u16; 2048],
-    parent: &'a [u16; 256],
-    linked: &'a [u16; 1024],
-    parents: &'a [u16; 256],
+    ends: &[u16; 2048],
+    parent: &[u16; 256],
+    linked: &[u16; 1024],
+    parents: &[u16; 256],
     clock: Clock,
     color: [u16; 256],
-) -> Landed
+) -> Option<Landed>
     requires { (units ≤ 256) × (fits units links ends.now parent.now ≡ true) × (in_stage units 9 clock ≡ true)
         × (clock.made ≡ 0) }
-    ensures { result.right ≡ true → ran result.value result.clock result.made
+    ensures { IfSome result (λ rest. ran rest.value rest.clock rest.made
         ≡ stage_run (on units links ends.now parent.now)
         (one units links ends.now parent.now linked.now parents.now) budget
-        (record { color = color; clock = clock; made = 0 }) }
+        (record { color = color; clock = clock; made = 0 })) }
 {
     let mut table = [0; 2560];
     let count = stage09_aux::pairs::joins(units, links, ends, parent, linked, parents, &mut table);
     let value = propagation::said(units, 0, color);
     let said = stage09_aux::heads::without_roots(units, parent, value);
-    let most = base_choice::greatest_of(2, base_choice::difference(units, 1));
+    let most = units.saturating_sub(1).max(2);
     leap_least::leap(units, count, &table, most, budget, said, clock, 0)
 }
 
 // Runs up to `budget` rounds of this stage, one after the other.
-fn rounds<'a>(
+fn rounds(
     fit: bool,
     units: u16,
     links: u16,
     budget: u16,
-    ends: &'a [u16; 2048],
-    parent: &'a [u16; 256],
-    linked: &'a [u16; 1024],
-    parents: &'a [u16; 256],
+    ends: &[u16; 2048],
+    parent: &[u16; 256],
+    linked: &[u16; 1024],
+    parents: &[u16; 256],
     clock: Clock,
     color: [u16; 256],
 ) -> Ran
@@ -187,14 +169,14 @@ fn rounds<'a>(
 
 // The classes after a round. A root says the absent mark, which lowers no word: so no join asks for roots, and what
 // they took in is written over at the end.
-fn round<'a>(
+fn round(
     units: u16,
     links: u16,
     made: u16,
-    ends: &'a [u16; 2048],
-    parent: &'a [u16; 256],
-    linked: &'a [u16; 1024],
-    heads: &'a [u16; 256],
+    ends: &[u16; 2048],
+    parent: &[u16; 256],
+    linked: &[u16; 1024],
+    heads: &[u16; 256],
     color: [u16; 256],
 ) -> [u16; 256]
     requires { (units ≤ 256) × (links ≤ 1024) × EndsWithin units links ends.now

@@ -6,10 +6,10 @@ use table_values::tables;
 
 // Each unit tells its head what it says, and is told what the head says. One pass for both: the one that follows reads
 // nothing by another unit's number.
-pub(crate) fn propagate<'a>(
+pub(crate) fn propagate(
     units: u16,
-    heads: &'a [u16; 256],
-    said: &'a [u16; 256],
+    heads: &[u16; 256],
+    said: &[u16; 256],
     t: &mut [u16; 256],
 ) -> [u16; 256]
     requires { (units ≤ 256) × ((u : ℕ) → u < units → get_or heads.now u 0 < units) }
@@ -17,14 +17,11 @@ pub(crate) fn propagate<'a>(
         × ((u : ℕ) → u < units → get_or result u 0 ≡ by_head heads.now said.now u) }
 {
     let mut told = tables::blank();
-    let mut u = 0;
-    while u < units {
+    for u in 0..units {
         let at = u as usize;
         let head = heads[at] as usize;
         told[at] = said[head];
-        let x = base_choice::least_of(t[head], said[at]);
-        t[head] = x;
-        u += 1;
+        t[head] = t[head].min(said[at]);
     }
     told
 }

@@ -1,15 +1,12 @@
 -- Round after round: each is one of the definition's, as long as the stage goes on.
-use mathlib.Core.Path.{◌≡◌}
 use Prim.Native.Nat.{◌-◌}
-use lib.ListN.{length}
 use Rattle.spec_machine.specs.StageRun.{Turning}
 use Rattle.stage01_components.specs.Rounds.{on, one}
 use Rattle.stage01_components.proofs.rounds.Given as goal
 
 abbrev pub invariant-loop-value : goal.invariant-loop-value
 invariant-loop-value l =
-    (length l.value ≡ 256)
-    × Turning (on l.units l.links l.ends) (one l.units l.links l.ends) l.budget (record {
+    Turning (on l.units l.links l.ends) (one l.units l.links l.ends) l.budget (record {
       color = l.initial.value;
       clock = l.initial.c;
       made = 0;

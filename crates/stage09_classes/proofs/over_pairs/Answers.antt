@@ -1,9 +1,11 @@
 -- By the law of leaps over the pairs.
 use mathlib.Core.Path.{◌≡◌, sym, ap, ◌∙◌}
 use mathlib.Core.Bool.{cond}
-use Prim.Native.Nat.{ℕ, ◌-◌, min}
+use Prim.Native.Nat.{ℕ, ◌-◌, min, max}
 use native.Mathlib.Omega.{arith}
 use lib.Dec.{eqb}
+use borrow.Author.Rules.{rules}
+use Rattle.std.proofs.lemmas.Option.{IfSome_then}
 use borrow.Author.Tests.{eq-eqb}
 use Rattle.base_lists.specs.Folds.{every}
 use Rattle.base_lists.specs.Tables.{over, length_over}
@@ -37,14 +39,16 @@ returns c =
     rw none (roots_absent a.units a.parent.now (over a.units (λ (v : ℕ). v) a.color)
     (omega (arith, c.requires.0, c.well_formed, length_over a.units (λ (v : ℕ). v) a.color))) in
     let all : a.budget - 0 ≡ a.budget = omega arith in
-    λ right.
+    let most : c.max-most.result ≡ max 2 (a.units - 1) = search rules in
+    IfSome_then c.leap.result c.leap.ensures.leapt
+    (λ rest leapt.
     leapt-run ran (on a.units a.links a.ends.now a.parent.now)
     (one a.units a.links a.ends.now a.parent.now a.linked.now a.parents.now) a.units
     c.joins-count.result 9 _ (numbers a.units a.parent.now) (RootsAbsent a.units a.parent.now)
     (spreads a.units a.links a.ends.now a.parent.now a.linked.now a.parents.now
     c.joins-count.result _ (rw (units, links) at c.joins-count.ensures.heard) c.requires.1) a.budget a.color
     a.clock 0 _ _ _
-    (rw (c.greatest_of-most.ensures, c.difference.ensures, says) at (c.leap.ensures.leapt right)) fine c.requires.2
+    (rw (most, says) at leapt) fine c.requires.2
     ∙ ap (λ (b : ℕ). stage_run (on a.units a.links a.ends.now a.parent.now)
     (one a.units a.links a.ends.now a.parent.now a.linked.now a.parents.now) b
-    (ran a.color a.clock 0)) all
+    (ran a.color a.clock 0)) all)

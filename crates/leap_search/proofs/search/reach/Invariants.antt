@@ -1,5 +1,5 @@
 -- Along a chain, which falls.
-use Prim.Native.Nat.{◌*◌, ◌≤◌, ◌-◌}
+use Prim.Native.Nat.{◌*◌, ◌≤◌}
 use Rattle.leap_search.proofs.search.reach.Given as goal
 
 abbrev pub invariant-loop-p : goal.invariant-loop-p

@@ -1,9 +1,6 @@
 -- Unit by unit, until all are reached.
-use Prim.Native.Nat.{◌-◌, ◌≤◌}
+use Prim.Native.Nat.{◌≤◌}
 use Rattle.leap_search.proofs.search.search.Given as goal
 
 abbrev pub invariant-loop-v : goal.invariant-loop-v
 invariant-loop-v l = l.end ≤ 256
-
-abbrev pub decreases-loop-v : goal.decreases-loop-v
-decreases-loop-v l = l.units - l.v

@@ -2,7 +2,7 @@
 use mathlib.Core.Path.{◌≡◌, refl, ◌∙◌}
 use mathlib.Core.Bool.{cond}
 use mathlib.Core.List.{List}
-use Prim.Native.Nat.{ℕ, ◌<◌, ◌-◌, min}
+use Prim.Native.Nat.{ℕ, ◌<◌, min}
 use native.Mathlib.Decide.{dec_lt}
 use native.Mathlib.Omega.{arith}
 use lib.Dec.{ltb}
@@ -26,14 +26,13 @@ head_at n f old new u full is h was (no l) =
 pub loop-u-preserved : goal.loop-u-preserved
 loop-u-preserved c =
     let a = c.args in
-    let is : c.choose.result ≡ head_of a.parent.now a.parents.now c.loop-u.u = cc in
-    (search rules, search rules, search rules, over-more _ _ _ _ _ _ c.loop-u.invariant.3 is refl)
+    let is : c.choose.result ≡ head_of a.parent.now a.parents.now c.loop-u.u = search rules in
+    over-more _ _ _ _ _ _ c.loop-u.invariant is refl
 
 pub returns : goal.returns
 returns c =
     let a = c.args in
-    let all : c.loop-u.u ≡ min a.units 256 =
-    omega (arith, c.loop-u.invariant.0, c.loop-u-test.false, c.least_of-count.ensures) in
+    let all : c.loop-u.u ≡ min a.units 256 = search rules in
     λ u h. head_at (min a.units 256) (head_of a.parent.now a.parents.now) c.blank-new.result
-    c.loop-u.new u c.loop-u.invariant.1 (rw all at c.loop-u.invariant.3) h (c.blank-new.ensures u h)
+    c.loop-u.new u (search rules) (rw all at c.loop-u.invariant) h (c.blank-new.ensures u h)
     (dec_lt u (min a.units 256))
