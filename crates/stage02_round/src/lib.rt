@@ -55,8 +55,8 @@ fn chosen(links: u16, made: u16, ends: &[u16], levels: &[i16], dist: &[u16]) -> 
     ensures { (v : ℕ) → v < max_units →
         get_or result v 0 ≡ chosen_parent links made (wrapped ends.now) levels.now dist.now v }
 {
-    let mut held = choice::no_levels();
-    let mut best = choice::no_units();
+    let mut held = [0; 256];
+    let mut best = [ABSENT; 256];
     for j in 0..links as usize {
         let at = 2 * j;
         let a = ends[at] % 256;

@@ -1,5 +1,6 @@
 -- Link by link, from tables without neighbours.
 use Rattle.std.proofs.Common.{ℕ, pos, get_or, w16, rules}
+use Rattle.std.proofs.lemmas.List.{get_or-replicate}
 use mir.ValLaws.{to_z-of_z}
 use Rattle.spec_rules.specs.Tree.{visited_before}
 use Rattle.spec_rules.specs.TreeLaws.{best_none, best-more, chosen-all}
@@ -9,9 +10,8 @@ use Rattle.stage02_round.proofs.chosen.Goals as goal
 pub loop-j-init : goal.loop-j-init
 loop-j-init c =
     let a = c.args in
-    best_none (λ (v : ℕ). visited_before a.made a.dist.now) (wrapped a.ends.now)
-    a.levels.now c.no_levels-held.result c.no_units-best.result (search rules) (search rules)
-    c.no_levels-held.ensures c.no_units-best.ensures
+    best_none (λ (v : ℕ). visited_before a.made a.dist.now) (wrapped a.ends.now) a.levels.now _ _ (search rules)
+    (search rules) (λ i h. get_or-replicate 256 i (pos 0) (pos 0) h) (λ i h. get_or-replicate 256 i 65535 0 h)
 
 pub loop-j-preserved : goal.loop-j-preserved
 loop-j-preserved c =
