@@ -5,7 +5,7 @@
 ghost use Rattle.std.specs.Prelude.{IfSome};
 ghost use Rattle.stage02_leap.specs.Goal.{Leapt};
 
-use distances::Leap;
+pub use distances::Leap;
 
 mod ahead;
 mod distances;
