@@ -112,7 +112,7 @@ fn remaining(
         (one units links given plan.now ends.now levels.now color.now) left
         (record { parent = parent; dist = dist; clock = clock; made = made })) }
 {
-    if given != 0 {
+    if 0 < given {
         return None;
     }
     let found = stage02_leap::leap(units, links, clock.made, ends, levels, parent, dist)?;
