@@ -2,7 +2,7 @@
 // sum; tests over every object say whether these are right. The walk is proved safe and no more.
 #![tactic(auto)]
 
-ghost use Rattle.std.specs.Prelude.{◌≡◌, ◌+◌, ◌≤◌, true, false};
+ghost use Rattle.std.specs.Prelude.{◌≡◌, ◌+◌, ◌≤◌, true, IfSome};
 ghost use Rattle.spec_rules.specs.Ceilings.{ranking_ceiling};
 ghost use Rattle.leap_ranking.specs.Leapt.{tried, cleared, passed, Found, Leapt};
 
@@ -13,19 +13,17 @@ use table_values::bounds;
 mod tests;
 mod walk;
 
-// The sums of all objects, how often they ask and in how many rounds, and whether that is right.
+// The sums of all objects, how often they ask and in how many rounds.
 #[derive(Drop)]
 struct Summed {
-    right: bool,
     sum: [u16; 512],
     requests: u16,
     rounds: u16,
 }
 
-// What a run of a ranking leaves that ends within its budget, and whether that is right.
+// What a run of a ranking leaves that ends within its budget.
 #[derive(Clone, Copy)]
 pub struct Landed {
-    pub right: bool,
     pub jump: [u16; 512],
     pub sum: [u16; 512],
     pub clock: Clock,
@@ -36,47 +34,40 @@ pub struct Landed {
 pub fn tried(units: u16, budget: u16) -> bool
     ensures { result ≡ tried units budget }
 {
-    base_choice::both(8 <= units, 12 <= budget)
+    (8 <= units) & (12 <= budget)
 }
 
-// The rest of a ranking of the arcs of `units` units.
-pub fn leap(units: u16, budget: u16, clock: Clock, jump: [u16; 512], sum: [u16; 512]) -> Landed
-    ensures leapt { result.right ≡ true →
-        Leapt units budget jump sum clock result.jump result.sum result.clock result.made }
-    ensures stays { result.right ≡ false →
-        (result.jump ≡ jump) × (result.sum ≡ sum) × (result.clock ≡ clock) × (result.made ≡ 0) }
+// The rest of a ranking of the arcs of `units` units, if what the walk finds is right and the run ends within its
+// budget.
+pub fn leap(
+    units: u16,
+    budget: u16,
+    clock: Clock,
+    jump: [u16; 512],
+    sum: [u16; 512],
+) -> Option<Landed>
+    ensures leapt { IfSome result (λ (l : Landed).
+        Leapt units budget jump sum clock l.jump l.sum l.clock l.made) }
 {
     if 256 < units {
-        return Landed {
-            right: false,
-            jump,
-            sum,
-            clock,
-            made: 0,
-        };
+        return None;
     }
     let arcs = 2 * (units as usize);
-    let found = found(arcs, jump, sum);
-    let covered = covers(units, found.rounds, budget, clock);
-    if !base_choice::both(found.right, covered) {
-        return Landed {
-            right: false,
-            jump,
-            sum,
-            clock,
-            made: 0,
-        };
+    let Summed {
+        sum: total,
+        requests,
+        rounds,
+    } = found(arcs, jump, sum)?;
+    if !covers(units, rounds, budget, clock) {
+        return None;
     }
-    let made = found.rounds + 1;
-    let after = passed(made, found.requests, clock);
-    let total = found.sum;
-    Landed {
-        right: true,
+    let made = rounds + 1;
+    Some(Landed {
         jump: cleared(arcs, jump),
         sum: total,
-        clock: after,
+        clock: passed(made, requests, clock),
         made,
-    }
+    })
 }
 
 // A round more than these is within the budget and the ceiling, from one of the ten stages.
@@ -85,14 +76,8 @@ fn covers(units: u16, rounds: u16, budget: u16, clock: Clock) -> bool
     ensures { result ≡ true → (clock.stage ≤ 10) × (rounds + 1 ≤ budget)
         × (clock.made + (rounds + 1) ≤ ranking_ceiling units) }
 {
-    if 10 < clock.stage {
-        return false;
-    }
-    if budget <= rounds {
-        return false;
-    }
-    let most = base_log2::lg(base_choice::difference(2 * units, 2)) as u32 + 1;
-    clock.made as u32 + (rounds as u32 + 1) <= most
+    let most = base_log2::lg((2 * units).saturating_sub(2)) as u32 + 1;
+    clock.stage <= 10 && rounds < budget && clock.made as u32 + (rounds as u32 + 1) <= most
 }
 
 // The clock after the rounds and requests of a leap, the last round of which ends the stage.
@@ -103,8 +88,11 @@ fn passed(rounds: u16, requests: u16, clock: Clock) -> Clock
     Clock {
         stage: clock.stage + 1,
         made: 0,
-        rounds: base_choice::limited(clock.rounds, rounds, Clock::MAX_ROUNDS),
-        requests: base_choice::limited(clock.requests, requests, Clock::MAX_REQUESTS),
+        rounds: clock.rounds.saturating_add(rounds).min(Clock::MAX_ROUNDS),
+        requests: clock
+            .requests
+            .saturating_add(requests)
+            .min(Clock::MAX_REQUESTS),
     }
 }
 
@@ -114,30 +102,30 @@ fn cleared(arcs: usize, jump: [u16; 512]) -> [u16; 512]
     ensures { result ≡ cleared arcs jump }
 {
     let mut new = jump;
-    let mut a = 0;
-    while a < arcs {
+    for a in 0..arcs {
         new[a] = ABSENT;
-        a += 1;
     }
     new
 }
 
-// What a walk finds, tested.
-fn found(arcs: usize, jump: [u16; 512], sum: [u16; 512]) -> Summed
+// What a walk finds, where tests over every object say that it is right.
+fn found(arcs: usize, jump: [u16; 512], sum: [u16; 512]) -> Option<Summed>
     requires { arcs ≤ 512 }
-    ensures sums { result.right ≡ true → Found arcs jump sum result.sum result.requests result.rounds }
-    ensures few { result.rounds ≤ 16 }
+    ensures sums { IfSome result (λ (s : Summed). Found arcs jump sum s.sum s.requests s.rounds) }
+    ensures few { IfSome result (λ (s : Summed). s.rounds ≤ 16) }
 {
     let key = walk::walk(arcs, &jump, &sum);
     let total = tests::sums(arcs, &key, sum);
+    let bounded = bounds::numbers_ok(&sum) & bounds::numbers_ok(&total);
+    let right = bounded & tests::keys_right(arcs, &jump, &sum, &key);
+    if !right {
+        return None;
+    }
     let rank = tests::ranks(arcs, &key, sum);
     let asked = tests::asked(arcs, &rank);
-    let bounded = base_choice::both(bounds::numbers_ok(&sum), bounds::numbers_ok(&total));
-    let right = base_choice::both(bounded, tests::keys_right(arcs, &jump, &sum, &key));
-    Summed {
-        right,
+    Some(Summed {
         sum: total,
         requests: asked.requests,
         rounds: asked.rounds,
-    }
+    })
 }

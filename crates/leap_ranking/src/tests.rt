@@ -36,22 +36,8 @@ fn digits(rank: u16) -> u16
     if rank == 0 {
         0
     } else {
-        16 - u16::leading_zeros(rank) as u16
+        16 - rank.leading_zeros() as u16
     }
-}
-
-// A word as an index.
-fn index(x: u16) -> usize
-    ensures { result ≡ x }
-{
-    x as usize
-}
-
-// The key of the first object of a list.
-fn own_sum(key: u32, own: u16) -> bool
-    ensures { result ≡ (key == own) }
-{
-    key == own as u32
 }
 
 // The key of an object whose predecessor has the key `before`.
@@ -62,44 +48,28 @@ fn comes_after(key: u32, before: u32, own: u16) -> bool
 }
 
 // An object is the first of its list and has its own sum, or comes one rank after its predecessor and adds its own sum.
-fn key_right<'a>(
-    arcs: usize,
-    jump: &'a [u16; 512],
-    sum: &'a [u16; 512],
-    key: &'a [u32; 512],
-    a: usize,
-) -> bool
+fn key_right(arcs: usize, jump: &[u16; 512], sum: &[u16; 512], key: &[u32; 512], a: usize) -> bool
     requires { (arcs ≤ 512) × (a < arcs) }
     ensures { result ≡ key_right arcs jump.now sum.now key.now a }
 {
     let before = jump[a];
     if before == ABSENT {
-        return own_sum(key[a], sum[a]);
+        return key[a] == sum[a] as u32;
     }
-    let at = index(before);
-    if arcs <= at {
-        return false;
-    }
-    comes_after(key[a], key[at], sum[a])
+    let at = before as usize;
+    at < arcs && comes_after(key[a], key[at], sum[a])
 }
 
 // Every object.
-pub(crate) fn keys_right<'a>(
-    arcs: usize,
-    jump: &'a [u16; 512],
-    sum: &'a [u16; 512],
-    key: &'a [u32; 512],
-) -> bool
+pub(crate) fn keys_right(arcs: usize, jump: &[u16; 512], sum: &[u16; 512], key: &[u32; 512]) -> bool
     requires { arcs ≤ 512 }
     ensures { result ≡ true → (a : ℕ) → a < arcs →
         key_right arcs jump.now sum.now key.now a ≡ true }
 {
-    let mut a = 0;
-    while a < arcs {
+    for a in 0..arcs {
         if !key_right(arcs, jump, sum, key, a) {
             return false;
         }
-        a += 1;
     }
     true
 }
@@ -110,10 +80,8 @@ pub(crate) fn sums(arcs: usize, key: &[u32; 512], sum: [u16; 512]) -> [u16; 512]
     ensures { result ≡ over arcs (λ (a : ℕ). sum_in (slice_index key.now a)) sum }
 {
     let mut new = sum;
-    let mut a = 0;
-    while a < arcs {
+    for a in 0..arcs {
         new[a] = sum_in(key[a]);
-        a += 1;
     }
     new
 }
@@ -124,10 +92,8 @@ pub(crate) fn ranks(arcs: usize, key: &[u32; 512], old: [u16; 512]) -> [u16; 512
     ensures { result ≡ over arcs (λ (a : ℕ). rank_in (slice_index key.now a)) old }
 {
     let mut new = old;
-    let mut a = 0;
-    while a < arcs {
+    for a in 0..arcs {
         new[a] = rank_in(key[a]);
-        a += 1;
     }
     new
 }
@@ -141,12 +107,10 @@ pub(crate) fn asked(arcs: usize, rank: &[u16; 512]) -> Counted
 {
     let mut requests: u16 = 0;
     let mut rounds: u16 = 0;
-    let mut a = 0;
-    while a < arcs {
+    for a in 0..arcs {
         let more = digits(rank[a]);
         requests += more;
-        rounds = base_choice::greatest_of(rounds, more);
-        a += 1;
+        rounds = rounds.max(more);
     }
     Counted { requests, rounds }
 }

@@ -16,63 +16,45 @@ fn followers(
     ensures { result ≤ 512 }
 {
     let mut count: usize = 0;
-    let mut a: usize = 0;
-    while a < arcs {
-        let before = jump[a];
+    for a in 0..arcs {
+        let before = jump[a] as usize;
         if before < 512 {
-            next[before as usize] = a as u16;
-            a += 1;
-            continue;
+            next[before] = a as u16;
+        } else {
+            firsts[count] = a as u16;
+            count += 1;
         }
-        firsts[count] = a as u16;
-        count += 1;
-        a += 1;
     }
     count
 }
 
-// The key of the first object of a list.
-fn first(own: u16) -> u32 {
-    own as u32
-}
-
-// The key of the next.
-fn following(key: u32, own: u16) -> u32 {
-    std::num::wrapping_add_u32(key, 65536 + own as u32)
-}
-
-// The list that begins with object `begin`.
-fn follow<'a>(begin: u16, sum: &'a [u16; 512], next: &'a [u16; 512], key: &mut [u32; 512]) {
-    if 512 <= begin {
+// The list that begins with object `begin`: the first has its own sum as its key, each further one rank more.
+fn follow(begin: u16, sum: &[u16; 512], next: &[u16; 512], key: &mut [u32; 512]) {
+    let mut a = begin as usize;
+    if 512 <= a {
         return;
     }
-    let mut a = begin as usize;
-    let mut here = first(sum[a]);
-    let mut left: u16 = 512;
-    while 0 < left {
+    let mut here = sum[a] as u32;
+    for _ in 0..512 {
         key[a] = here;
-        let after = next[a];
-        if 512 <= after {
+        a = next[a] as usize;
+        if 512 <= a {
             return;
         }
-        a = after as usize;
-        here = following(here, sum[a]);
-        left -= 1;
+        here = here.wrapping_add(65536 + sum[a] as u32);
     }
 }
 
 // Every list.
-pub(crate) fn walk<'a>(arcs: usize, jump: &'a [u16; 512], sum: &'a [u16; 512]) -> [u32; 512]
+pub(crate) fn walk(arcs: usize, jump: &[u16; 512], sum: &[u16; 512]) -> [u32; 512]
     requires { arcs ≤ 512 }
 {
     let mut next = [ABSENT; 512];
     let mut firsts = [0; 512];
     let mut key = [0; 512];
     let count = followers(arcs, jump, &mut next, &mut firsts);
-    let mut i = 0;
-    while i < count {
-        follow(firsts[i], sum, &next, &mut key);
-        i += 1;
+    for begin in &firsts[..count] {
+        follow(*begin, sum, &next, &mut key);
     }
     key
 }

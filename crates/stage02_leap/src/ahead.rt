@@ -3,27 +3,33 @@
 ghost use Rattle.std.specs.Prelude.{◌≡◌, ◌<◌, ◌≤◌, length};
 
 use table::ABSENT;
-use table_values::tables;
 
-// A distance for each unit, and the unit reached last; absent where all had one.
+// A distance for each unit, and the unit reached last.
 #[derive(Clone, Copy)]
 pub struct Found {
     pub far: [u16; 256],
     pub tip: u16,
 }
 
-pub(crate) fn distances(units: u16, links: u16, made: u16, ends: &[u16], dist: [u16; 256]) -> Found
+// Nothing is found where all units had a distance.
+pub(crate) fn distances(
+    units: u16,
+    links: u16,
+    made: u16,
+    ends: &[u16],
+    dist: [u16; 256],
+) -> Option<Found>
     requires { (units ≤ 256) × (links ≤ 1024) × (length ends.now ≡ 2048) }
 {
     let mut far = dist;
-    let mut queue = tables::blank();
-    let seeds = begin(units, base_choice::difference(made, 1), &far, &mut queue);
+    let mut queue = [ABSENT; 256];
+    let seeds = begin(units, made.saturating_sub(1), &far, &mut queue);
     let absent = missing(units, &far);
     if absent == 0 {
-        return Found { far, tip: ABSENT };
+        return None;
     }
-    let mut first = tables::blank();
-    let mut next = no_places();
+    let mut first = [ABSENT; 256];
+    let mut next = [0; 2048];
     chain(links, ends, &mut first, &mut next);
     let count = follow(
         seeds + absent,
@@ -34,32 +40,26 @@ pub(crate) fn distances(units: u16, links: u16, made: u16, ends: &[u16], dist: [
         &mut queue,
         seeds,
     );
-    let last = base_choice::difference(count, 1) as usize;
+    let last = count.saturating_sub(1) as usize;
     let tip = base_slices::word(&queue, last);
-    Found { far, tip }
-}
-
-fn no_places() -> [u16; 2048] {
-    [0; 2048]
+    Some(Found { far, tip })
 }
 
 // Each unit's chain goes over the places of its neighbours, from the last link to the first; absent ends it.
-fn chain<'a>(links: u16, ends: &[u16], first: &'a mut [u16], next: &'a mut [u16])
+fn chain(links: u16, ends: &[u16], first: &mut [u16], next: &mut [u16])
     requires { (links ≤ 1024) × (length ends.now ≡ 2048) × (length first.old ≡ 256)
         × (length next.old ≡ 2048) }
 {
-    let mut j = 0;
-    while j < links {
+    for j in 0..links {
         let a = 2 * j;
         let b = a + 1;
         hang(a, b, ends, first, next);
         hang(b, a, ends, first, next);
-        j += 1;
     }
 }
 
 // Place `i` becomes the head of the chain of the unit at place `of`.
-fn hang<'a>(of: u16, i: u16, ends: &[u16], first: &'a mut [u16], next: &'a mut [u16])
+fn hang(of: u16, i: u16, ends: &[u16], first: &mut [u16], next: &mut [u16])
     requires { (of < 2048) × (i < 2048) × (length ends.now ≡ 2048) × (length first.old ≡ 256)
         × (length next.old ≡ 2048) }
 {
@@ -76,13 +76,9 @@ fn begin(units: u16, here: u16, far: &[u16], queue: &mut [u16]) -> u16
     ensures { result ≤ 256 }
 {
     let mut count = 0;
-    let mut v = 0;
-    while v < units {
-        let at = v as usize;
-        let free = count as usize;
-        queue[free] = v;
-        count += base_choice::one_if(far[at] == here);
-        v += 1;
+    for v in 0..units {
+        queue[count as usize] = v;
+        count += u16::from(far[v as usize] == here);
     }
     count
 }
@@ -93,21 +89,18 @@ fn missing(units: u16, far: &[u16]) -> u16
     ensures { result ≤ 256 }
 {
     let mut count = 0;
-    let mut v = 0;
-    while v < units {
-        let at = v as usize;
-        count += base_choice::one_if(far[at] == ABSENT);
-        v += 1;
+    for v in 0..units {
+        count += u16::from(far[v as usize] == ABSENT);
     }
     count
 }
 
 // The queue, which grows until all that can be reached stand in it.
-fn follow<'a>(
+fn follow(
     all: u16,
-    ends: &'a [u16],
-    first: &'a [u16],
-    next: &'a [u16],
+    ends: &[u16],
+    first: &[u16],
+    next: &[u16],
     far: &mut [u16],
     queue: &mut [u16],
     seeds: u16,
@@ -124,7 +117,7 @@ fn follow<'a>(
         }
         let at = k as usize;
         let u = (queue[at] % 256) as usize;
-        let d = std::num::wrapping_add_u16(far[u], 1);
+        let d = far[u].wrapping_add(1);
         count = reach(d, first[u], ends, next, far, queue, count);
         k += 1;
     }
@@ -132,11 +125,11 @@ fn follow<'a>(
 }
 
 // The neighbours in a chain. One that does not fall is cut.
-fn reach<'a>(
+fn reach(
     d: u16,
     head: u16,
-    ends: &'a [u16],
-    next: &'a [u16],
+    ends: &[u16],
+    next: &[u16],
     far: &mut [u16],
     queue: &mut [u16],
     from: u16,
@@ -164,10 +157,7 @@ fn meet(w: u16, d: u16, far: &mut [u16], queue: &mut [u16], count: u16) -> u16
     ensures { result ≤ 256 }
 {
     let at = w as usize;
-    if far[at] != ABSENT {
-        return count;
-    }
-    if count >= 256 {
+    if far[at] != ABSENT || 256 <= count {
         return count;
     }
     let free = count as usize;

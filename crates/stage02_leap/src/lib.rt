@@ -2,31 +2,28 @@
 // The search is proved to end and to stay within its tables, no more.
 #![tactic(auto)]
 
-ghost use Rattle.std.specs.Prelude.{◌≡◌, true, false};
+ghost use Rattle.std.specs.Prelude.{IfSome};
 ghost use Rattle.stage02_leap.specs.Goal.{Leapt};
 
-use distances::Leap;
+pub use distances::Leap;
 
 mod ahead;
 mod distances;
 
-// From the round after `made` rounds on.
-pub fn leap<'a>(
+// From the round after `made` rounds on, if the distances found are right.
+pub fn leap(
     units: u16,
     links: u16,
     made: u16,
-    ends: &'a [u16; 2048],
-    levels: &'a [i16; 1024],
+    ends: &[u16; 2048],
+    levels: &[i16; 1024],
     parent: [u16; 256],
     dist: [u16; 256],
-) -> Leap
-    ensures leapt { result.right ≡ true → Leapt units links made result.last ends.now
-        levels.now parent dist result.parent result.dist }
-    ensures stays { result.right ≡ false → (result.parent ≡ parent) × (result.dist ≡ dist) × (result.last ≡ 0) }
+) -> Option<Leap>
+    ensures leapt { IfSome result (λ (l : Leap).
+        Leapt units links made l.last ends.now levels.now parent dist l.parent l.dist) }
 {
-    let count = base_choice::least_of(units, 256);
-    let most = base_choice::least_of(links, 1024);
-    let found = ahead::distances(count, most, made, ends, dist);
+    let found = ahead::distances(units.min(256), links.min(1024), made, ends, dist)?;
     distances::tested(
         units, links, made, ends, levels, &found.far, found.tip, parent, dist,
     )

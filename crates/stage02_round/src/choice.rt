@@ -1,6 +1,6 @@
 // The better parent of two (document 02, T-02). For each unit two tables have the best neighbour so far and the level
 // of the link to it.
-ghost use Rattle.std.specs.Prelude.{◌≡◌, ◌||◌, ℕ, ◌<◌, ◌%◌, eqb, pos, get_or, set};
+ghost use Rattle.std.specs.Prelude.{◌≡◌, ◌||◌, ◌%◌, eqb, set};
 ghost use Rattle.spec_rules.specs.Tree.{better, prefer};
 ghost use Rattle.spec_rules.specs.TreeLaws.{prefer_if, neighbor_at};
 
@@ -19,20 +19,6 @@ fn takes(level: i16, w: u16, held: i16, best: u16) -> bool
     ensures { result ≡ (eqb best 65535 || better level w held best) }
 {
     best == ABSENT || better(level, w, held, best)
-}
-
-// No neighbour yet for any unit.
-pub fn no_units() -> [u16; 256]
-    ensures { (i : ℕ) → i < 256 → get_or result i 0 ≡ 65535 }
-{
-    [65535; 256]
-}
-
-// And no level.
-pub fn no_levels() -> [i16; 256]
-    ensures { (i : ℕ) → i < 256 → get_or result i (pos 0) ≡ pos 0 }
-{
-    [0; 256]
 }
 
 // Unit `v` is offered the neighbour `w` over a link of `level`. Units are below 256: the rest of a greater number

@@ -25,13 +25,13 @@ pub struct After {
 
 // At most 256 units and 1,024 links count. The ends of a link are read below 256, the rest of a greater number, so that
 // no index is tested.
-pub fn round<'a>(
+pub fn round(
     units: u16,
     links: u16,
     made: u16,
-    ends: &'a [u16; 2048],
-    levels: &'a [i16; 1024],
-    color: &'a [u16; 256],
+    ends: &[u16; 2048],
+    levels: &[i16; 1024],
+    color: &[u16; 256],
     parent: [u16; 256],
     dist: [u16; 256],
 ) -> After
@@ -42,36 +42,27 @@ pub fn round<'a>(
     ensures ends { result.ends ≡ tree_ends (min units 256) (min links 1024) made (wrapped ends.now)
         levels.now color.now dist }
 {
-    let count = base_choice::least_of(units, 256);
-    let most = base_choice::least_of(links, 1024);
+    let count = units.min(256);
+    let most = links.min(1024);
     let cand = chosen(most, made, ends, levels, &dist);
     visit(count, made, color, &cand, parent, dist)
 }
 
 // The parent that each unit would take.
-fn chosen<'a>(
-    links: u16,
-    made: u16,
-    ends: &'a [u16],
-    levels: &'a [i16],
-    dist: &'a [u16],
-) -> [u16; 256]
+fn chosen(links: u16, made: u16, ends: &[u16], levels: &[i16], dist: &[u16]) -> [u16; 256]
     requires { (links ≤ 1024) × (length dist.now ≡ 256) × (length ends.now ≡ 2048)
         × (length levels.now ≡ 1024) }
     ensures { (v : ℕ) → v < max_units →
         get_or result v 0 ≡ chosen_parent links made (wrapped ends.now) levels.now dist.now v }
 {
-    let mut held = choice::no_levels();
-    let mut best = choice::no_units();
-    let mut j = 0;
-    while j < links {
-        let pos = j as usize;
-        let at = 2 * pos;
+    let mut held = [0; 256];
+    let mut best = [ABSENT; 256];
+    for j in 0..links as usize {
+        let at = 2 * j;
         let a = ends[at] % 256;
         let b = ends[at + 1] % 256;
-        let level = levels[pos];
+        let level = levels[j];
         offer_both(made, dist, level, a, b, &mut held, &mut best);
-        j += 1;
     }
     best
 }
@@ -93,7 +84,7 @@ fn offer_both(
 {
     let from_a = was_visited(made, dist, a);
     let from_b = was_visited(made, dist, b);
-    if base_choice::either(from_a, from_b) {
+    if from_a | from_b {
         choice::offer_if(from_b, held, best, a, level, b);
         choice::offer_if(from_a, held, best, b, level, a);
     }
@@ -105,15 +96,15 @@ fn was_visited(made: u16, dist: &[u16], w: u16) -> bool
     ensures { result ≡ visited_before made dist.now w }
 {
     let at = w as usize;
-    dist[at] == base_choice::difference(made, 1)
+    dist[at] == made.saturating_sub(1)
 }
 
 // The round, from the chosen parents: one pass over the units, without branches.
-fn visit<'a>(
+fn visit(
     units: u16,
     made: u16,
-    color: &'a [u16],
-    cand: &'a [u16],
+    color: &[u16],
+    cand: &[u16],
     parent: [u16; 256],
     dist: [u16; 256],
 ) -> After
@@ -126,18 +117,13 @@ fn visit<'a>(
     let mut new_parent = parent;
     let mut new_dist = dist;
     let mut any = false;
-    let mut v = 0;
-    while v < units {
+    for v in 0..units {
         let at = v as usize;
         let visited = visits(made, color, &dist, cand, v);
-        let best = cand[at];
-        let taken = base_choice::choose(made == 0, ABSENT, best);
-        let x = base_choice::choose(visited, taken, parent[at]);
-        let d = base_choice::choose(visited, made, dist[at]);
-        new_parent[at] = x;
-        new_dist[at] = d;
-        any = base_choice::either(any, visited);
-        v += 1;
+        let taken = base_choice::choose(made == 0, ABSENT, cand[at]);
+        new_parent[at] = base_choice::choose(visited, taken, parent[at]);
+        new_dist[at] = base_choice::choose(visited, made, dist[at]);
+        any |= visited;
     }
     After {
         parent: new_parent,
@@ -147,12 +133,12 @@ fn visit<'a>(
 }
 
 // Whether unit `v` is visited in this round.
-fn visits<'a>(made: u16, color: &'a [u16], dist: &'a [u16], cand: &'a [u16], v: u16) -> bool
+fn visits(made: u16, color: &[u16], dist: &[u16], cand: &[u16], v: u16) -> bool
     requires { (v < length color.now) × (v < length dist.now) × (v < length cand.now) }
     ensures { result ≡ visits_by made color.now dist.now cand.now v }
 {
     let at = v as usize;
-    let best = cand[at];
-    let later = base_choice::both(dist[at] == ABSENT, best != ABSENT);
-    base_choice::pick(made == 0, color[at] == v, later)
+    let own = color[at] == v;
+    let later = (dist[at] == ABSENT) & (cand[at] != ABSENT);
+    if made == 0 { own } else { later }
 }

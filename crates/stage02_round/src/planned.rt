@@ -1,5 +1,5 @@
 // The planner's tree, taken over whole (document 02, T-05).
-ghost use Rattle.std.specs.Prelude.{◌≡◌, ◌≤◌, min, length};
+ghost use Rattle.std.specs.Prelude.{◌≡◌, min};
 ghost use Rattle.spec_rules.specs.Planned.{planned_parents, planned_dists};
 
 mod climb;
@@ -12,44 +12,21 @@ pub struct Planned {
 }
 
 // At most 256 units count.
-pub fn take_over<'a>(
+pub fn take_over(
     units: u16,
-    plan: &'a [u16; 256],
-    color: &'a [u16; 256],
-    parent: [u16; 256],
-    dist: [u16; 256],
+    plan: &[u16; 256],
+    color: &[u16; 256],
+    mut parent: [u16; 256],
+    mut dist: [u16; 256],
 ) -> Planned
     ensures parents { result.parent ≡ planned_parents (min units 256) plan.now parent }
     ensures dists { result.dist ≡ planned_dists (min units 256) plan.now color.now dist }
 {
-    let count = base_choice::least_of(units, 256);
-    unit_by_unit(count, plan, color, parent, dist)
-}
-
-fn unit_by_unit<'a>(
-    units: u16,
-    plan: &'a [u16],
-    color: &'a [u16],
-    parent: [u16; 256],
-    dist: [u16; 256],
-) -> Planned
-    requires { (units ≤ 256) × (length plan.now ≡ 256) × (length color.now ≡ 256) }
-    ensures parents { result.parent ≡ planned_parents units plan.now parent }
-    ensures dists { result.dist ≡ planned_dists units plan.now color.now dist }
-{
-    let mut new_parent = parent;
-    let mut new_dist = dist;
-    let mut v = 0;
-    while v < units {
+    let count = units.min(256);
+    for v in 0..count {
         let at = v as usize;
-        let d = climb::steps(plan, color[at], units, v);
-        let up = plan[at];
-        new_parent[at] = up;
-        new_dist[at] = d;
-        v += 1;
+        parent[at] = plan[at];
+        dist[at] = climb::steps(plan, color[at], count, v);
     }
-    Planned {
-        parent: new_parent,
-        dist: new_dist,
-    }
+    Planned { parent, dist }
 }

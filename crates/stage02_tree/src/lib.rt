@@ -1,14 +1,16 @@
 // Stage 2, tree: breadth first, or taken over from the planner (document 02, T-05).
 #![tactic(auto)]
 
-ghost use Rattle.std.specs.Prelude.{◌≡◌, true, ◌+◌, ◌<◌, ◌≤◌};
+ghost use Rattle.std.specs.Prelude.{◌≡◌, true, ◌+◌, ◌<◌, ◌≤◌, IfSome};
 ghost use Rattle.spec_rules.specs.Fits.{links_fit, EndsWithin};
 ghost use Rattle.spec_machine.specs.InStage.{in_stage};
 ghost use Rattle.spec_machine.specs.StageRun.{stage_run};
 ghost use Rattle.stage02_tree.specs.Rounds.{on, parents_after, dists_after, ends_after, one};
 
 use spec_state::Clock;
+use stage02_leap::Leap;
 use stage02_round::After;
+use stage02_round::planned::Planned;
 use table::ABSENT;
 use table_values::bounds;
 
@@ -24,23 +26,16 @@ pub struct Ran {
     pub made: u16,
 }
 
-// What a leap makes of the rest of a run, if it is right.
-#[derive(Drop)]
-struct Rest {
-    run: Ran,
-    right: bool,
-}
-
 // Runs up to `budget` rounds of this stage.
-pub fn run<'a>(
+pub fn run(
     units: u16,
     links: u16,
     budget: u16,
     given: u16,
-    plan: &'a [u16; 256],
-    ends: &'a [u16; 2048],
-    levels: &'a [i16; 1024],
-    color: &'a [u16; 256],
+    plan: &[u16; 256],
+    ends: &[u16; 2048],
+    levels: &[i16; 1024],
+    color: &[u16; 256],
     clock: Clock,
     parent: [u16; 256],
     dist: [u16; 256],
@@ -51,15 +46,15 @@ pub fn run<'a>(
         (record { parent = parent; dist = dist; clock = clock; made = 0 }) }
 {
     let fits = bounds::links_fit(units, links, ends);
-    let wait = base_choice::difference(LEAP_AFTER, clock.made);
-    let leap_at = base_choice::choose(units <= base_choice::difference(budget, wait), wait, ABSENT);
+    let wait = LEAP_AFTER.saturating_sub(clock.made);
+    let leap_at = base_choice::choose(units <= budget.saturating_sub(wait), wait, ABSENT);
     let mut above = parent;
     let mut far = dist;
     let mut c = clock;
     let mut made: u16 = 0;
     while stage_clock::goes_on(fits, units, 2, made, budget, c) {
         if made == leap_at {
-            let all = remaining(
+            let rest = remaining(
                 units,
                 links,
                 budget - made,
@@ -73,8 +68,7 @@ pub fn run<'a>(
                 far,
                 made,
             );
-            if all.right {
-                let run = all.run;
+            if let Some(run) = rest {
                 return run;
             }
         }
@@ -82,10 +76,9 @@ pub fn run<'a>(
             units, links, c.made, given, plan, ends, levels, color, above, far,
         );
         let after = stage_clock::ticked(units, 2, new.ends, 0, c);
-        let new_parent = new.parent;
-        let new_dist = new.dist;
-        above = new_parent;
-        far = new_dist;
+        let After { parent, dist, .. } = new;
+        above = parent;
+        far = dist;
         c = after;
         made += 1;
     }
@@ -99,65 +92,60 @@ pub fn run<'a>(
 
 // The rest of the rounds at once, where no tree is given, the distances found ahead are right and the budget covers
 // them.
-fn remaining<'a>(
+fn remaining(
     units: u16,
     links: u16,
     left: u16,
     given: u16,
-    plan: &'a [u16; 256],
-    ends: &'a [u16; 2048],
-    levels: &'a [i16; 1024],
-    color: &'a [u16; 256],
+    plan: &[u16; 256],
+    ends: &[u16; 2048],
+    levels: &[i16; 1024],
+    color: &[u16; 256],
     clock: Clock,
     parent: [u16; 256],
     dist: [u16; 256],
     made: u16,
-) -> Rest
+) -> Option<Ran>
     requires { (links_fit units links ends.now ≡ true) × (in_stage units 2 clock ≡ true) × (made + left < 65536) }
-    ensures { result.right ≡ true → result.run
+    ensures { IfSome result (λ (run : Ran). run
         ≡ stage_run (on units links ends.now)
         (one units links given plan.now ends.now levels.now color.now) left
-        (record { parent = parent; dist = dist; clock = clock; made = made }) }
+        (record { parent = parent; dist = dist; clock = clock; made = made })) }
 {
-    let found = stage02_leap::leap(units, links, clock.made, ends, levels, parent, dist);
-    let more = base_choice::difference(found.last, clock.made);
-    let covered = base_choice::both(given == 0, more < left);
-    if !base_choice::both(found.right, covered) {
-        let run = Ran {
-            parent,
-            dist,
-            clock,
-            made,
-        };
-        return Rest { run, right: false };
+    if 0 < given {
+        return None;
     }
-    let new_parent = found.parent;
-    let new_dist = found.dist;
-    let after = Clock {
+    let found = stage02_leap::leap(units, links, clock.made, ends, levels, parent, dist)?;
+    let Leap { parent, dist, last } = found;
+    let more = last.saturating_sub(clock.made);
+    if left <= more {
+        return None;
+    }
+    let rounds = more + 1;
+    let clock = Clock {
         stage: 3,
         made: 0,
-        rounds: base_choice::least_of(clock.rounds + (more + 1), Clock::MAX_ROUNDS),
+        rounds: clock.rounds.saturating_add(rounds).min(Clock::MAX_ROUNDS),
         requests: clock.requests,
     };
-    let run = Ran {
-        parent: new_parent,
-        dist: new_dist,
-        clock: after,
-        made: made + (more + 1),
-    };
-    Rest { run, right: true }
+    Some(Ran {
+        parent,
+        dist,
+        clock,
+        made: made + rounds,
+    })
 }
 
 // A round: the planner's where a tree is given.
-fn round<'a>(
+fn round(
     units: u16,
     links: u16,
     made: u16,
     given: u16,
-    plan: &'a [u16; 256],
-    ends: &'a [u16; 2048],
-    levels: &'a [i16; 1024],
-    color: &'a [u16; 256],
+    plan: &[u16; 256],
+    ends: &[u16; 2048],
+    levels: &[i16; 1024],
+    color: &[u16; 256],
     parent: [u16; 256],
     dist: [u16; 256],
 ) -> After
@@ -171,11 +159,10 @@ fn round<'a>(
 {
     if given != 0 {
         let new = stage02_round::planned::take_over(units, plan, color, parent, dist);
-        let new_parent = new.parent;
-        let new_dist = new.dist;
+        let Planned { parent, dist } = new;
         return After {
-            parent: new_parent,
-            dist: new_dist,
+            parent,
+            dist,
             ends: true,
         };
     }

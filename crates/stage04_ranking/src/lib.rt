@@ -1,12 +1,12 @@
 // Stage 4, ranking: the rank of each arc in its tour, by doubling. Stage 6 ranks by the same rounds.
 #![tactic(auto)]
 
-ghost use Rattle.std.specs.Prelude.{◌≡◌, true, min, length};
+ghost use Rattle.std.specs.Prelude.{◌≡◌, min};
 ghost use Rattle.spec_rules.specs.Ranking.{sum_round, jump_round, requests_of};
-ghost use Rattle.spec_machine.specs.InStage.{in_stage};
 ghost use Rattle.spec_machine.specs.StageRun.{stage_run};
 ghost use Rattle.stage04_ranking.specs.Rounds.{on, one};
 
+use leap_ranking::Landed;
 use spec_state::Clock;
 use table::ABSENT;
 
@@ -19,37 +19,29 @@ pub struct Ran {
     pub made: u16,
 }
 
-// Runs up to `budget` rounds of this stage.
+// Runs up to `budget` rounds of this stage: at once, where that is found right.
 pub fn run(units: u16, budget: u16, clock: Clock, jump: [u16; 512], sum: [u16; 512]) -> Ran
     ensures { result ≡ stage_run (on units) (one units) budget
         (record { jump = jump; sum = sum; clock = clock; made = 0 }) }
 {
     let goes_on = stage_clock::goes_on(true, units, 4, 0, budget, clock);
-    if base_choice::both(leap_ranking::tried(units, budget), goes_on) {
-        return at_once(units, budget, clock, jump, sum);
+    if leap_ranking::tried(units, budget) & goes_on {
+        if let Some(rest) = leap_ranking::leap(units, budget, clock, jump, sum) {
+            let Landed {
+                jump,
+                sum,
+                clock,
+                made,
+            } = rest;
+            return Ran {
+                jump,
+                sum,
+                clock,
+                made,
+            };
+        }
     }
     rounds(units, budget, clock, jump, sum)
-}
-
-// The rest of the stage at once, where that is found right.
-fn at_once(units: u16, budget: u16, clock: Clock, jump: [u16; 512], sum: [u16; 512]) -> Ran
-    requires { in_stage units 4 clock ≡ true }
-    ensures { result ≡ stage_run (on units) (one units) budget
-        (record { jump = jump; sum = sum; clock = clock; made = 0 }) }
-{
-    let rest = leap_ranking::leap(units, budget, clock, jump, sum);
-    if !rest.right {
-        return rounds(units, budget, clock, jump, sum);
-    }
-    let before = rest.jump;
-    let total = rest.sum;
-    let c = rest.clock;
-    Ran {
-        jump: before,
-        sum: total,
-        clock: c,
-        made: rest.made,
-    }
 }
 
 // Runs up to `budget` rounds of this stage, one after the other.
@@ -77,14 +69,6 @@ fn rounds(units: u16, budget: u16, clock: Clock, jump: [u16; 512], sum: [u16; 51
     }
 }
 
-// How many of `objects` objects a table has entries for.
-fn entries_of(objects: usize, t: &[u16]) -> usize
-    ensures { result ≡ min objects (length t.now) }
-{
-    let n = t.len();
-    if objects < n { objects } else { n }
-}
-
 // A round in place, from copies of the tables. An object without a predecessor keeps its entries: nothing is stored
 // there.
 pub fn double(objects: usize, jump: &mut [u16; 512], sum: &mut [u16; 512])
@@ -93,32 +77,17 @@ pub fn double(objects: usize, jump: &mut [u16; 512], sum: &mut [u16; 512])
 {
     let old_jump = *jump;
     let old_sum = *sum;
-    let limit = entries_of(entries_of(objects, jump), sum);
-    let mut a = 0;
-    while a < limit {
+    for a in 0..objects.min(512) {
         let before = old_jump[a];
         if before < 512 {
             let at = before as usize;
             sum[a] = table_values::bounded_sum(old_sum[a], old_sum[at]);
             jump[a] = old_jump[at];
-            a += 1;
-            continue;
-        }
-        if before != ABSENT {
+        } else if before != ABSENT {
             sum[a] = table_values::bounded_sum(old_sum[a], 0);
             jump[a] = 0;
-            a += 1;
-            continue;
         }
-        a += 1;
     }
-}
-
-// How many objects have entries.
-fn with_entries(objects: usize) -> usize
-    ensures { result ≡ min objects 512 }
-{
-    if objects < 512 { objects } else { 512 }
 }
 
 // The requests of a round, of the objects that have entries. Counted in a word: such a pass is taken several words at a
@@ -126,12 +95,9 @@ fn with_entries(objects: usize) -> usize
 pub fn requests(objects: usize, jump: &[u16; 512]) -> u16
     ensures { result ≡ requests_of (min objects 512) jump.now }
 {
-    let limit = with_entries(objects);
-    let mut made: u16 = 0;
-    let mut a = 0;
-    while a < limit {
-        made += base_choice::choose(jump[a] != ABSENT, 1, 0);
-        a += 1;
+    let mut made = 0;
+    for a in 0..objects.min(512) {
+        made += u16::from(jump[a] != ABSENT);
     }
     made
 }

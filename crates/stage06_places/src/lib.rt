@@ -1,12 +1,12 @@
 // Stage 6, places: the second ranking; with its last round the place of each unit.
 #![tactic(auto)]
 
-ghost use Rattle.std.specs.Prelude.{◌≡◌, true, cond, ◌≤◌};
+ghost use Rattle.std.specs.Prelude.{◌≡◌, cond, ◌≤◌};
 ghost use Rattle.spec_rules.specs.Order.{pre_round};
-ghost use Rattle.spec_machine.specs.InStage.{in_stage};
 ghost use Rattle.spec_machine.specs.StageRun.{stage_run};
 ghost use Rattle.stage06_places.specs.Rounds.{on, one};
 
+use leap_ranking::Landed;
 use spec_state::Clock;
 use table::ABSENT;
 use table_values::counts;
@@ -21,12 +21,12 @@ pub struct Ran {
     pub made: u16,
 }
 
-// Runs up to `budget` rounds of this stage.
-pub fn run<'a>(
+// Runs up to `budget` rounds of this stage: at once, where that is found right.
+pub fn run(
     units: u16,
     budget: u16,
-    color: &'a [u16; 256],
-    parent: &'a [u16; 256],
+    color: &[u16; 256],
+    parent: &[u16; 256],
     clock: Clock,
     pre: [u16; 256],
     jump: [u16; 512],
@@ -36,51 +36,34 @@ pub fn run<'a>(
         (record { pre = pre; jump = jump; sum = sum; clock = clock; made = 0 }) }
 {
     let goes_on = stage_clock::goes_on(true, units, 6, 0, budget, clock);
-    if base_choice::both(leap_ranking::tried(units, budget), goes_on) {
-        return at_once(units, budget, color, parent, clock, pre, jump, sum);
+    if leap_ranking::tried(units, budget) & goes_on {
+        if let Some(rest) = leap_ranking::leap(units, budget, clock, jump, sum) {
+            let Landed {
+                jump,
+                sum,
+                clock,
+                made,
+            } = rest;
+            let mut place = pre;
+            number(units, color, parent, &sum, &mut place);
+            return Ran {
+                pre: place,
+                jump,
+                sum,
+                clock,
+                made,
+            };
+        }
     }
     rounds(units, budget, color, parent, clock, pre, jump, sum)
 }
 
-// The rest of the stage at once, where that is found right.
-fn at_once<'a>(
-    units: u16,
-    budget: u16,
-    color: &'a [u16; 256],
-    parent: &'a [u16; 256],
-    clock: Clock,
-    pre: [u16; 256],
-    jump: [u16; 512],
-    sum: [u16; 512],
-) -> Ran
-    requires { in_stage units 6 clock ≡ true }
-    ensures { result ≡ stage_run (on units) (one units color.now parent.now) budget
-        (record { pre = pre; jump = jump; sum = sum; clock = clock; made = 0 }) }
-{
-    let rest = leap_ranking::leap(units, budget, clock, jump, sum);
-    if !rest.right {
-        return rounds(units, budget, color, parent, clock, pre, jump, sum);
-    }
-    let before = rest.jump;
-    let total = rest.sum;
-    let c = rest.clock;
-    let mut place = pre;
-    number(units, color, parent, &total, &mut place);
-    Ran {
-        pre: place,
-        jump: before,
-        sum: total,
-        clock: c,
-        made: rest.made,
-    }
-}
-
 // Runs up to `budget` rounds of this stage, one after the other.
-fn rounds<'a>(
+fn rounds(
     units: u16,
     budget: u16,
-    color: &'a [u16; 256],
-    parent: &'a [u16; 256],
+    color: &[u16; 256],
+    parent: &[u16; 256],
     clock: Clock,
     pre: [u16; 256],
     jump: [u16; 512],
@@ -114,12 +97,12 @@ fn rounds<'a>(
 }
 
 // The places, with the last round.
-fn number_if<'a>(
+fn number_if(
     last: bool,
     units: u16,
-    color: &'a [u16; 256],
-    parent: &'a [u16; 256],
-    sum: &'a [u16; 512],
+    color: &[u16; 256],
+    parent: &[u16; 256],
+    sum: &[u16; 512],
     pre: &mut [u16; 256],
 )
     requires { units ≤ 256 }
@@ -127,18 +110,17 @@ fn number_if<'a>(
         ≡ cond last (pre_round units color.now parent.now sum.now pre.old)
         pre.old }
 {
-    if !last {
-        return;
+    if last {
+        number(units, color, parent, sum, pre);
     }
-    number(units, color, parent, sum, pre);
 }
 
 // The place of each unit: its sum, or 0 at a root, after the units of smaller colors.
-fn number<'a>(
+fn number(
     units: u16,
-    color: &'a [u16; 256],
-    parent: &'a [u16; 256],
-    sum: &'a [u16; 512],
+    color: &[u16; 256],
+    parent: &[u16; 256],
+    sum: &[u16; 512],
     pre: &mut [u16; 256],
 )
     requires { units ≤ 256 }
@@ -147,12 +129,9 @@ fn number<'a>(
 {
     let bucket = counts::below_table(units, color);
     let absent = counts::count_at(true, units, color, ABSENT);
-    let n = units as usize;
-    let mut v: usize = 0;
-    while v < n {
+    for v in 0..units as usize {
         let before = counts::count_by(true, units, color, &bucket, absent, color[v]);
         let own = base_choice::choose(parent[v] == ABSENT, 0, sum[2 * v]);
         pre[v] = table_values::bounded_sum(own, before);
-        v += 1;
     }
 }

@@ -1,12 +1,9 @@
 -- Object by object.
-use Rattle.std.proofs.Common.{ℕ, ◌-◌, refl, ◌∙◌, rules}
-use Rattle.base_lists.specs.Rounds.{over-more, over-all}
+use Rattle.std.proofs.Common.{ℕ, refl, rules}
+use Rattle.base_lists.specs.Rounds.{over-more}
 use Rattle.spec_rules.specs.Basics.{ABSENT}
 use Rattle.leap_ranking.proofs.cleared.Goals as goal
 
 pub loop-a-preserved : goal.loop-a-preserved
 loop-a-preserved c =
-    (search rules, search rules, over-more c.loop-a.a (λ (a : ℕ). ABSENT) _ _ _ _ c.loop-a.invariant.2 refl refl)
-
-pub returns : goal.returns
-returns c = c.loop-a.invariant.2 ∙ over-all _ _ _ _ c.loop-a.invariant.0 c.loop-a-test.false
+    (search rules, over-more c.loop-a.a (λ (a : ℕ). ABSENT) _ _ _ _ c.loop-a.invariant.1 refl refl)

@@ -1,12 +1,9 @@
 -- Object by object.
-use Rattle.std.proofs.Common.{◌≡◌, ℕ, ◌-◌, ◌≤◌, length}
+use Rattle.std.proofs.Common.{◌≡◌, ℕ, length}
 use Rattle.base_lists.specs.Tables.{over}
 use Rattle.spec_rules.specs.Basics.{ABSENT}
 use Rattle.leap_ranking.proofs.cleared.Given as goal
 
 abbrev pub invariant-loop-a : goal.invariant-loop-a
 invariant-loop-a l =
-    (l.a ≤ l.arcs) × (length l.new ≡ 512) × (l.new ≡ over l.a (λ (k : ℕ). ABSENT) l.initial.new)
-
-abbrev pub decreases-loop-a : goal.decreases-loop-a
-decreases-loop-a l = l.arcs - l.a
+    (length l.new ≡ 512) × (l.new ≡ over l.a (λ (k : ℕ). ABSENT) l.initial.new)

@@ -1,5 +1,4 @@
 -- Link by link, from tables without neighbours.
-use Prim.Native.Nat.{◌≤◌, ◌-◌}
 use Rattle.spec_rules.specs.Tree.{visited_before, best_neighbor}
 use Rattle.spec_rules.specs.TreeLaws.{Holds}
 use Rattle.stage02_round.specs.Wrapped.{wrapped}
@@ -7,7 +6,4 @@ use Rattle.stage02_round.proofs.chosen.Given as goal
 
 abbrev pub invariant-loop-j : goal.invariant-loop-j
 invariant-loop-j l =
-    (l.j ≤ l.links) × Holds l.held l.best (best_neighbor (visited_before l.made l.dist) l.j (wrapped l.ends) l.levels)
-
-abbrev pub decreases-loop-j : goal.decreases-loop-j
-decreases-loop-j l = l.links - l.j
+    Holds l.held l.best (best_neighbor (visited_before l.made l.dist) l.j (wrapped l.ends) l.levels)

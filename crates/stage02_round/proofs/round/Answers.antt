@@ -15,7 +15,7 @@ returns c =
     let small : length a.parent ≤ max_units = omega arith in
     let k = c.chosen-cand in
     let e = wrapped a.ends.now in
-    rw (← c.least_of-count.ensures, ← c.least_of-most.ensures) (record {
+    rw (← c.min-count.ensures, ← c.min-most.ensures) (record {
       parents = c.visit.ensures.parents
           ∙ parent-round _ a.made e a.levels.now a.color.now a.dist k.result full k.ensures _
           a.parent small;

@@ -1,6 +1,5 @@
 -- Unit by unit, from the tables as they were.
 use mathlib.Core.Path.{◌≡◌}
-use Prim.Native.Nat.{◌≤◌, ◌-◌}
 use lib.ListN.{length}
 use Rattle.base_lists.specs.Tables.{over}
 use Rattle.base_lists.specs.Folds.{some}
@@ -9,12 +8,8 @@ use Rattle.stage02_round.proofs.visit.Given as goal
 
 abbrev pub invariant-loop-v : goal.invariant-loop-v
 invariant-loop-v l =
-    (l.v ≤ l.units)
-    × (length l.new_parent ≡ 256)
+    (length l.new_parent ≡ 256)
     × (length l.new_dist ≡ 256)
     × (l.new_parent ≡ over l.v (parent_by l.made l.color l.dist l.cand l.parent) l.parent)
     × (l.new_dist ≡ over l.v (dist_by l.made l.color l.dist l.cand) l.dist)
     × (l.any ≡ some l.v (visits_by l.made l.color l.dist l.cand))
-
-abbrev pub decreases-loop-v : goal.decreases-loop-v
-decreases-loop-v l = l.units - l.v

@@ -11,17 +11,14 @@ pub(crate) fn steps(plan: &[u16], c: u16, units: u16, v: u16) -> u16
     ensures { result ≡ steps_to plan.now c units v }
 {
     let mut w = v;
-    let mut far: u16 = 0;
-    while far < units {
+    for far in 0..units {
         if w == c {
             return far;
         }
-        let up = base_slices::word(plan, w as usize);
-        if up == ABSENT {
+        w = base_slices::word(plan, w as usize);
+        if w == ABSENT {
             return ABSENT;
         }
-        w = up;
-        far += 1;
     }
     ABSENT
 }

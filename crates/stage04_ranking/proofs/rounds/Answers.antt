@@ -1,7 +1,7 @@
 -- Round after round: each is one of the definition's, as long as the stage goes on.
 use mathlib.Core.Path.{◌≡◌, sym, ◌∙◌}
 use mathlib.Core.Bool.{true}
-use Prim.Native.Nat.{◌*◌, ◌-◌, min}
+use Prim.Native.Nat.{◌*◌, min}
 use native.Mathlib.Omega.{arith}
 use Rattle.spec_rules.specs.Ranking.{ranking_ends}
 use Rattle.spec_machine.specs.InStage.{Goes, goes}

@@ -1,12 +1,7 @@
 -- Object by object.
-use Rattle.std.proofs.Common.{◌-◌, refl, ◌∙◌, rules}
-use Rattle.base_lists.specs.Rounds.{over-more, over-all}
-use Rattle.leap_ranking.specs.Keys.{rank_in}
+use Rattle.std.proofs.Common.{refl, rules}
+use Rattle.base_lists.specs.Rounds.{over-more}
 use Rattle.leap_ranking.proofs.tests.ranks.Goals as goal
 
 pub loop-a-preserved : goal.loop-a-preserved
-loop-a-preserved c =
-    (search rules, search rules, over-more c.loop-a.a _ _ _ _ _ c.loop-a.invariant.2 c.rank_in.ensures refl)
-
-pub returns : goal.returns
-returns c = c.loop-a.invariant.2 ∙ over-all _ _ _ _ c.loop-a.invariant.0 c.loop-a-test.false
+loop-a-preserved c = (search rules, over-more c.loop-a.a _ _ _ _ _ c.loop-a.invariant.1 c.rank_in.ensures refl)

@@ -1,13 +1,10 @@
 -- Object by object.
-use Rattle.std.proofs.Common.{◌≡◌, ℕ, ◌-◌, ◌≤◌, length, get_or}
+use Rattle.std.proofs.Common.{◌≡◌, ℕ, length, get_or}
 use Rattle.base_lists.specs.Tables.{over}
 use Rattle.leap_ranking.specs.Keys.{sum_in}
 use Rattle.leap_ranking.proofs.tests.sums.Given as goal
 
 abbrev pub invariant-loop-a : goal.invariant-loop-a
 invariant-loop-a l =
-    (l.a ≤ l.arcs) × (length l.new ≡ 512)
+    (length l.new ≡ 512)
     × (l.new ≡ over l.a (λ (i : ℕ). sum_in (get_or l.key i 0)) l.initial.new)
-
-abbrev pub decreases-loop-a : goal.decreases-loop-a
-decreases-loop-a l = l.arcs - l.a

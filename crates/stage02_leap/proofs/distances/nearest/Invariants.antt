@@ -1,5 +1,5 @@
 -- Link by link, from tables without neighbours.
-use Rattle.std.proofs.Common.{◌≡◌, ℕ, ◌-◌, ◌≤◌}
+use Rattle.std.proofs.Common.{◌≡◌, ℕ}
 use Rattle.base_lists.specs.Folds.{some}
 use Rattle.spec_rules.specs.Tree.{best_neighbor}
 use Rattle.spec_rules.specs.TreeLaws.{Holds}
@@ -9,8 +9,5 @@ use Rattle.stage02_leap.proofs.distances.nearest.Given as goal
 
 abbrev pub invariant-loop-j : goal.invariant-loop-j
 invariant-loop-j l =
-    (l.j ≤ l.links) × Holds l.held l.best (λ (v : ℕ). best_neighbor (one_nearer l.far v) l.j l.ends l.levels v)
+    Holds l.held l.best (λ (v : ℕ). best_neighbor (one_nearer l.far v) l.j l.ends l.levels v)
     × (l.wide ≡ some l.j (apart_at l.ends l.far))
-
-abbrev pub decreases-loop-j : goal.decreases-loop-j
-decreases-loop-j l = l.links - l.j

@@ -1,8 +1,7 @@
 -- Unit by unit, from the tables as they were.
-use Rattle.std.proofs.Common.{◌≡◌, ◌-◌, refl, ◌∙◌, rules}
-use Rattle.base_lists.specs.Rounds.{over-more, over-all}
-use Rattle.base_lists.specs.Some.{some_more, some-all}
-use Rattle.spec_rules.specs.Basics.{at}
+use Rattle.std.proofs.Common.{◌≡◌, refl, rules}
+use Rattle.base_lists.specs.Rounds.{over-more}
+use Rattle.base_lists.specs.Some.{some_more}
 use Rattle.stage02_leap.specs.Goal.{parent_from}
 use Rattle.stage02_leap.specs.Nearer.{strays_at}
 use Rattle.stage02_leap.proofs.distances.settle.Goals as goal
@@ -11,27 +10,14 @@ pub loop-v-preserved : goal.loop-v-preserved
 loop-v-preserved c =
     let a = c.args in
     let is-parent
-    : c.choose-x.result ≡ parent_from a.made a.far.now a.cand.now a.parent c.loop-v.v
-    = rw c.to_visit.ensures at c.choose-x.ensures in
+    : c.choose.result ≡ parent_from a.made a.far.now a.cand.now a.parent c.loop-v.v
+    = rw c.to_visit.ensures at c.choose.ensures in
     let is-stray
     : c.strays-off.result ≡ strays_at a.made a.last a.far.now a.cand.now a.dist c.loop-v.v
     = c.strays-off.ensures in (
       search rules,
       search rules,
-      search rules,
-      over-more _ _ _ _ _ _ c.loop-v.invariant.3 is-parent refl,
-      over-more _ _ _ _ _ _ c.loop-v.invariant.4 refl refl,
-      some_more _ (strays_at a.made a.last a.far.now a.cand.now a.dist) _ _ _ c.loop-v.invariant.5 is-stray
-          c.either-stray.ensures,
+      over-more _ _ _ _ _ _ c.loop-v.invariant.2 is-parent refl,
+      over-more _ _ _ _ _ _ c.loop-v.invariant.3 refl refl,
+      some_more _ (strays_at a.made a.last a.far.now a.cand.now a.dist) _ _ _ c.loop-v.invariant.4 is-stray refl,
     )
-
-pub returns : goal.returns
-returns c =
-    let a = c.args in
-    record {
-      parents = c.loop-v.invariant.3 ∙ over-all _ _ (parent_from a.made a.far.now a.cand.now a.parent) a.parent
-          c.loop-v.invariant.0 c.loop-v-test.false;
-      dists = c.loop-v.invariant.4 ∙ over-all _ _ (at a.far.now) a.dist c.loop-v.invariant.0 c.loop-v-test.false;
-      strays = c.loop-v.invariant.5 ∙ some-all _ _ (strays_at a.made a.last a.far.now a.cand.now a.dist)
-          c.loop-v.invariant.0 c.loop-v-test.false;
-    }
