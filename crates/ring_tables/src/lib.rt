@@ -52,18 +52,12 @@ pub fn lay(next: &[u16], count: u16, v: u16, i: u16, up: bool, placing: bool, ou
 {
     let mut u = v;
     let mut x = i;
-    let mut left = count;
-    while 0 < left {
+    for left in (0..count).rev() {
         let p = base_choice::choose(placing, u, x);
         let q = base_choice::choose(placing, x, u);
         tables::store(out, p, q);
         u = tables::at(next, u);
-        x = base_choice::choose(
-            up,
-            table_values::bounded_sum(x, 1),
-            base_choice::difference(x, 1),
-        );
-        left -= 1;
+        x = base_choice::choose(up, table_values::bounded_sum(x, 1), x.saturating_sub(1));
     }
 }
 
@@ -74,9 +68,9 @@ pub fn unmarked() -> [u8; 1]
     [0; 1]
 }
 
-// A table of zeros by unit.
-pub fn zeros() -> [u16; 256]
-    ensures { (i : ℕ) → i < 256 → get_or result i 0 ≡ 0 }
+// A table of zeros, by unit or by place.
+pub fn zeros<const N: usize>() -> [u16; N]
+    ensures { (i : ℕ) → i < N → get_or result i 0 ≡ 0 }
 {
-    [0; 256]
+    [0; N]
 }

@@ -1,6 +1,6 @@
 -- Unit by unit.
 use mathlib.Core.Path.{◌≡◌}
-use Prim.Native.Nat.{ℕ, ◌+◌, ◌-◌, ◌≤◌}
+use Prim.Native.Nat.{ℕ, ◌+◌, ◌-◌}
 use lib.Dec.{eqb}
 use lib.ListN.{length}
 use Rattle.spec_rules.specs.Basics.{at}
@@ -9,9 +9,5 @@ use Rattle.ring_search.proofs.closing.steps.Given as goal
 
 abbrev pub invariant-loop-k : goal.invariant-loop-k
 invariant-loop-k l =
-    (l.k ≤ l.limit)
-    × (length (chain (at l.next) (λ (z : ℕ). eqb z l.stop) l.limit l.v)
-    ≡ l.k + length (chain (at l.next) (λ (z : ℕ). eqb z l.stop) (l.limit - l.k) l.u))
-
-abbrev pub decreases-loop-k : goal.decreases-loop-k
-decreases-loop-k l = l.limit - l.k
+    length (chain (at l.next) (λ (z : ℕ). eqb z l.stop) l.limit l.v)
+    ≡ l.k + length (chain (at l.next) (λ (z : ℕ). eqb z l.stop) (l.limit - l.k) l.u)
