@@ -61,12 +61,6 @@ every-missing n (x ∷ t) = rw (every-missing n t) (go (leb n x) (ltb x n) (othe
     go false b e c = rw e refl
 
 module _ (n : ℕ) (p : List ℕ) where
-  pub bad_many : 256 < link_count p → true ≡ bad_pairs n p
-  bad_many h = rw (lt-ltb 256 (link_count p) h) refl
-
-  pub bad_odd : link_count p ≤ 256 → length p % 2 ≡ 1 → true ≡ bad_pairs n p
-  bad_odd a h = rw (le-ltb 256 (link_count p) a, eq-eqb (length p % 2) 1 h) refl
-
   pub bad_named : link_count p ≤ 256 → (length p % 2 ≡ 1 → ⊥) → not (links_fit n (link_count p) p) ≡ bad_pairs n p
   unfolding links_fit
   bad_named a h =

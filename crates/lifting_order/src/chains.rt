@@ -19,26 +19,17 @@ pub(crate) fn zeros() -> [u16; 256]
     [0; 256]
 }
 
-// A table by place, to be filled.
-fn places() -> [u16; 2048]
-    ensures { length result ≡ 2048 }
-{
-    [0; 2048]
-}
-
 pub(crate) fn chained(t: &[u16]) -> Chains
     requires { Words t.now }
     ensures { Chained t.now result.last result.next (length t.now) }
 {
     let mut last = zeros();
-    let mut next = places();
-    let mut i = 0;
-    while i < t.len() {
-        let v = base_slices::word(t, i) as usize;
+    let mut next = [0u16; 2048];
+    for (i, unit) in t.iter().enumerate() {
+        let v = *unit as usize;
         let before = base_slices::word(&last, v);
         base_slices::put(&mut next, i, before);
         base_slices::put(&mut last, v, i as u16 + 1);
-        i += 1;
     }
     Chains { last, next }
 }
@@ -53,14 +44,7 @@ fn other(i: usize) -> usize
 
 // At each place that holds `v` the entry of the unit at the other place: marked, or one less where `v` is the pair's
 // second.
-pub(crate) fn walk<'a>(
-    mark: bool,
-    t: &'a [u16],
-    last: &'a [u16],
-    next: &'a [u16],
-    v: u16,
-    x: &mut [u16],
-)
+pub(crate) fn walk(mark: bool, t: &[u16], last: &[u16], next: &[u16], v: u16, x: &mut [u16])
     requires { Words t.now × Chained t.now last.now next.now (length t.now) × (v < 256) }
     ensures { x.new ≡ walked mark t.now v x.old }
 {
@@ -69,7 +53,7 @@ pub(crate) fn walk<'a>(
         let past = c as usize;
         let i = past - 1;
         let w = base_slices::word(t, other(i)) as usize;
-        let less = base_choice::difference(base_slices::word(x, w), (i % 2) as u16);
+        let less = base_slices::word(x, w).saturating_sub((i % 2) as u16);
         let new = base_choice::choose(mark, 1, less);
         base_slices::put(x, w, new);
         c = base_slices::word(next, i);

@@ -13,13 +13,9 @@ mod growth;
 fn site_fits(units: u16, links: u16, ends: &[u16]) -> bool
     ensures { result ≡ site_fits units links ends.now }
 {
-    if 256 < units {
-        return false;
-    }
-    if ends.len() < 2 * (links as usize) {
-        return false;
-    }
-    table_values::bounds::links_fit(units, links, ends)
+    units <= 256
+        && 2 * (links as usize) <= ends.len()
+        && table_values::bounds::links_fit(units, links, ends)
 }
 
 // More than 256 pairs, an odd number of words, or a pair that names a missing unit.
@@ -27,13 +23,9 @@ fn bad_pairs(units: u16, pairs: &[u16]) -> bool
     ensures { result ≡ bad_pairs units pairs.now }
 {
     let count = pairs.len() / 2;
-    if 256 < count {
-        return true;
-    }
-    if pairs.len() % 2 == 1 {
-        return true;
-    }
-    !table_values::bounds::links_fit(units, count as u16, pairs)
+    256 < count
+        || pairs.len() % 2 == 1
+        || !table_values::bounds::links_fit(units, count as u16, pairs)
 }
 
 // The number of the first cause among 10, 14, 19.

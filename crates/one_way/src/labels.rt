@@ -1,10 +1,10 @@
 // Least labels handed on along the links that are left, until no label falls.
-ghost use Rattle.std.specs.Prelude.{◌≡◌, ◌+◌, ◌<◌, ◌≤◌, length, slice_index};
+ghost use Rattle.std.specs.Prelude.{◌≡◌, ◌<◌, ◌≤◌, length};
 ghost use Rattle.theory_min_label.specs.MinLabelLaws.{Hears};
 ghost use Rattle.theory_min_label.specs.Hands.{Live, lowers, handed, swept, falls, Spread, Settled, Room};
 
 use crate::order;
-use base_choice::{both, choose, either};
+use base_choice::choose;
 
 // The link from `a` to `b` lowers a label.
 fn lowers(forward: bool, a: u16, b: u16, key: &[u32], x: &[u16]) -> bool
@@ -13,20 +13,14 @@ fn lowers(forward: bool, a: u16, b: u16, key: &[u32], x: &[u16]) -> bool
 {
     let from = choose(forward, a, b);
     let to = choose(forward, b, a);
-    both(
-        key[a as usize] == key[b as usize],
-        x[from as usize] < x[to as usize],
-    )
+    (key[a as usize] == key[b as usize]) & (x[from as usize] < x[to as usize])
 }
 
-// The link at the words `i` and `i + 1` hands a label on; whether one fell.
-fn hand(forward: bool, links: &[u16], i: usize, key: &[u32], x: &mut [u16]) -> bool
-    requires { (i + 1 < length links.now) × Room links.now key.now x.old }
-    ensures { x.new ≡ handed forward key.now x.old (slice_index links.now i)
-        (slice_index links.now (i + 1)) }
+// The link from `a` to `b` hands a label on; whether one fell.
+fn hand(forward: bool, a: u16, b: u16, key: &[u32], x: &mut [u16]) -> bool
+    requires { (a < length key.now) × (b < length key.now) × (length x.old ≡ length key.now) }
+    ensures { x.new ≡ handed forward key.now x.old a b }
 {
-    let a = links[i];
-    let b = links[i + 1];
     if !lowers(forward, a, b, key, x) {
         return false;
     }
@@ -36,15 +30,13 @@ fn hand(forward: bool, links: &[u16], i: usize, key: &[u32], x: &mut [u16]) -> b
 }
 
 // Some link lowers a label. Nothing is stored: a loop without a way out is taken fast.
-fn falls<'a>(forward: bool, links: &'a [u16], key: &[u32], x: &'a [u16]) -> bool
+fn falls(forward: bool, links: &[u16], key: &[u32], x: &[u16]) -> bool
     requires { Room links.now key.now x.now }
     ensures { result ≡ falls forward key.now links.now x.now }
 {
     let mut any = false;
-    let mut i = 0;
-    while i + 1 < links.len() {
-        any = either(any, lowers(forward, links[i], links[i + 1], key, x));
-        i += 2;
+    for link in links.chunks_exact(2) {
+        any |= lowers(forward, link[0], link[1], key, x);
     }
     any
 }
@@ -54,10 +46,8 @@ fn sweep(forward: bool, links: &[u16], key: &[u32], x: &mut [u16])
     requires { Room links.now key.now x.old }
     ensures { x.new ≡ swept forward key.now links.now x.old }
 {
-    let mut i = 0;
-    while i + 1 < links.len() {
-        hand(forward, links, i, key, x);
-        i += 2;
+    for link in links.chunks_exact(2) {
+        hand(forward, link[0], link[1], key, x);
     }
 }
 
@@ -67,7 +57,7 @@ fn joined(queue: &mut [u16], end: u16, fell: bool, unit: u16) -> u16
     ensures { result ≤ 256 }
 {
     base_slices::put(queue, end as usize, unit);
-    if both(fell, end < 256) { end + 1 } else { end }
+    if fell && end < 256 { end + 1 } else { end }
 }
 
 // Links hand a label on, those at the words `first` to `last` of the order; the units whose labels fell join the queue.
@@ -87,35 +77,23 @@ fn relax(
         x.new }
 {
     let mut end = had;
-    let mut k = first;
-    while k < last {
+    for k in first..last {
         let i = 2 * (order::position(order, k) as usize);
         if links.len() <= i + 1 {
             return end;
         }
-        let fell = hand(forward, links, i, key, x);
-        end = joined(queue, end, fell, choose(forward, links[i + 1], links[i]));
-        k += 1;
+        let a = links[i];
+        let b = links[i + 1];
+        let fell = hand(forward, a, b, key, x);
+        end = joined(queue, end, fell, choose(forward, b, a));
     }
     end
 }
 
-// Whether a unit is its own label and has no number yet, as 1 or 0.
-fn starts(unit: u16, key: &[u32], x: &[u16]) -> u16
-    ensures { result ≤ 1 }
-{
+// Whether a unit is its own label and has no number yet.
+fn starts(unit: u16, key: &[u32], x: &[u16]) -> bool {
     let at = unit as usize;
-    if base_slices::word(x, at) != unit {
-        return 0;
-    }
-    if key.len() <= at {
-        return 0;
-    }
-    if key[at] == 65537 * (unit as u32) {
-        0
-    } else {
-        1
-    }
+    base_slices::word(x, at) == unit && at < key.len() && key[at] != 65537 * (unit as u32)
 }
 
 // A unit that is its own label spreads it as far as it lowers others.
@@ -134,7 +112,8 @@ fn flood(
 {
     base_slices::put(queue, 0, unit);
     let mut head: u16 = 0;
-    let mut end = starts(unit, key, x);
+    let mut end = u16::from(starts(unit, key, x));
+    // Stays: the queue grows as it is read, which no range over its places can follow.
     while head < end {
         let next = base_slices::word(queue, head as usize) as usize;
         end = relax(
@@ -159,10 +138,8 @@ fn search(forward: bool, units: u16, links: &[u16], order: &[u16], key: &[u32], 
         x.new }
 {
     let mut queue = [0u16; 256];
-    let mut unit: u16 = 0;
-    while unit < units {
+    for unit in 0..units {
         flood(forward, links, unit, order, key, x, &mut queue);
-        unit += 1;
     }
 }
 

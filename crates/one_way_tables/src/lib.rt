@@ -11,10 +11,8 @@ pub fn own() -> [u16; 256]
     ensures { (v : ℕ) → v < 256 → at result v ≡ v }
 {
     let mut x = [0u16; 256];
-    let mut v: u16 = 0;
-    while v < 256 {
+    for v in 0..256u16 {
         x[v as usize] = v;
-        v += 1;
     }
     x
 }
@@ -24,14 +22,12 @@ pub fn sources(f: &[u16]) -> [u16; 256]
     ensures { (v : ℕ) → v < 256 → at result v ≡ source f.now v }
 {
     let mut x = [0u16; 256];
-    let mut v: u16 = 0;
-    while v < 256 {
+    for v in 0..256u16 {
         x[v as usize] = base_choice::choose(
             base_slices::word(f, v as usize) == v,
             v,
             table::ABSENT,
         );
-        v += 1;
     }
     x
 }
@@ -48,12 +44,11 @@ fn number_of(f: u16, b: u16, old: u16) -> u16
 }
 
 // Step 3, marking: a unit whose two labels are equal has its number.
-pub fn mark<'a>(units: u16, f: &'a [u16], b: &'a [u16], out: &mut [u16])
+pub fn mark(units: u16, f: &[u16], b: &[u16], out: &mut [u16])
     ensures { out.new ≡ over units (marked f.now b.now out.old)
         out.old }
 {
-    let mut v: u16 = 0;
-    while v < units {
+    for v in 0..units {
         let at = v as usize;
         let old = base_slices::word(out, at);
         base_slices::put(
@@ -61,7 +56,6 @@ pub fn mark<'a>(units: u16, f: &'a [u16], b: &'a [u16], out: &mut [u16])
             at,
             number_of(base_slices::word(f, at), base_slices::word(b, at), old),
         );
-        v += 1;
     }
 }
 
@@ -81,10 +75,8 @@ pub fn unfinished(units: u16, out: &[u16]) -> bool
     ensures { result ≡ unfinished units out.now }
 {
     let mut any = false;
-    let mut v: u16 = 0;
-    while v < units {
-        any = base_choice::either(any, base_slices::word(out, v as usize) == table::ABSENT);
-        v += 1;
+    for v in 0..units {
+        any |= base_slices::word(out, v as usize) == table::ABSENT;
     }
     any
 }
@@ -93,9 +85,7 @@ pub fn unfinished(units: u16, out: &[u16]) -> bool
 pub fn clear(units: u16, out: &mut [u16])
     ensures { out.new ≡ over units (λ (v : ℕ). NONE) out.old }
 {
-    let mut v: u16 = 0;
-    while v < units {
+    for v in 0..units {
         base_slices::put(out, v as usize, table::ABSENT);
-        v += 1;
     }
 }

@@ -7,76 +7,56 @@ ghost use Rattle.theory_ears.specs.Present.{sure};
 ghost use Rattle.theory_ears.specs.Steps.{hanging, ties, moved};
 ghost use Rattle.theory_ears.specs.Weaving.{holding, WovenIn, EarOf, Visited, Passed, Followed, Settling, Settles};
 
-use ring_tables::{counts, end_a, end_b, has, lay, on};
+use ring_tables::{counts, end_a, end_b, has, lay, on, steps};
 use table_values::tables;
 
 // The unit of the order that each unit of the tree hangs on, in the order in which they came to it.
-fn hold<'a>(count: u16, parent: &'a [u16], seq: &'a [u16], pos: &'a [u16], held: &mut [u16])
+fn hold(count: u16, parent: &[u16], seq: &[u16], pos: &[u16], held: &mut [u16])
     ensures { held.new ≡ holding parent.now seq.now pos.now count
         held.old }
 {
-    let mut i = 0;
-    while i < count {
+    for i in 0..count {
         let v = tables::at(seq, i);
         let above = tables::at(held, tables::at(parent, v));
         let x = base_choice::choose(on(pos, v), v, above);
         tables::store(held, v, x);
-        i += 1;
     }
 }
 
 // Whether link `j` ties.
-fn ties<'a>(
-    marks: &'a [u8],
-    ends: &'a [u16],
-    parent: &'a [u16],
-    pos: &'a [u16],
-    held: &'a [u16],
-    j: u16,
-) -> bool
+fn ties(marks: &[u8], ends: &[u16], parent: &[u16], pos: &[u16], held: &[u16], j: u16) -> bool
     ensures { result ≡ ties (sure marks.now) ends.now parent.now pos.now
         held.now j }
 {
     let a = end_a(ends, j);
     let b = end_b(ends, j);
-    let known = base_choice::both(counts(marks, j), has(parent, a));
+    let known = counts(marks, j) & has(parent, a);
     let apart = tables::at(held, a) != tables::at(held, b);
-    let within = base_choice::both(on(pos, a), on(pos, b));
-    base_choice::both(base_choice::both(known, apart), !within)
+    let within = on(pos, a) & on(pos, b);
+    known & apart & !within
 }
 
 // How many units from `v` up hang on the order.
-fn hanging<'a>(units: u16, parent: &'a [u16], pos: &'a [u16], v: u16) -> u16
+fn hanging(units: u16, parent: &[u16], pos: &[u16], v: u16) -> u16
     ensures { result ≡ length (hanging (min (units + 1) 2048) parent.now pos.now v) }
 {
     let limit = table_values::bounded_sum(units, 1);
-    let mut u = v;
-    let mut k = 0;
-    while k < limit {
-        if on(pos, u) {
-            return k;
-        }
-        u = tables::at(parent, u);
-        k += 1;
-    }
-    k
+    steps(limit, parent, v, |u| on(pos, u))
 }
 
 // What stands past place `q` moves on by `c`.
 fn move_on(units: u16, q: u16, c: u16, pos: &mut [u16])
     ensures { pos.new ≡ moved units q c pos.old }
 {
-    let mut v = 0;
-    while v < units {
+    for v in 0..units {
         let p = tables::at(pos, v);
         let x = base_choice::choose(q < p, table_values::bounded_sum(p, c), p);
         tables::store(pos, v, x);
-        v += 1;
     }
 }
 
 // The way from u's anchor down to `u`, over the link to `v` and up to v's anchor, put in after u's anchor.
-fn weave<'a>(units: u16, parent: &'a [u16], held: &'a [u16], u: u16, v: u16, pos: &mut [u16])
+fn weave(units: u16, parent: &[u16], held: &[u16], u: u16, v: u16, pos: &mut [u16])
     ensures { WovenIn units parent.now held.now u v pos.old
         pos.new }
 {
@@ -98,7 +78,7 @@ fn weave<'a>(units: u16, parent: &'a [u16], held: &'a [u16], u: u16, v: u16, pos
 }
 
 // The ear over link `j`, after the lower of the two anchors.
-fn ear<'a>(units: u16, ends: &'a [u16], parent: &'a [u16], held: &'a [u16], j: u16, pos: &mut [u16])
+fn ear(units: u16, ends: &[u16], parent: &[u16], held: &[u16], j: u16, pos: &mut [u16])
     ensures { EarOf units ends.now parent.now held.now j pos.old
         pos.new }
 {
@@ -111,14 +91,14 @@ fn ear<'a>(units: u16, ends: &'a [u16], parent: &'a [u16], held: &'a [u16], j: u
 }
 
 // Link `j`: where it ties, its ear is put in.
-fn visit<'a>(
-    marks: &'a [u8],
+fn visit(
+    marks: &[u8],
     units: u16,
     links: u16,
-    ends: &'a [u16],
+    ends: &[u16],
     count: u16,
-    parent: &'a [u16],
-    seq: &'a [u16],
+    parent: &[u16],
+    seq: &[u16],
     j: u16,
     pos: &mut [u16],
     held: &mut [u16],
@@ -137,37 +117,35 @@ fn visit<'a>(
 }
 
 // All links, one after the other.
-fn pass<'a>(
-    marks: &'a [u8],
+fn pass(
+    marks: &[u8],
     units: u16,
     links: u16,
-    ends: &'a [u16],
+    ends: &[u16],
     count: u16,
-    parent: &'a [u16],
-    seq: &'a [u16],
+    parent: &[u16],
+    seq: &[u16],
     pos: &mut [u16],
     held: &mut [u16],
 )
     ensures { Passed (sure marks.now) units links ends.now count parent.now
         seq.now links pos.old held.old pos.new held.new }
 {
-    let mut j = 0;
-    while j < links {
+    for j in 0..links {
         visit(marks, units, links, ends, count, parent, seq, j, pos, held);
-        j += 1;
     }
 }
 
 // The links of a row, whichever they are.
-fn follow<'a>(
-    marks: &'a [u8],
+fn follow(
+    marks: &[u8],
     units: u16,
     links: u16,
-    ends: &'a [u16],
+    ends: &[u16],
     count: u16,
-    parent: &'a [u16],
-    seq: &'a [u16],
-    row: &'a [u16],
+    parent: &[u16],
+    seq: &[u16],
+    row: &[u16],
     pos: &mut [u16],
     held: &mut [u16],
 )
@@ -175,53 +153,49 @@ fn follow<'a>(
         seq.now pos.old held.old pos.new held.new }
 {
     let total = table_values::bounded_sum(links, links);
-    let mut i = 0;
-    while i < total {
+    for i in 0..total {
         let j = tables::at(row, i);
         visit(marks, units, links, ends, count, parent, seq, j, pos, held);
-        i += 1;
     }
 }
 
 // Until a pass leaves the order as it was; `b` is its last unit, whose place tells its length.
-fn settle<'a>(
-    marks: &'a [u8],
+fn settle(
+    marks: &[u8],
     units: u16,
     links: u16,
-    ends: &'a [u16],
+    ends: &[u16],
     b: u16,
     count: u16,
-    parent: &'a [u16],
-    seq: &'a [u16],
+    parent: &[u16],
+    seq: &[u16],
     pos: &mut [u16],
     held: &mut [u16],
 )
     ensures { Settling (sure marks.now) units links ends.now b count parent.now
         seq.now pos.old held.old pos.new held.new }
 {
-    let mut k: u16 = 0;
-    while k < 257 {
+    for k in 0..257u16 {
         let before = tables::at(pos, b);
         pass(marks, units, links, ends, count, parent, seq, pos, held);
         let after = tables::at(pos, b);
         if after == before {
             return;
         }
-        k += 1;
     }
 }
 
 // The order grown from what stands on it: first along a row of links, then by passes over all of them.
-pub fn grow<'a>(
-    marks: &'a [u8],
+pub fn grow(
+    marks: &[u8],
     units: u16,
     links: u16,
-    ends: &'a [u16],
+    ends: &[u16],
     b: u16,
     count: u16,
-    parent: &'a [u16],
-    seq: &'a [u16],
-    row: &'a [u16],
+    parent: &[u16],
+    seq: &[u16],
+    row: &[u16],
     pos: &mut [u16],
     held: &mut [u16],
 )

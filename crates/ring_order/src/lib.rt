@@ -2,7 +2,6 @@
 // ears.
 #![tactic(auto)]
 
-ghost use Rattle.std.specs.Prelude.{◌≡◌, length};
 ghost use Rattle.theory_ears.specs.Present.{sure};
 ghost use Rattle.theory_ears.specs.Found.{Ordered};
 
@@ -11,33 +10,19 @@ use table_values::tables;
 
 mod tree;
 
-// A table by place, to be filled.
-fn places() -> [u16; 2048]
-    ensures { length result ≡ 2048 }
-{
-    [0; 2048]
-}
-
 // The grown order from the ends of link `i`, in a table of zeros.
-pub fn ordered<'a>(
-    marks: &'a [u8],
-    units: u16,
-    links: u16,
-    ends: &'a [u16],
-    i: u16,
-    pos: &mut [u16],
-)
+pub fn ordered(marks: &[u8], units: u16, links: u16, ends: &[u16], i: u16, pos: &mut [u16])
     ensures { Ordered (sure marks.now) units links ends.now i pos.old
         pos.new }
 {
     let a = end_a(ends, i);
     let b = end_b(ends, i);
-    let mut last = zeros();
-    let mut next = places();
+    let mut last = zeros::<256>();
+    let mut next = zeros::<2048>();
     tree::chain(links, ends, &mut last, &mut next);
     let mut cursor = last;
     let mut parent = tables::blank();
-    let mut seq = zeros();
+    let mut seq = zeros::<256>();
     let count = tree::span(
         marks,
         links,
@@ -49,9 +34,9 @@ pub fn ordered<'a>(
         &mut parent,
         &mut seq,
     );
-    let mut row = places();
+    let mut row = zeros::<2048>();
     tree::line(count, &seq, &last, &next, &mut row);
-    let mut held = zeros();
+    let mut held = zeros::<256>();
     tables::store(pos, a, 1);
     tables::store(pos, b, 2);
     ring_ears::grow(

@@ -10,19 +10,19 @@ use ring_tables::{counts, end_a, end_b, has};
 use table_values::tables;
 
 // Whether link `j` leads out of the tree.
-fn leads_out<'a>(marks: &'a [u8], ends: &'a [u16], parent: &'a [u16], j: u16) -> bool
+fn leads_out(marks: &[u8], ends: &[u16], parent: &[u16], j: u16) -> bool
     ensures { result ≡ leads_out (sure marks.now) ends.now parent.now j }
 {
     let a = has(parent, end_a(ends, j));
     let b = has(parent, end_b(ends, j));
-    base_choice::both(counts(marks, j), base_choice::pick(a, !b, b))
+    counts(marks, j) & base_choice::pick(a, !b, b)
 }
 
 // Over link `j`, where it leads out, the tree has one unit more; how many it has.
-fn reach<'a>(
-    marks: &'a [u8],
+fn reach(
+    marks: &[u8],
     links: u16,
-    ends: &'a [u16],
+    ends: &[u16],
     j: u16,
     count: u16,
     parent: &mut [u16],
@@ -51,25 +51,23 @@ fn reach<'a>(
 // is none.
 pub(crate) fn chain(links: u16, ends: &[u16], last: &mut [u16], next: &mut [u16]) {
     let total = table_values::bounded_sum(links, links);
-    let mut i = 0;
-    while i < total {
+    for i in 0..total {
         let v = tables::at(ends, i);
         let before = tables::at(last, v);
         tables::store(next, i, before);
         tables::store(last, v, table_values::bounded_sum(i, 1));
-        i += 1;
     }
 }
 
 // As far as the chains lead, each unit's links before those of the unit that it came from. `cursor` is the place of
 // each unit to be looked at next.
-fn deepen<'a>(
-    marks: &'a [u8],
+fn deepen(
+    marks: &[u8],
     links: u16,
-    ends: &'a [u16],
+    ends: &[u16],
     a: u16,
     b: u16,
-    next: &'a [u16],
+    next: &[u16],
     cursor: &mut [u16],
     parent: &mut [u16],
     seq: &mut [u16],
@@ -79,18 +77,14 @@ fn deepen<'a>(
 {
     let mut count = 2;
     let mut v = b;
-    let mut k: u16 = 0;
-    while k < 4096 {
-        k += 1;
-        let c = tables::at(cursor, v);
-        if c == 0 {
+    for _ in 0..4096 {
+        let Some(i) = tables::at(cursor, v).checked_sub(1) else {
             if v == a {
                 return count;
             }
             v = tables::at(parent, v);
             continue;
-        }
-        let i = c - 1;
+        };
         let after = tables::at(next, i);
         tables::store(cursor, v, after);
         let more = reach(marks, links, ends, i / 2, count, parent, seq);
@@ -101,10 +95,10 @@ fn deepen<'a>(
 }
 
 // Over all links, one after the other.
-fn sweep<'a>(
-    marks: &'a [u8],
+fn sweep(
+    marks: &[u8],
     links: u16,
-    ends: &'a [u16],
+    ends: &[u16],
     count: u16,
     parent: &mut [u16],
     seq: &mut [u16],
@@ -113,19 +107,17 @@ fn sweep<'a>(
         seq.old count parent.new seq.new result }
 {
     let mut c = count;
-    let mut j = 0;
-    while j < links {
+    for j in 0..links {
         c = reach(marks, links, ends, j, c, parent, seq);
-        j += 1;
     }
     c
 }
 
 // Until a sweep adds nothing.
-fn fill<'a>(
-    marks: &'a [u8],
+fn fill(
+    marks: &[u8],
     links: u16,
-    ends: &'a [u16],
+    ends: &[u16],
     count: u16,
     parent: &mut [u16],
     seq: &mut [u16],
@@ -134,26 +126,24 @@ fn fill<'a>(
         seq.old count parent.new seq.new result }
 {
     let mut c = count;
-    let mut k: u16 = 0;
-    while k < 257 {
+    for k in 0..257u16 {
         let more = sweep(marks, links, ends, c, parent, seq);
         if more == c {
             return more;
         }
         c = more;
-        k += 1;
     }
     c
 }
 
 // The tree from `a`, with `b` first, in tables that have no unit yet; how many units it has.
-pub(crate) fn span<'a>(
-    marks: &'a [u8],
+pub(crate) fn span(
+    marks: &[u8],
     links: u16,
-    ends: &'a [u16],
+    ends: &[u16],
     a: u16,
     b: u16,
-    next: &'a [u16],
+    next: &[u16],
     cursor: &mut [u16],
     parent: &mut [u16],
     seq: &mut [u16],
@@ -170,28 +160,19 @@ pub(crate) fn span<'a>(
 }
 
 // The links of the tree's units, each unit's before those of the units that came later.
-pub(crate) fn line<'a>(
-    count: u16,
-    seq: &'a [u16],
-    last: &'a [u16],
-    next: &'a [u16],
-    row: &mut [u16],
-) {
+pub(crate) fn line(count: u16, seq: &[u16], last: &[u16], next: &[u16], row: &mut [u16]) {
     let mut i = 0;
     let mut c = tables::at(last, tables::at(seq, 0));
     let mut k = 0;
-    let mut steps: u16 = 0;
-    while steps < 4096 {
-        steps += 1;
-        if c == 0 {
+    for _ in 0..4096 {
+        let Some(place) = c.checked_sub(1) else {
             i = table_values::bounded_sum(i, 1);
             if count <= i {
                 return;
             }
             c = tables::at(last, tables::at(seq, i));
             continue;
-        }
-        let place = c - 1;
+        };
         tables::store(row, k, place / 2);
         k = table_values::bounded_sum(k, 1);
         c = tables::at(next, place);

@@ -1,34 +1,25 @@
 // The ring from an order: up from the second link to the order's last unit, and down from it to the first.
-ghost use Rattle.std.specs.Prelude.{◌≡◌, ℕ, eqb, length};
-ghost use Rattle.spec_rules.specs.Basics.{at};
+ghost use Rattle.std.specs.Prelude.{◌≡◌, ℕ, ◌<◌, true, false, MatchOption};
 ghost use Rattle.theory_ears.specs.Present.{sure};
 ghost use Rattle.theory_ears.specs.Sides.{within};
 ghost use Rattle.theory_ears.specs.Closing.{serves};
-ghost use Rattle.theory_ears.specs.Upright.{chain};
 ghost use Rattle.theory_ears.specs.Rows.{Closed};
-ghost use Rattle.theory_ears.specs.Found.{LeansOne, Leans, Second};
+ghost use Rattle.theory_ears.specs.Found.{LeansOne, Leans};
 
-use ring_tables::{counts, end_a, end_b, lay, on};
+use ring_tables::{counts, end_a, end_b, lay, on, steps};
 use table_values::tables;
 
 // Link `j` counts, and both of its ends are on the order.
-fn within<'a>(marks: &'a [u8], ends: &'a [u16], pos: &'a [u16], j: u16) -> bool
+fn within(marks: &[u8], ends: &[u16], pos: &[u16], j: u16) -> bool
     ensures { result ≡ within (sure marks.now) ends.now pos.now j }
 {
     let a = on(pos, end_a(ends, j));
     let b = on(pos, end_b(ends, j));
-    base_choice::both(counts(marks, j), base_choice::both(a, b))
+    counts(marks, j) & (a & b)
 }
 
 // Link `j`, where it is within the order: each of its ends leans on the other.
-fn lean_one<'a>(
-    marks: &'a [u8],
-    ends: &'a [u16],
-    pos: &'a [u16],
-    j: u16,
-    low: &mut [u16],
-    high: &mut [u16],
-)
+fn lean_one(marks: &[u8], ends: &[u16], pos: &[u16], j: u16, low: &mut [u16], high: &mut [u16])
     ensures { LeansOne (sure marks.now) ends.now pos.now j low.old
         high.old low.new high.new }
 {
@@ -45,76 +36,50 @@ fn lean_one<'a>(
 }
 
 // A lower and a higher unit beside each of the order that has them.
-pub(crate) fn lean<'a>(
-    marks: &'a [u8],
+pub(crate) fn lean(
+    marks: &[u8],
     links: u16,
-    ends: &'a [u16],
-    pos: &'a [u16],
+    ends: &[u16],
+    pos: &[u16],
     low: &mut [u16],
     high: &mut [u16],
 )
     ensures { Leans (sure marks.now) links ends.now pos.now links
         low.old high.old low.new high.new }
 {
-    let mut j = 0;
-    while j < links {
+    for j in 0..links {
         lean_one(marks, ends, pos, j, low, high);
-        j += 1;
     }
 }
 
 // Whether link `k` may be the second: link `j`, or any other than `i` where `j` is `i`.
-fn serves<'a>(marks: &'a [u8], ends: &'a [u16], pos: &'a [u16], i: u16, j: u16, k: u16) -> bool
+fn serves(marks: &[u8], ends: &[u16], pos: &[u16], i: u16, j: u16, k: u16) -> bool
     ensures { result ≡ serves (sure marks.now) ends.now pos.now i j k }
 {
-    base_choice::both(
-        within(marks, ends, pos, k),
-        base_choice::pick(i == j, k != i, k == j),
-    )
+    within(marks, ends, pos, k) & base_choice::pick(i == j, k != i, k == j)
 }
 
-// The first link that may be the second, `links` where none may.
-pub(crate) fn second<'a>(
-    marks: &'a [u8],
+// The first link that may be the second.
+pub(crate) fn second(
+    marks: &[u8],
     links: u16,
-    ends: &'a [u16],
-    pos: &'a [u16],
+    ends: &[u16],
+    pos: &[u16],
     i: u16,
     j: u16,
-) -> u16
-    ensures { Second (sure marks.now) links ends.now pos.now i j result }
+) -> Option<u16>
+    ensures { MatchOption result
+        ((q : ℕ) → q < links → serves (sure marks.now) ends.now pos.now i j q ≡ false)
+        (λ k. (k < links) × (serves (sure marks.now) ends.now pos.now i j k ≡ true)) }
 {
-    let mut k = 0;
-    while k < links {
-        if serves(marks, ends, pos, i, j, k) {
-            return k;
-        }
-        k += 1;
-    }
-    links
-}
-
-// How many units stand from `v` on before `stop`.
-fn steps(limit: u16, next: &[u16], stop: u16, v: u16) -> u16
-    ensures { result ≡ length (chain (at next.now) (λ (z : ℕ). eqb z stop) limit v) }
-{
-    let mut u = v;
-    let mut k = 0;
-    while k < limit {
-        if u == stop {
-            return k;
-        }
-        u = tables::at(next, u);
-        k += 1;
-    }
-    k
+    (0..links).find(|k| serves(marks, ends, pos, i, j, *k))
 }
 
 // a, b, back along the way up from `d` to `b`, then down from `c` to `a`; how many units.
-pub(crate) fn close<'a>(
+pub(crate) fn close(
     units: u16,
-    low: &'a [u16],
-    high: &'a [u16],
+    low: &[u16],
+    high: &[u16],
     a: u16,
     b: u16,
     c: u16,
@@ -124,8 +89,8 @@ pub(crate) fn close<'a>(
     ensures { Closed units low.now high.now a b c d out.old
         out.new result }
 {
-    let s = steps(units, high, b, d);
-    let t = steps(units, low, a, c);
+    let s = steps(units, high, d, |u| u == b);
+    let t = steps(units, low, c, |u| u == a);
     tables::store(out, 0, a);
     tables::store(out, 1, b);
     lay(

@@ -14,11 +14,11 @@ mod closing;
 
 // The units of a ring that holds links `i` and `j`, the two ends of `i` in front, and how many they are; 0 where no
 // ring holds both. Words past so many stay, whatever the table is.
-pub fn ring<'a>(
-    marks: &'a [u8],
+pub fn ring(
+    marks: &[u8],
     units: u16,
     links: u16,
-    ends: &'a [u16],
+    ends: &[u16],
     i: u16,
     j: u16,
     out: &mut [u16],
@@ -27,44 +27,35 @@ pub fn ring<'a>(
         out.old out.new result }
     ensures past { drop result out.new ≡ drop result out.old }
 {
-    let mut row = zeros();
+    let mut row = zeros::<256>();
     let count = found(marks, units, links, ends, i, j, &mut row);
     base_copies::lay_first(count, &row, out);
     count
 }
 
 // Whether a ring of the links that count holds both.
-pub fn ringed<'a>(marks: &'a [u8], units: u16, links: u16, ends: &'a [u16], i: u16, j: u16) -> bool
+pub fn ringed(marks: &[u8], units: u16, links: u16, ends: &[u16], i: u16, j: u16) -> bool
     ensures { RingedTold units links ends.now i j (sure marks.now) result }
 {
-    let mut row = zeros();
+    let mut row = zeros::<256>();
     found(marks, units, links, ends, i, j, &mut row) != 0
 }
 
 // The ring in a row of 256 words, whose words past the ring may change.
-fn found<'a>(
-    marks: &'a [u8],
-    units: u16,
-    links: u16,
-    ends: &'a [u16],
-    i: u16,
-    j: u16,
-    out: &mut [u16],
-) -> u16
+fn found(marks: &[u8], units: u16, links: u16, ends: &[u16], i: u16, j: u16, out: &mut [u16]) -> u16
     ensures { RingTold (sure marks.now) units links ends.now i j out.old
         out.new result }
 {
     if !counts(marks, i) {
         return 0;
     }
-    let mut pos = zeros();
+    let mut pos = zeros::<256>();
     ring_order::ordered(marks, units, links, ends, i, &mut pos);
-    let k = closing::second(marks, links, ends, &pos, i, j);
-    if k == links {
+    let Some(k) = closing::second(marks, links, ends, &pos, i, j) else {
         return 0;
-    }
-    let mut low = zeros();
-    let mut high = zeros();
+    };
+    let mut low = zeros::<256>();
+    let mut high = zeros::<256>();
     closing::lean(marks, links, ends, &pos, &mut low, &mut high);
     let c = end_a(ends, k);
     let d = end_b(ends, k);

@@ -1,19 +1,19 @@
 -- By the tests in order.
+use Rattle.std.proofs.Common.{sym, ap, ◌∙◌, arith}
 use mathlib.Core.Bool.{not}
-use mathlib.Core.Path.{ap, ◌∙◌}
-use Rattle.lifting_order.proofs.WrittenLaws.{bad_many, bad_odd, bad_named}
-use borrow.Author.Rules.{rules}
+use borrow.Author.Tests.{ltb-false}
+use Rattle.std.proofs.lemmas.Bool.{eqb-false}
+use Rattle.lifting_order.proofs.WrittenLaws.{bad_named}
 use Rattle.lifting_order.proofs.bad_pairs.Goals as goal
+use Rattle.lifting_order.proofs.bad_pairs.Goals.{then-count-gt256, else-count-gt256}
 
-pub returns-then-count-gt256 : goal.returns-then-count-gt256
-returns-then-count-gt256 c = bad_many c.args.units c.args.pairs.now c.if-count-gt256.true
-
-pub returns-then-pairs-eq1 : goal.returns-then-pairs-eq1
-returns-then-pairs-eq1 c =
-    let a = c.args in bad_odd a.units a.pairs.now (search rules)
-    c.if-pairs-eq1.true
-
-pub returns : goal.returns
-returns c =
-    let a = c.args in ap not c.links_fit.ensures
-    ∙ bad_named a.units a.pairs.now (search rules) c.if-pairs-eq1.false
+pub returns-else-pairs-eq1 : goal.returns-else-pairs-eq1
+returns-else-pairs-eq1 c =
+    let a = c.args in
+    elim c.if-count-gt256.branch [
+      | then-count-gt256 w ↦ absurd (omega (arith, ltb-false 256 _ (sym w.value-is ∙ c.if-pairs-eq1.false)))
+      | else-count-gt256 w ↦
+          ap not c.links_fit.ensures
+          ∙ bad_named a.units a.pairs.now w.if-count-gt256.false
+          (eqb-false _ _ (sym w.value-is ∙ c.if-pairs-eq1.false))
+    ]

@@ -1,13 +1,9 @@
 -- Link by link, from no link at any unit.
 use mathlib.Core.Path.{◌≡◌}
-use Prim.Native.Nat.{ℕ, ◌-◌, ◌≤◌, ◌<◌}
+use Prim.Native.Nat.{ℕ, ◌<◌}
 use lib.ListN.{length, get_or}
 use Rattle.live_table.specs.Counts.{counted_at}
 use Rattle.live_table.proofs.counts_of.Given as goal
 
 abbrev pub invariant-loop-j : goal.invariant-loop-j
-invariant-loop-j l =
-    (l.j ≤ l.links) × (length l.counts ≡ 256) × ((v : ℕ) → v < 256 → get_or l.counts v 0 ≡ counted_at l.j l.words v)
-
-abbrev pub decreases-loop-j : goal.decreases-loop-j
-decreases-loop-j l = l.links - l.j
+invariant-loop-j l = (length l.counts ≡ 256) × ((v : ℕ) → v < 256 → get_or l.counts v 0 ≡ counted_at l.j l.words v)

@@ -1,5 +1,5 @@
 -- The first link does not count, no link may be the second, or the ring.
-use mathlib.Core.Path.{refl, sym, ◌∙◌}
+use Rattle.std.proofs.Common.{refl, sym, ◌∙◌, inl, inr, arith}
 use Rattle.theory_ears.specs.Found.{told-missing, told_none, told-ring}
 use Rattle.theory_ears.specs.Present.{sure}
 use borrow.Author.Rules.{rules}
@@ -11,13 +11,13 @@ returns-then-not-counts c =
     told-missing (sure a.marks.now) a.units a.links a.ends.now a.i a.j a.out.now
     (sym c.counts.ensures ∙ c.if-not-counts.true)
 
-pub returns-then-k-links : goal.returns-then-k-links
-returns-then-k-links c =
+pub returns-in_default : goal.returns-in_default
+returns-in_default c =
     let a = c.args in
     told_none (sure a.marks.now) a.units a.links a.ends.now a.i a.j a.out.now
-    c.zeros-pos.result c.ordered.new.pos (sym c.counts.ensures
-    ∙ c.if-not-counts.false) (search (c.zeros-pos.type_inv, rules)) c.zeros-pos.ensures
-    c.ordered.ensures c.second-k.result c.second-k.ensures c.if-k-links.true
+    c.zeros-pos.result c.ordered.new.pos (sym c.counts.ensures ∙ c.if-not-counts.false)
+    (search (c.zeros-pos.type_inv, rules)) c.zeros-pos.ensures c.ordered.ensures a.links
+    (inl (refl, c.in_default.ensures)) refl
 
 pub returns : goal.returns
 returns c =
@@ -25,7 +25,7 @@ returns c =
     told-ring (sure a.marks.now) a.units a.links a.ends.now a.i a.j a.out.now
     c.zeros-pos.result c.ordered.new.pos (sym c.counts.ensures
     ∙ c.if-not-counts.false) (search (c.zeros-pos.type_inv, rules)) c.zeros-pos.ensures
-    c.ordered.ensures c.second-k.result c.second-k.ensures c.if-k-links.false
+    c.ordered.ensures c.in-Some.k (inr c.in-Some.ensures) (omega (arith, c.in-Some.ensures.0))
     c.zeros-low.result c.zeros-high.result c.lean.new.low
     c.lean.new.high (search (c.zeros-low.type_inv, rules))
     (search (c.zeros-high.type_inv, rules)) c.lean.ensures c.end_a-c.result

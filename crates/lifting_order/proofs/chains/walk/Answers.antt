@@ -26,8 +26,8 @@ loop-c-preserved c =
     let a = c.args in
     let new =
     walk_store a.mark a.t.now c.loop-c.x c.put.new.t (c.loop-c.c - 1) c.other.result
-    c.word-w.result c.word.result c.difference-less.result c.choose-new.result
-    c.other.ensures c.word-w.ensures c.word.ensures c.difference-less.ensures
+    c.word-w.result c.word.result c.saturating_sub-less.result c.choose-new.result
+    c.other.ensures c.word-w.ensures c.word.ensures c.saturating_sub-less.ensures
     c.choose-new.ensures c.put.ensures in (
       search rules,
       along-turn a.t.now a.v (acts a.t.now (does a.mark)) a.last.now a.next.now c.requires.1

@@ -1,6 +1,5 @@
 -- Along the chain, place by place.
 use mathlib.Core.Path.{◌≡◌}
-use Prim.Native.Nat.{◌-◌}
 use lib.ListN.{length}
 use Rattle.lifting_order.specs.Marking.{acts, does}
 use Rattle.lifting_order.specs.Chains.{Along}

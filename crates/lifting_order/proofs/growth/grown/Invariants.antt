@@ -7,6 +7,3 @@ use Rattle.lifting_order.proofs.growth.grown.Given as goal
 abbrev pub invariant-loop-left : goal.invariant-loop-left
 invariant-loop-left l =
     (length l.order ≡ 256) × Growing l.units l.ends l.pairs l.order l.near l.wait l.left
-
-abbrev pub decreases-loop-left : goal.decreases-loop-left
-decreases-loop-left l = l.left

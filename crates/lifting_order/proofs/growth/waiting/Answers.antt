@@ -1,28 +1,21 @@
 -- Pair by pair, from none.
-use mathlib.Core.Path.{◌≡◌}
-use Prim.Native.Nat.{◌-◌}
+use Rattle.std.proofs.Common.{◌≡◌, rules}
 use Rattle.table.specs.Table.{link_count}
 use Rattle.lifting_order.specs.Standing.{waiting-more}
-use borrow.Author.Rules.{rules}
 use Rattle.lifting_order.proofs.growth.waiting.Goals as goal
 
 pub loop-k-init : goal.loop-k-init
-loop-k-init c = (search rules, search rules, c.zeros-wait.ensures)
+loop-k-init c = (search rules, c.zeros-wait.ensures)
 
 pub loop-k-preserved : goal.loop-k-preserved
 loop-k-preserved c = (
   search rules,
-  search rules,
-  waiting-more c.args.p.now c.loop-k.wait _ c.loop-k.k c.requires.0 (search rules) c.loop-k.invariant.1
-      c.loop-k.invariant.2
-      (rw (
-        c.bounded_sum-more.ensures,
-        c.word.ensures,
-        c.word-w.ensures,
-      ) at c.put.ensures),
+  waiting-more c.args.p.now c.loop-k.wait _ c.loop-k.k c.requires.0 (search rules) c.loop-k.invariant.0
+      c.loop-k.invariant.1
+      (rw (c.bounded_sum-more.ensures, c.word.ensures, c.word-w.ensures) at c.put.ensures),
 )
 
 pub returns : goal.returns
 returns c =
     let e : c.loop-k.k ≡ link_count c.args.p.now = search rules in
-    rw (← e) c.loop-k.invariant.2
+    rw (← e) c.loop-k.invariant.1

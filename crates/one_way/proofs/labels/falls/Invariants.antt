@@ -1,12 +1,11 @@
 -- What the links passed say, or the test from `i` on, is the test of all links.
-use Rattle.std.proofs.Common.{◌≡◌, ◌-◌, ◌≤◌, ◌||◌, length, drop}
-use Rattle.theory_min_label.specs.Hands.{falls}
+use Rattle.std.proofs.Common.{◌≡◌, ◌||◌}
+use Rattle.std.specs.Slice.Iter.{chunks_exact_rest, chunks_exact_size}
+use Rattle.theory_min_label.specs.Hands.{falls, Ends}
 use Rattle.one_way.proofs.labels.falls.Given as goal
 
-abbrev pub invariant-loop-i : goal.invariant-loop-i
-invariant-loop-i l =
-    (l.i ≤ length l.links)
-    × (falls l.forward l.key l.links l.x ≡ (l.any || falls l.forward l.key (drop l.i l.links) l.x))
-
-abbrev pub decreases-loop-i : goal.decreases-loop-i
-decreases-loop-i l = length l.links - l.i
+abbrev pub invariant-loop-link : goal.invariant-loop-link
+invariant-loop-link l =
+    (chunks_exact_size l.link-iterator ≡ 2) × Ends 256 (chunks_exact_rest l.link-iterator)
+    × (falls l.forward l.key l.links l.x
+    ≡ (l.any || falls l.forward l.key (chunks_exact_rest l.link-iterator) l.x))

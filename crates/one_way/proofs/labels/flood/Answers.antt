@@ -1,5 +1,5 @@
 -- Unit after unit of the queue.
-use Rattle.std.proofs.Common.{◌-◌, ◌∙◌, arith, rules}
+use Rattle.std.proofs.Common.{rules}
 use Rattle.theory_min_label.specs.MinLabelLaws.{Hears}
 use Rattle.theory_min_label.specs.Hands.{Live}
 use Rattle.theory_min_label.specs.HandLaws.{spread_refl, spread_trans}
@@ -7,28 +7,13 @@ use Rattle.one_way.proofs.labels.flood.Goals as goal
 
 pub loop-head-init : goal.loop-head-init
 loop-head-init c = (
-  omega (arith, c.starts-end.ensures),
-  search rules,
   search rules,
   spread_refl (Hears c.args.forward (Live c.args.links.now c.args.key.now)) c.args.x.now,
-)
-
-pub relax-end-requires : goal.relax-end-requires
-relax-end-requires c = (
-  search rules,
-  record {
-    ends = c.requires.ends;
-    keys = c.requires.keys;
-    labels = c.loop-head.invariant.1
-        ∙ c.requires.labels;
-  },
 )
 
 pub loop-head-preserved : goal.loop-head-preserved
 loop-head-preserved c = (
   c.relax-end.ensures.0,
-  search rules,
-  search rules,
   spread_trans (Hears c.args.forward (Live c.args.links.now c.args.key.now)) c.args.x.now
-      c.loop-head.x _ c.loop-head.invariant.3 c.relax-end.ensures.1,
+      c.loop-head.x _ c.loop-head.invariant.1 c.relax-end.ensures.1,
 )

@@ -1,5 +1,5 @@
 -- As long as a label falls, the sum of the labels falls with a sweep.
-use Rattle.std.proofs.Common.{◌-◌, sym, ◌∙◌}
+use Rattle.std.proofs.Common.{sym, ◌∙◌}
 use Rattle.theory_min_label.specs.MinLabelLaws.{Hears}
 use Rattle.theory_min_label.specs.Hands.{Live}
 use Rattle.theory_min_label.specs.HandLaws.{spread_refl, spread_trans, sweep_spread, sweep_less, still-settled}

@@ -1,5 +1,5 @@
 -- As long as a label falls, the sum of the labels falls with a sweep.
-use Rattle.std.proofs.Common.{◌≡◌, ◌-◌, length}
+use Rattle.std.proofs.Common.{◌≡◌, length}
 use Rattle.theory_min_label.specs.MinLabelLaws.{Hears}
 use Rattle.theory_min_label.specs.Hands.{Live, Spread, total}
 use Rattle.one_way.proofs.labels.settle.Given as goal

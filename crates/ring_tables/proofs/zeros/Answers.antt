@@ -1,6 +1,0 @@
--- Every entry is the one value.
-use lib.ListN.{get_or-replicate}
-use Rattle.ring_tables.proofs.zeros.Goals as goal
-
-pub returns : goal.returns
-returns c = λ i h. get_or-replicate 256 i 0 0 h
