@@ -6,6 +6,9 @@ ghost use Rattle.std.specs.Prelude.{◌≡◌, ◌<◌, IfOk, length, take};
 ghost use Rattle.std.specs.Io.KnownBytes.{Consumes, IsAtEnd};
 ghost use Rattle.base_io.specs.Counts.{IsPrefixLen};
 
+mod each;
+
+pub use each::{each_file, read_file, text_arg};
 use std::env::FillError;
 use std::fs::File;
 use std::io::{Eprint, ErrorKind, Input, Print, Read};

@@ -8,8 +8,11 @@ ghost use Rattle.base_streams.specs.Stream.{begun, ended_at, number_at, part_at,
 
 mod digits;
 pub mod listed;
+mod reader;
 pub mod series;
 pub mod text;
+
+pub use reader::{Reader, each_case, print_row};
 
 // Where the next number begins, and whether a fault was met.
 #[derive(Clone, Copy)]

@@ -1,0 +1,53 @@
+// The files that a program's arguments name.
+ghost use Rattle.std.specs.Prelude.{◌≤◌, IfOk, IfSome, length};
+
+use std::io::Eprint;
+use std::rt::{Env, Files};
+use std::{io, str};
+
+// Argument `i` as text, at the front of `buf`: empty where it is missing, longer than `buf` or not UTF-8.
+pub fn text_arg<'a>(rt: &impl Env, i: usize, buf: &'a mut [u8]) -> &'a str
+    ensures { length result.now ≤ length buf.old }
+{
+    let length = super::arg(rt, i, buf);
+    str::from_utf8(&buf[..length]).unwrap_or("")
+}
+
+// The bytes of the file of that name, as many as `buf` holds; `None`, and a line on standard error, where it cannot be
+// opened.
+pub fn read_file<'a>(
+    rt: &(impl Eprint + Files),
+    name: &str,
+    buf: &'a mut [u8],
+) -> io::Result<Option<&'a [u8]>>
+    ensures { IfOk result (λ found. IfSome found (λ bytes. length bytes.now ≤ length buf.old)) }
+{
+    match super::open_read(rt, name.as_bytes()) {
+        Ok(mut file) => {
+            let got = super::read_full(&mut file, buf)?;
+            Ok(Some(&buf[..got]))
+        }
+        Err(error) => {
+            super::fail(rt, name.as_bytes(), &error)?;
+            Ok(None)
+        }
+    }
+}
+
+// Calls `visit` with the name and the first 65,536 bytes of each file that an argument names.
+pub fn each_file<R: Env + Eprint + Files, F: FnMut(&str, &[u8]) -> io::Result<()>>(
+    rt: &R,
+    mut visit: F,
+) -> io::Result<()>
+    requires { F.IsAlwaysCallable visit }
+{
+    for i in 1..super::arg_count(rt) {
+        let mut room = super::buffer();
+        let name = text_arg(rt, i, &mut room);
+        let mut input = super::large_buffer();
+        if let Some(bytes) = read_file(rt, name, &mut input)? {
+            visit(name, bytes)?;
+        }
+    }
+    Ok(())
+}
