@@ -131,10 +131,8 @@ fn end_missing(units: u16, table: &[u16]) -> bool
     ensures { result ≡ end_missing units table.now }
 {
     let mut missing = false;
-    let mut i = 0;
-    while i < table.len() {
-        missing = base_choice::either(missing, units <= table[i]);
-        i += 1;
+    for end in table {
+        missing |= units <= *end;
     }
     missing
 }
@@ -144,10 +142,8 @@ fn equal_ends(table: &[u16]) -> bool
     ensures { result ≡ equal_ends table.now }
 {
     let mut equal = false;
-    let mut i = 0;
-    while i + 1 < table.len() {
-        equal = base_choice::either(equal, table[i] == table[i + 1]);
-        i += 2;
+    for j in 0..table.len() / 2 {
+        equal |= table[2 * j] == table[2 * j + 1];
     }
     equal
 }

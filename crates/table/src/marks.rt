@@ -43,14 +43,12 @@ fn set_mark(marks: &mut [u8], p: usize)
 pub(crate) fn found(ordered: bool, table: &[u16], marks: &mut [u8]) -> bool
     ensures { result ≡ found_from (place_as ordered) marks.old table.now }
 {
-    let mut i = 0;
-    while i + 1 < table.len() {
-        let p = place(ordered, table[i], table[i + 1]);
+    for j in 0..table.len() / 2 {
+        let p = place(ordered, table[2 * j], table[2 * j + 1]);
         if is_marked(marks, p) {
             return true;
         }
         set_mark(marks, p);
-        i += 2;
     }
     false
 }

@@ -7,13 +7,11 @@ ghost use Rattle.table.specs.Seen.{ends_seen, some_blank};
 pub(crate) fn mark_ends(table: &[u16], marks: &mut [u8])
     ensures { marks.new ≡ ends_seen marks.old table.now }
 {
-    let mut i = 0;
-    while i + 1 < table.len() {
-        let a = base_slices::word(table, i) as usize;
-        let b = base_slices::word(table, i + 1) as usize;
+    for j in 0..table.len() / 2 {
+        let a = table[2 * j] as usize;
+        let b = table[2 * j + 1] as usize;
         base_slices::put_byte(marks, a, 1);
         base_slices::put_byte(marks, b, 1);
-        i += 2;
     }
 }
 
@@ -22,10 +20,8 @@ pub(crate) fn some_blank(units: u16, marks: &[u8]) -> bool
     ensures { result ≡ some_blank units marks.now }
 {
     let mut blank = false;
-    let mut v = 0;
-    while v < units {
-        blank = base_choice::either(blank, base_slices::byte(marks, v as usize) == 0);
-        v += 1;
+    for v in 0..units {
+        blank |= base_slices::byte(marks, v as usize) == 0;
     }
     blank
 }

@@ -1,26 +1,20 @@
--- What the ends passed say, or the test from `i` on, is the test of the whole table.
-use mathlib.Core.Path.{refl, sym, ap, ◌∙◌}
-use mathlib.Core.Bool.{◌||◌, or-false}
+-- What the ends passed say, or the test of the rest, is the test of the whole table.
+use Rattle.std.proofs.Common.{sym, ap, ◌∙◌, ◌||◌, rules}
+use mathlib.Core.Bool.{or-false}
 use Rattle.table.specs.TableLaws.{end_missing-next, end_missing-end}
-use borrow.Author.Rules.{rules}
 use Rattle.table.proofs.end_missing.Goals as goal
 
-pub loop-i-init : goal.loop-i-init
-loop-i-init c = (search rules, refl)
-
-pub loop-i-preserved : goal.loop-i-preserved
-loop-i-preserved c =
-    let a = c.args in (
-      search rules,
-      c.loop-i.invariant.1 ∙ end_missing-next a.units a.table.now c.loop-i.i c.loop-i.missing
-          (search rules) ∙ cc,
-    )
+pub loop-end-preserved : goal.loop-end-preserved
+loop-end-preserved c =
+    let a = c.args in
+    c.loop-end.invariant
+    ∙ end_missing-next a.units a.table.now c.loop-end.end-index c.loop-end.missing (search rules)
 
 pub returns : goal.returns
 returns c =
     let a = c.args in
     sym
-    (c.loop-i.invariant.1
-    ∙ ap (λ (x : _). c.loop-i.missing || x)
-    (end_missing-end a.units a.table.now c.loop-i.i c.loop-i-test.false)
-    ∙ or-false c.loop-i.missing)
+    (c.loop-end.invariant
+    ∙ ap (λ (x : _). c.loop-end.missing || x)
+    (end_missing-end a.units a.table.now c.loop-end.end-index (search rules))
+    ∙ or-false c.loop-end.missing)

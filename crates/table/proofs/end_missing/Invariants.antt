@@ -1,14 +1,8 @@
--- What the ends passed say, or the test from `i` on, is the test of the whole table.
-use mathlib.Core.Path.{◌≡◌}
-use mathlib.Core.Bool.{◌||◌}
-use Prim.Native.Nat.{◌≤◌, ◌-◌}
-use lib.ListN.{length, drop}
+-- What the ends passed say, or the test of the rest, is the test of the whole table.
+use Rattle.std.proofs.Common.{◌≡◌, ◌||◌}
+use lib.ListN.{drop}
 use Rattle.table.specs.Table.{end_missing}
 use Rattle.table.proofs.end_missing.Given as goal
 
-abbrev pub invariant-loop-i : goal.invariant-loop-i
-invariant-loop-i l =
-    (l.i ≤ length l.table) × (end_missing l.units l.table ≡ (l.missing || end_missing l.units (drop l.i l.table)))
-
-abbrev pub decreases-loop-i : goal.decreases-loop-i
-decreases-loop-i l = length l.table - l.i
+abbrev pub invariant-loop-end : goal.invariant-loop-end
+invariant-loop-end l = end_missing l.units l.table ≡ (l.missing || end_missing l.units (drop l.end-index l.table))

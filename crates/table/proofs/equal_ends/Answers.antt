@@ -1,22 +1,19 @@
--- What the links passed say, or the test from `i` on, is the test of the whole table.
-use mathlib.Core.Path.{refl, sym, ap, ◌∙◌}
-use mathlib.Core.Bool.{◌||◌, or-false}
+-- What the links passed say, or the test of the rest, is the test of the whole table.
+use Rattle.std.proofs.Common.{◌≡◌, sym, ap, ◌∙◌, ◌||◌, ◌*◌, ◌+◌, rules, arith}
+use mathlib.Core.Bool.{or-false}
 use Rattle.table.specs.TableLaws.{equal_ends-next, equal_ends-end}
-use borrow.Author.Rules.{rules}
 use Rattle.table.proofs.equal_ends.Goals as goal
 
-pub loop-i-init : goal.loop-i-init
-loop-i-init c = (search rules, refl)
-
-pub loop-i-preserved : goal.loop-i-preserved
-loop-i-preserved c =
-    let a = c.args in
-    (search rules, c.loop-i.invariant.1 ∙ equal_ends-next a.table.now c.loop-i.i c.loop-i.equal (search rules) ∙ cc)
+pub loop-j-preserved : goal.loop-j-preserved
+loop-j-preserved c =
+    let t = c.args.table.now in
+    let e : 2 * (c.loop-j.j + 1) ≡ 2 * c.loop-j.j + 2 = omega arith in
+    rw e (c.loop-j.invariant ∙ equal_ends-next t (2 * c.loop-j.j) c.loop-j.equal (search rules))
 
 pub returns : goal.returns
 returns c =
-    let a = c.args in
+    let t = c.args.table.now in
     sym
-    (c.loop-i.invariant.1
-    ∙ ap (λ (x : _). c.loop-i.equal || x) (equal_ends-end a.table.now c.loop-i.i c.loop-i-test.false)
-    ∙ or-false c.loop-i.equal)
+    (c.loop-j.invariant
+    ∙ ap (λ (x : _). c.loop-j.equal || x) (equal_ends-end t (2 * c.loop-j.j) (search rules))
+    ∙ or-false c.loop-j.equal)

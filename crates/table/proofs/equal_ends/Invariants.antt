@@ -1,14 +1,8 @@
--- What the links passed say, or the test from `i` on, is the test of the whole table.
-use mathlib.Core.Path.{◌≡◌}
-use mathlib.Core.Bool.{◌||◌}
-use Prim.Native.Nat.{◌≤◌, ◌-◌}
-use lib.ListN.{length, drop}
+-- What the links passed say, or the test of the rest, is the test of the whole table.
+use Rattle.std.proofs.Common.{◌≡◌, ◌||◌, ◌*◌}
+use lib.ListN.{drop}
 use Rattle.table.specs.Table.{equal_ends}
 use Rattle.table.proofs.equal_ends.Given as goal
 
-abbrev pub invariant-loop-i : goal.invariant-loop-i
-invariant-loop-i l =
-    (l.i ≤ length l.table) × (equal_ends l.table ≡ (l.equal || equal_ends (drop l.i l.table)))
-
-abbrev pub decreases-loop-i : goal.decreases-loop-i
-decreases-loop-i l = length l.table - l.i
+abbrev pub invariant-loop-j : goal.invariant-loop-j
+invariant-loop-j l = equal_ends l.table ≡ (l.equal || equal_ends (drop (2 * l.j) l.table))

@@ -1,22 +1,15 @@
--- The marks from `i` on, after the links passed, are the marks of the whole table.
-use mathlib.Core.Path.{refl, sym, ◌∙◌}
+-- The marks of the rest, after the links passed, are the marks of the whole table.
+use Rattle.std.proofs.Common.{◌≡◌, sym, ◌∙◌, ◌*◌, ◌+◌, rules, arith}
 use Rattle.table.specs.SeenLaws.{seen_next, seen_end}
-use borrow.Author.Rules.{rules}
 use Rattle.table.proofs.seen.mark_ends.Goals as goal
 
-pub loop-i-init : goal.loop-i-init
-loop-i-init c = (search rules, refl, refl)
-
-pub loop-i-preserved : goal.loop-i-preserved
-loop-i-preserved c = (
-  search rules,
-  search rules,
-  rw (c.put_byte-in-loop-i.ensures, c.put_byte.ensures, c.word-b.ensures, c.word-a.ensures)
-      (c.loop-i.invariant.2 ∙ seen_next c.loop-i.marks c.args.table.now c.loop-i.i
-      (search rules)),
-)
+pub loop-j-preserved : goal.loop-j-preserved
+loop-j-preserved c =
+    let t = c.args.table.now in
+    let e : 2 * (c.loop-j.j + 1) ≡ 2 * c.loop-j.j + 2 = omega arith in
+    rw (e, c.put_byte-in-loop-j.ensures, c.put_byte.ensures)
+    (c.loop-j.invariant ∙ seen_next c.loop-j.marks t (2 * c.loop-j.j) (search rules))
 
 pub returns : goal.returns
 returns c =
-    sym (c.loop-i.invariant.2 ∙ seen_end c.loop-i.marks c.args.table.now c.loop-i.i
-    c.loop-i-test.false)
+    sym (c.loop-j.invariant ∙ seen_end c.loop-j.marks c.args.table.now (2 * c.loop-j.j) (search rules))
