@@ -25,13 +25,11 @@ pub fn pick(last: u16, waits: [bool; 8]) -> u16
     ensures { result ≡ picked last (λ (i : ℕ). get_or waits i false) }
 {
     let from = last as usize + 1;
-    let mut d: usize = 0;
-    while d < 8 {
+    for d in 0..8 {
         let seat = (from + d) % 8;
         if waits[seat] {
             return seat as u16;
         }
-        d += 1;
     }
     8
 }

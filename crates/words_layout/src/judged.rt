@@ -41,21 +41,7 @@ fn entries_ok(units: u16, links: u16, words: &[u16; STATE_WORDS]) -> bool
     let numbers = within(number, layout::SUM, layout::NUMBERS, words);
     let given = within(number, layout::GIVEN, 1, words);
     let levels = within(bounds::levels(), layout::LEVELS, 1024, words);
-    let named = base_choice::both(
-        ends,
-        base_choice::both(base_choice::both(trees, classes), drawn),
-    );
-    let entries = base_choice::both(
-        base_choice::both(
-            base_choice::both(
-                base_choice::both(base_choice::both(named, arcs), labels),
-                dists,
-            ),
-            numbers,
-        ),
-        levels,
-    );
-    base_choice::both(entries, given)
+    ends & (trees & classes & drawn) & arcs & labels & dists & numbers & levels & given
 }
 
 // Every one of n words from a place on passes.
@@ -64,6 +50,5 @@ fn within(limit: Limit, at: usize, n: usize, words: &[u16]) -> bool
     ensures { (p : ℕ → Bool) → Tells limit.more limit.most p →
         result ≡ every p (part at n words.now) }
 {
-    let end = at + n;
-    bounds::within(limit, &words[at..end])
+    bounds::within(limit, &words[at..at + n])
 }

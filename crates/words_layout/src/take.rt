@@ -19,7 +19,7 @@ pub struct BareTable {
 pub fn table_at(words: &[u16; STATE_WORDS]) -> BareTable
     ensures { result ≡ bare_of (state_of words.now).table }
 {
-    let ends = base_copies::ends_at(words, layout::ENDS);
+    let ends = base_copies::table_at(words, layout::ENDS);
     BareTable {
         units: words[layout::UNITS],
         links: words[layout::LINKS],
@@ -50,7 +50,7 @@ pub fn clock_at(words: &[u16; STATE_WORDS]) -> Clock
 pub fn components_at(words: &[u16; STATE_WORDS]) -> Components
     ensures { result ≡ (state_of words.now).components }
 {
-    let color = base_copies::units_at(words, layout::COLOR);
+    let color = base_copies::table_at(words, layout::COLOR);
     Components { color }
 }
 
@@ -58,7 +58,7 @@ pub fn components_at(words: &[u16; STATE_WORDS]) -> Components
 pub fn plan_at(words: &[u16; STATE_WORDS]) -> Plan
     ensures { result ≡ (state_of words.now).plan }
 {
-    let parent = base_copies::units_at(words, layout::PLAN);
+    let parent = base_copies::table_at(words, layout::PLAN);
     Plan {
         given: words[layout::GIVEN],
         parent,
@@ -69,8 +69,8 @@ pub fn plan_at(words: &[u16; STATE_WORDS]) -> Plan
 pub fn tree_at(words: &[u16; STATE_WORDS]) -> Tree
     ensures { result ≡ (state_of words.now).tree }
 {
-    let parent = base_copies::units_at(words, layout::PARENT);
-    let dist = base_copies::units_at(words, layout::DIST);
+    let parent = base_copies::table_at(words, layout::PARENT);
+    let dist = base_copies::table_at(words, layout::DIST);
     Tree { parent, dist }
 }
 
@@ -78,8 +78,8 @@ pub fn tree_at(words: &[u16; STATE_WORDS]) -> Tree
 pub fn tour_at(words: &[u16; STATE_WORDS]) -> Tour
     ensures { result ≡ (state_of words.now).tour }
 {
-    let next = base_copies::arcs_at(words, layout::NEXT);
-    let pred = base_copies::arcs_at(words, layout::PRED);
+    let next = base_copies::table_at(words, layout::NEXT);
+    let pred = base_copies::table_at(words, layout::PRED);
     Tour { next, pred }
 }
 
@@ -87,8 +87,8 @@ pub fn tour_at(words: &[u16; STATE_WORDS]) -> Tour
 pub fn ranking_at(words: &[u16; STATE_WORDS]) -> Ranking
     ensures { result ≡ (state_of words.now).ranking }
 {
-    let jump = base_copies::arcs_at(words, layout::JUMP);
-    let sum = base_copies::arcs_at(words, layout::SUM);
+    let jump = base_copies::table_at(words, layout::JUMP);
+    let sum = base_copies::table_at(words, layout::SUM);
     Ranking { jump, sum }
 }
 
@@ -96,9 +96,9 @@ pub fn ranking_at(words: &[u16; STATE_WORDS]) -> Ranking
 pub fn order_at(words: &[u16; STATE_WORDS]) -> Order
     ensures { result ≡ (state_of words.now).order }
 {
-    let forward = base_copies::arcs_at(words, layout::FORWARD);
-    let nd = base_copies::units_at(words, layout::ND);
-    let pre = base_copies::units_at(words, layout::PRE);
+    let forward = base_copies::table_at(words, layout::FORWARD);
+    let nd = base_copies::table_at(words, layout::ND);
+    let pre = base_copies::table_at(words, layout::PRE);
     Order { forward, nd, pre }
 }
 
@@ -106,10 +106,10 @@ pub fn order_at(words: &[u16; STATE_WORDS]) -> Order
 pub fn range_at(words: &[u16; STATE_WORDS]) -> Range
     ensures { result ≡ (state_of words.now).range }
 {
-    let low = base_copies::units_at(words, layout::LOW);
-    let high = base_copies::units_at(words, layout::HIGH);
-    let little = base_copies::units_at(words, layout::LITTLE);
-    let big = base_copies::units_at(words, layout::BIG);
+    let low = base_copies::table_at(words, layout::LOW);
+    let high = base_copies::table_at(words, layout::HIGH);
+    let little = base_copies::table_at(words, layout::LITTLE);
+    let big = base_copies::table_at(words, layout::BIG);
     Range {
         low,
         high,
@@ -122,8 +122,8 @@ pub fn range_at(words: &[u16; STATE_WORDS]) -> Range
 pub fn global_at(words: &[u16; STATE_WORDS]) -> Global
     ensures { result ≡ (state_of words.now).global }
 {
-    let low = base_copies::units_at(words, layout::LEAST);
-    let high = base_copies::units_at(words, layout::GREATEST);
+    let low = base_copies::table_at(words, layout::LEAST);
+    let high = base_copies::table_at(words, layout::GREATEST);
     Global { low, high }
 }
 
@@ -131,9 +131,9 @@ pub fn global_at(words: &[u16; STATE_WORDS]) -> Global
 pub fn aux_at(words: &[u16; STATE_WORDS]) -> Aux
     ensures { result ≡ (state_of words.now).aux }
 {
-    let parents = base_copies::units_at(words, layout::PARENTS);
-    let links = base_copies::links_at(words, layout::JOINED);
-    let color = base_copies::units_at(words, layout::CLASSES);
+    let parents = base_copies::table_at(words, layout::PARENTS);
+    let links = base_copies::table_at(words, layout::JOINED);
+    let color = base_copies::table_at(words, layout::CLASSES);
     Aux {
         parents,
         links,
@@ -145,7 +145,7 @@ pub fn aux_at(words: &[u16; STATE_WORDS]) -> Aux
 pub fn labels_at(words: &[u16; STATE_WORDS]) -> Labels
     ensures { result ≡ (state_of words.now).labels }
 {
-    let class = base_copies::links_at(words, layout::CLASS);
-    let label = base_copies::links_at(words, layout::LABEL);
+    let class = base_copies::table_at(words, layout::CLASS);
+    let label = base_copies::table_at(words, layout::LABEL);
     Labels { class, label }
 }

@@ -9,6 +9,3 @@ use Rattle.channel_turns.proofs.pick.Given as goal
 abbrev pub invariant-loop-d : goal.invariant-loop-d
 invariant-loop-d l =
     (l.d ≤ 8) × ((j : ℕ) → j < l.d → get_or l.waits (seat_after l.last j) false ≡ false)
-
-abbrev pub decreases-loop-d : goal.decreases-loop-d
-decreases-loop-d l = 8 - l.d

@@ -6,17 +6,6 @@ use Rattle.words_layout.proofs.judged.entries_ok.Goals as goal
 pub returns : goal.returns
 returns c =
     rw (
-      c.both-7.ensures,
-      c.both-entries.ensures,
-      c.both-6.ensures,
-      c.both-5.ensures,
-      c.both-4.ensures,
-      c.both-3.ensures,
-      c.both-named.ensures,
-      c.both-2.ensures,
-      c.both.ensures,
-    )
-    (rw (
       c.within-given.ensures _ c.numbers-number.ensures,
       c.within-levels.ensures _ c.levels.ensures,
       c.within-numbers.ensures _ c.numbers-number.ensures,
@@ -29,4 +18,4 @@ returns c =
       c.within-ends.ensures _ c.names-unit.ensures,
     )
     (entries-judged c.args.words.now (search rules) c.args.units
-    c.args.links c.requires.0 c.requires.1))
+    c.args.links c.requires.0 c.requires.1)

@@ -4,20 +4,11 @@ use Rattle.words_layout.specs.Layout.{state_of}
 use borrow.Author.Rules.{rules}
 use Rattle.words_layout.proofs.take.aux_at.Goals as goal
 
-pub units_at-parents-requires : goal.units_at-parents-requires
-units_at-parents-requires c = tt
-
-pub links_at-links-requires : goal.links_at-links-requires
-links_at-links-requires c = tt
-
-pub units_at-color-requires : goal.units_at-color-requires
-units_at-color-requires c = tt
-
 pub returns : goal.returns
 unfolding state_of
 returns c =
     rw (
-      c.units_at-parents.ensures.0 (search rules),
-      c.links_at-links.ensures.0 (search rules),
-      c.units_at-color.ensures.0 (search rules),
+      c.table_at-parents.ensures.0 (search rules),
+      c.table_at-links.ensures.0 (search rules),
+      c.table_at-color.ensures.0 (search rules),
     ) refl

@@ -4,9 +4,6 @@ use Rattle.words_layout.specs.Layout.{state_of}
 use borrow.Author.Rules.{rules}
 use Rattle.words_layout.proofs.take.components_at.Goals as goal
 
-pub units_at-color-requires : goal.units_at-color-requires
-units_at-color-requires c = tt
-
 pub returns : goal.returns
 unfolding state_of
-returns c = rw (c.units_at-color.ensures.0 (search rules)) refl
+returns c = rw (c.table_at-color.ensures.0 (search rules)) refl

@@ -6,11 +6,8 @@ use Rattle.words_layout.specs.FieldLaws.{number_in_lem}
 use borrow.Author.Rules.{rules}
 use Rattle.words_layout.proofs.take.plan_at.Goals as goal
 
-pub units_at-parent-requires : goal.units_at-parent-requires
-units_at-parent-requires c = tt
-
 pub returns : goal.returns
 unfolding state_of
 returns c =
     let ws = c.args.words.now in
-    rw (c.units_at-parent.ensures.0 (search rules), number_in_lem 12294 1 0 ws (lit< tt)) refl
+    rw (c.table_at-parent.ensures.0 (search rules), number_in_lem 12294 1 0 ws (lit< tt)) refl

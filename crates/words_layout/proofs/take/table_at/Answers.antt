@@ -6,9 +6,6 @@ use Rattle.words_layout.specs.FieldLaws.{number_in_lem}
 use borrow.Author.Rules.{rules}
 use Rattle.words_layout.proofs.take.table_at.Goals as goal
 
-pub ends_at-ends-requires : goal.ends_at-ends-requires
-ends_at-ends-requires c = tt
-
 pub returns : goal.returns
 unfolding state_of
 returns c =
@@ -16,5 +13,5 @@ returns c =
     rw (
       number_in_lem 0 2 0 ws (lit< tt),
       number_in_lem 0 2 1 ws (lit< tt),
-      c.ends_at-ends.ensures.0 (search rules),
+      c.table_at-ends.ensures.0 (search rules),
     ) refl
