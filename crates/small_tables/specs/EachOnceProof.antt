@@ -1,11 +1,11 @@
 -- The proof of EachOnce: a number is the list of its bits, and no pair stands twice among the pairs of n units.
 use Rattle.std.specs.Prelude.{◌≡◌, refl, Bool, true, false, cond, ◌⊎◌, ◌↔◌, List, [], ◌∷◌, ◌++◌, ℕ, zero, suc, ◌+◌, ◌*◌}
 use Rattle.std.specs.Prelude.{◌/◌, ◌%◌, ◌^◌, ◌≤◌, ◌<◌, eqb, length}
-use Rattle.std.proofs.Common.{sym, ap, ◌∙◌, inl, inr, arith, eqb-true, eq-eqb, ne_eqb}
-use Rattle.std.proofs.lemmas.Bool.{false≢true, eqb-false}
+use Rattle.std.proofs.Common.{sym, ap, ◌∙◌, inl, inr, arith, eqb-true, eq-eqb}
+use Rattle.std.proofs.lemmas.Bool.{eqb-false}
 use Rattle.base_lists.specs.Tests.{either}
 use Rattle.small_tables.specs.Small.{pairs_with, pairs_from, pairs_of, chosen}
-use Rattle.small_tables.specs.EachOnce.{Listed, tables, EachOnce}
+use Rattle.small_tables.specs.EachOnce.{Listed, EachOnce}
 
 -- ---- the pairs of n units
 

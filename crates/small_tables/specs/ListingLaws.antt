@@ -1,11 +1,11 @@
 -- The listing has every site once, and the site at each place by arithmetic.
-use Rattle.std.specs.Prelude.{◌≡◌, refl, Bool, true, ◌⊎◌, ◌↔◌, List, [], ◌∷◌, ◌++◌, ℕ, zero, suc, ◌+◌, ◌-◌, ◌≤◌, ◌<◌}
+use Rattle.std.specs.Prelude.{◌≡◌, refl, true, ◌↔◌, List, ◌++◌, ℕ, zero, suc, ◌+◌, ◌-◌, ◌≤◌, ◌<◌}
 use Rattle.std.specs.Prelude.{length, get_or}
 use Rattle.std.proofs.Common.{sym, ap, ap₂, subst, ◌∙◌, inl, inr, arith, length-append, get_or-append-add}
 use Rattle.std.proofs.Math.Decide.{dec_lt, ℕ_discrete}
 use Rattle.std.proofs.Math.ListN.{get_or-append, get_or-eq_default}
 use Rattle.small_tables.specs.Small.{pairs_of, chosen}
-use Rattle.small_tables.specs.EachOnce.{Listed, tables, EachOnce}
+use Rattle.small_tables.specs.EachOnce.{Listed, tables}
 use Rattle.small_tables.specs.EachOnceProof.{each-once}
 use Rattle.small_tables.specs.Listing.{Site, numbered, sites_from, listing, SITES, site_at, links_of, Before}
 use Rattle.small_tables.specs.Listing.{AllListed}

@@ -3,7 +3,6 @@ use Rattle.std.specs.Prelude.{◌≡◌, refl, Bool, true, false, cond, ◌↔�
 use Rattle.std.specs.Prelude.{◌<◌, get_or}
 use Rattle.std.proofs.Common.{ap, sym, ◌∙◌}
 use native.Mathlib.Omega.{arith}
-use Rattle.base_lists.specs.Folds.{sum}
 use Rattle.small_tables.specs.Small.{mask_of}
 
 abbrev bit : Bool → ℕ

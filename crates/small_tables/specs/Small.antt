@@ -1,5 +1,5 @@
 -- T-13: the sets of links among a few units, each by a number; the line that tells its single points.
-use Rattle.std.specs.Prelude.{Bool, false, cond, List, [], ◌∷◌, ◌++◌, ℕ, zero, suc, ◌+◌, ◌/◌, ◌%◌, ◌^◌, eqb, get_or}
+use Rattle.std.specs.Prelude.{Bool, false, cond, List, [], ◌∷◌, ◌++◌, ℕ, zero, suc, ◌/◌, ◌%◌, ◌^◌, eqb, get_or}
 use Rattle.base_lists.specs.Folds.{sum}
 use Rattle.file_frames.specs.Frame.{word_bytes}
 

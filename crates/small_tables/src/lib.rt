@@ -36,12 +36,10 @@ pub fn table(units: u16, number: u16) -> Small
     ensures words { result.words ≡ laid (table_of (min units 5) number) }
     ensures count { result.count ≡ length (table_of (min units 5) number) }
 {
-    let n = base_choice::least_of(units, MOST);
+    let n = units.min(MOST);
     let mut x = none_of(number);
-    let mut a = 0;
-    while a < n {
+    for a in 0..n {
         x = row(a, n, x);
-        a += 1;
     }
     let words = x.words;
     Small {
@@ -67,10 +65,8 @@ fn row(a: u16, units: u16, from: Drawing) -> Drawing
     ensures { result ≡ row_by a (a + 1) (units - (a + 1)) from }
 {
     let mut x = from;
-    let mut b = a + 1;
-    while b < units {
+    for b in a + 1..units {
         x = taken(x, a, b);
-        b += 1;
     }
     x
 }
@@ -100,11 +96,9 @@ pub fn mask(singles: [bool; 5]) -> u8
 {
     let mut set: u16 = 0;
     let mut bit: u16 = 1;
-    let mut i: usize = 0;
-    while i < 5 {
-        set += base_choice::choose(singles[i], bit, 0);
+    for single in singles {
+        set += base_choice::choose(single, bit, 0);
         bit *= 2;
-        i += 1;
     }
     set as u8
 }

@@ -16,38 +16,30 @@ pub struct Site {
 pub fn site_at(i: u16) -> Site
     ensures { (result.units, result.number) ≡ site_at i }
 {
-    if i < 1 {
-        return Site {
+    match i {
+        0 => Site {
             units: 1,
             number: i,
-        };
-    }
-    if i < 3 {
-        return Site {
+        },
+        1..=2 => Site {
             units: 2,
             number: i - 1,
-        };
-    }
-    if i < 11 {
-        return Site {
+        },
+        3..=10 => Site {
             units: 3,
             number: i - 3,
-        };
-    }
-    if i < 75 {
-        return Site {
+        },
+        11..=74 => Site {
             units: 4,
             number: i - 11,
-        };
-    }
-    if i < SITES {
-        return Site {
+        },
+        75..SITES => Site {
             units: 5,
             number: i - 75,
-        };
-    }
-    Site {
-        units: 0,
-        number: 0,
+        },
+        _ => Site {
+            units: 0,
+            number: 0,
+        },
     }
 }

@@ -1,6 +1,5 @@
 -- One unit after another.
 use mathlib.Core.Path.{sym, ◌∙◌}
-use Prim.Native.Nat.{◌-◌}
 use Rattle.small_tables.specs.SmallLaws.{row-turn, row_done}
 use borrow.Author.Rules.{rules}
 use Rattle.small_tables.proofs.row.Goals as goal

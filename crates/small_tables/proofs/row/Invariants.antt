@@ -7,6 +7,3 @@ use Rattle.small_tables.proofs.row.Given as goal
 abbrev pub invariant-loop-b : goal.invariant-loop-b
 invariant-loop-b l =
     (l.b ≤ l.units) × (row_by l.a (l.a + 1) (l.units - (l.a + 1)) l.initial.x ≡ row_by l.a l.b (l.units - l.b) l.x)
-
-abbrev pub decreases-loop-b : goal.decreases-loop-b
-decreases-loop-b l = l.units - l.b

@@ -1,6 +1,5 @@
 -- Row after row.
 use mathlib.Core.Path.{refl}
-use Prim.Native.Nat.{◌-◌}
 use Rattle.small_tables.specs.SmallLaws.{rows_turn, table_done}
 use borrow.Author.Rules.{rules}
 use Rattle.small_tables.proofs.table.Goals as goal
@@ -13,5 +12,5 @@ loop-a-preserved c = (search rules, rows_turn _ _ _ _ _ c.loop-a.invariant.1 c.l
 
 pub returns : goal.returns
 returns c =
-    let all = table_done _ _ _ _ _ _ c.least_of-n.ensures c.none_of-x.ensures c.loop-a.invariant.1
+    let all = table_done _ _ _ _ _ _ c.min-n.ensures c.none_of-x.ensures c.loop-a.invariant.1
     c.loop-a-test.false in record { words = all.0; count = all.1 }

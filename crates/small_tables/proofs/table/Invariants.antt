@@ -6,6 +6,3 @@ use Rattle.small_tables.proofs.table.Given as goal
 
 abbrev pub invariant-loop-a : goal.invariant-loop-a
 invariant-loop-a l = (l.a ≤ l.n) × (rows_by 0 (l.n - 0) l.initial.x ≡ rows_by l.a (l.n - l.a) l.x)
-
-abbrev pub decreases-loop-a : goal.decreases-loop-a
-decreases-loop-a l = l.n - l.a

@@ -1,17 +1,9 @@
 -- Link by link.
-use native.Mathlib.Omega.{arith}
 use mathlib.Core.Path.{refl, ◌∙◌}
-use Prim.Native.Nat.{◌*◌, ◌+◌}
 use Rattle.base_lists.specs.Rounds.{over-more, over-all}
 use Rattle.spec_rules.specs.Aux.{link_joins_round}
 use borrow.Author.Rules.{rules}
 use Rattle.stage08_joins.proofs.link_joins.Goals as goal
-
-pub link_join-requires : goal.link_join-requires
-link_join-requires c =
-    let one = c.requires.2.1 (2 * c.loop-j.j) (omega (arith, c.loop-j-test.true)) in
-    let two = c.requires.2.1 (2 * c.loop-j.j + 1) (omega (arith, c.loop-j-test.true)) in
-    (omega (arith, one, c.requires.0), omega (arith, two, c.requires.0))
 
 pub loop-j-preserved : goal.loop-j-preserved
 loop-j-preserved c = (

@@ -1,15 +1,11 @@
 -- Round after round: each is one of the definition's, as long as the stage goes on.
 use mathlib.Core.Path.{sym, ◌∙◌}
-use native.Mathlib.Omega.{arith}
 use Rattle.spec_rules.specs.Fits.{links_fit, fit-few, fit-within}
 use Rattle.spec_machine.specs.InStage.{Goes, goes}
-use Rattle.spec_machine.specs.StageRun.{turns_begin, turns_on, turns_over}
+use Rattle.spec_machine.specs.StageRun.{turns_on, turns_over}
 use Rattle.stage08_joins.specs.Rounds.{one}
 use borrow.Author.Rules.{rules}
 use Rattle.stage08_joins.proofs.run.Goals as goal
-
-pub loop-new-init : goal.loop-new-init
-loop-new-init c = turns_begin _ _ _ _
 
 pub parent_joins-new-requires : goal.parent_joins-new-requires
 parent_joins-new-requires c =
@@ -27,20 +23,6 @@ link_joins-new_links-requires c =
       fit-few a.units a.links a.ends.now go.fit,
       fit-within a.units a.links a.ends.now (search rules) go.fit,
     )
-
-pub overflow_add-made : goal.overflow_add-made
-overflow_add-made c =
-    let a = c.args in
-    let go : Goes a.units 8 c.loop-new.made a.budget (links_fit a.units a.links a.ends.now) c.loop-new.c
-    = goes _ _ _ _ _ _ (rw c.links_fit-fits.ensures at (sym c.goes_on.ensures ∙ c.loop-new-test.true)) in
-    omega (arith, go.below, c.ranges.budget)
-
-pub loop-new-smaller : goal.loop-new-smaller
-loop-new-smaller c =
-    let a = c.args in
-    let go : Goes a.units 8 c.loop-new.made a.budget (links_fit a.units a.links a.ends.now) c.loop-new.c
-    = goes _ _ _ _ _ _ (rw c.links_fit-fits.ensures at (sym c.goes_on.ensures ∙ c.loop-new-test.true)) in
-    omega (arith, go.below)
 
 pub loop-new-preserved : goal.loop-new-preserved
 unfolding one

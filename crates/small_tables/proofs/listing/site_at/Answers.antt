@@ -1,22 +1,22 @@
 -- By the unit count that the place is among.
+use Rattle.std.proofs.Common.{arith}
 use Rattle.small_tables.specs.ListingLaws.{place_1, place_2, place_3, place_4, place_5, no_place}
-use borrow.Author.Rules.{rules}
 use Rattle.small_tables.proofs.listing.site_at.Goals as goal
 
-pub returns-then-i-lt1 : goal.returns-then-i-lt1
-returns-then-i-lt1 c = place_1 _ (search rules)
+pub returns-in-0 : goal.returns-in-0
+returns-in-0 c = place_1 _ (omega (arith, c.in-0.is))
 
-pub returns-then-i-lt3 : goal.returns-then-i-lt3
-returns-then-i-lt3 c = place_2 _ (search rules) (search rules)
+pub returns-in-1-to-2 : goal.returns-in-1-to-2
+returns-in-1-to-2 c = place_2 _ (omega arith) (omega arith)
 
-pub returns-then-i-lt11 : goal.returns-then-i-lt11
-returns-then-i-lt11 c = place_3 _ (search rules) (search rules)
+pub returns-in-3-to-10 : goal.returns-in-3-to-10
+returns-in-3-to-10 c = place_3 _ (omega arith) (omega arith)
 
-pub returns-then-i-lt75 : goal.returns-then-i-lt75
-returns-then-i-lt75 c = place_4 _ (search rules) (search rules)
+pub returns-in-11-to-74 : goal.returns-in-11-to-74
+returns-in-11-to-74 c = place_4 _ (omega arith) (omega arith)
 
-pub returns-then-i-lt-SITES : goal.returns-then-i-lt-SITES
-returns-then-i-lt-SITES c = place_5 _ (search rules) (search rules)
+pub returns-in-75-to-1098 : goal.returns-in-75-to-1098
+returns-in-75-to-1098 c = place_5 _ (omega arith) (omega arith)
 
-pub returns : goal.returns
-returns c = no_place _ (search rules)
+pub returns-in_default : goal.returns-in_default
+returns-in_default c = no_place _ (omega arith)
