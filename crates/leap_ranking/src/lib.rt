@@ -97,15 +97,14 @@ fn passed(rounds: u16, requests: u16, clock: Clock) -> Clock
 }
 
 // No object has a predecessor.
-fn cleared(arcs: usize, jump: [u16; 512]) -> [u16; 512]
+fn cleared(arcs: usize, mut jump: [u16; 512]) -> [u16; 512]
     requires { arcs ≤ 512 }
     ensures { result ≡ cleared arcs jump }
 {
-    let mut new = jump;
     for a in 0..arcs {
-        new[a] = ABSENT;
+        jump[a] = ABSENT;
     }
-    new
+    jump
 }
 
 // What a walk finds, where tests over every object say that it is right.
@@ -115,13 +114,13 @@ fn found(arcs: usize, jump: [u16; 512], sum: [u16; 512]) -> Option<Summed>
     ensures few { IfSome result (λ (s : Summed). s.rounds ≤ 16) }
 {
     let key = walk::walk(arcs, &jump, &sum);
-    let total = tests::sums(arcs, &key, sum);
+    let total = tests::of_keys(arcs, &key, sum, tests::sum_in);
     let bounded = bounds::numbers_ok(&sum) & bounds::numbers_ok(&total);
     let right = bounded & tests::keys_right(arcs, &jump, &sum, &key);
     if !right {
         return None;
     }
-    let rank = tests::ranks(arcs, &key, sum);
+    let rank = tests::of_keys(arcs, &key, sum, tests::rank_in);
     let asked = tests::asked(arcs, &rank);
     Some(Summed {
         sum: total,

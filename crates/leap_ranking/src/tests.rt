@@ -15,14 +15,14 @@ pub(crate) struct Counted {
 }
 
 // The rank in a key.
-fn rank_in(key: u32) -> u16
+pub(crate) fn rank_in(key: u32) -> u16
     ensures { result ≡ rank_in key }
 {
     (key / 65536) as u16
 }
 
 // The sum in a key.
-fn sum_in(key: u32) -> u16
+pub(crate) fn sum_in(key: u32) -> u16
     ensures { result ≡ sum_in key }
 {
     (key % 65536) as u16
@@ -74,28 +74,22 @@ pub(crate) fn keys_right(arcs: usize, jump: &[u16; 512], sum: &[u16; 512], key: 
     true
 }
 
-// Each object with its sum.
-pub(crate) fn sums(arcs: usize, key: &[u32; 512], sum: [u16; 512]) -> [u16; 512]
-    requires { arcs ≤ 512 }
-    ensures { result ≡ over arcs (λ (a : ℕ). sum_in (slice_index key.now a)) sum }
+// For each object what `part` reads in its key.
+pub(crate) fn of_keys<F: Fn(u32) -> u16>(
+    arcs: usize,
+    key: &[u32; 512],
+    mut table: [u16; 512],
+    part: F,
+) -> [u16; 512]
+    requires few { arcs ≤ 512 }
+    requires callable { F.IsAlwaysCallable part }
+    ensures { (f : ℕ → ℕ) → ((k x : ℕ) → F.post part k x → x ≡ f k) →
+        result ≡ over arcs (λ (a : ℕ). f (slice_index key.now a)) table }
 {
-    let mut new = sum;
     for a in 0..arcs {
-        new[a] = sum_in(key[a]);
+        table[a] = part(key[a]);
     }
-    new
-}
-
-// Each object with its rank.
-pub(crate) fn ranks(arcs: usize, key: &[u32; 512], old: [u16; 512]) -> [u16; 512]
-    requires { arcs ≤ 512 }
-    ensures { result ≡ over arcs (λ (a : ℕ). rank_in (slice_index key.now a)) old }
-{
-    let mut new = old;
-    for a in 0..arcs {
-        new[a] = rank_in(key[a]);
-    }
-    new
+    table
 }
 
 // An object asks once for each digit of its rank. Ranks in words of their own are taken several at a time.

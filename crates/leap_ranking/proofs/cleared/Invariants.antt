@@ -1,9 +1,8 @@
 -- Object by object.
-use Rattle.std.proofs.Common.{◌≡◌, ℕ, length}
+use Rattle.std.proofs.Common.{◌≡◌, ℕ}
 use Rattle.base_lists.specs.Tables.{over}
 use Rattle.spec_rules.specs.Basics.{ABSENT}
 use Rattle.leap_ranking.proofs.cleared.Given as goal
 
 abbrev pub invariant-loop-a : goal.invariant-loop-a
-invariant-loop-a l =
-    (length l.new ≡ 512) × (l.new ≡ over l.a (λ (k : ℕ). ABSENT) l.initial.new)
+invariant-loop-a l = l.jump ≡ over l.a (λ (k : ℕ). ABSENT) l.initial.jump
