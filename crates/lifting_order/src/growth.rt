@@ -1,5 +1,5 @@
 // The order as it grows from unit 0: again and again the least unit that may stand.
-ghost use Rattle.std.specs.Prelude.{◌≡◌, cond, ℕ, ◌*◌, ◌<◌, eqb, length, get_or};
+ghost use Rattle.std.specs.Prelude.{◌≡◌, ◌≢◌, cond, ℕ, ◌*◌, ◌<◌, eqb, length, get_or, MatchOption};
 ghost use Rattle.base_lists.specs.Folds.{count};
 ghost use Rattle.table.specs.Table.{link_count, end_a};
 ghost use Rattle.lifting_order.specs.Chains.{Words};
@@ -32,9 +32,10 @@ fn waiting(p: &[u16]) -> [u16; 256]
     wait
 }
 
-// The least unit within reach that waits for nothing, `units` where there is none.
-fn next_up(units: u16, near: &[u16], wait: &[u16]) -> u16
-    ensures { result ≡ next_up units (ready near.now wait.now) }
+// The least unit within reach that waits for nothing.
+fn next_up(units: u16, near: &[u16], wait: &[u16]) -> Option<u16>
+    ensures { MatchOption result (units ≡ next_up units (ready near.now wait.now))
+        (λ v. (v ≢ units) × (v ≡ next_up units (ready near.now wait.now))) }
 {
     let mut least = units;
     for v in 0..units {
@@ -42,7 +43,7 @@ fn next_up(units: u16, near: &[u16], wait: &[u16]) -> u16
         let may = (base_slices::word(near, i) != 0) & (base_slices::word(wait, i) == 0);
         least = least.min(base_choice::choose(may, v, units));
     }
-    least
+    if least == units { None } else { Some(least) }
 }
 
 // The number of units left over when all stand, or when none may stand next. The others lie in `order` after that many
@@ -56,10 +57,9 @@ pub(crate) fn grown(units: u16, ends: &[u16], pairs: &[u16], order: &mut [u16]) 
     let mut near = reached();
     let mut wait = waiting(pairs);
     for left in (0..units).rev() {
-        let v = next_up(units, &near, &wait);
-        if v == units {
+        let Some(v) = next_up(units, &near, &wait) else {
             return left + 1;
-        }
+        };
         base_slices::put(order, left as usize, v);
         chains::walk(true, ends, &by_end.last, &by_end.next, v, &mut near);
         chains::walk(false, pairs, &by_pair.last, &by_pair.next, v, &mut wait);

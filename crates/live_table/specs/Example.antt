@@ -4,7 +4,7 @@ use Rattle.table.specs.Table.{joined_in}
 use Rattle.table_levels.specs.Level.{in_range}
 use Rattle.spec_machine.specs.Load.{Input}
 use Rattle.live_table.specs.Counts.{counted_at, links_at}
-use Rattle.live_table.specs.Live.{place_of, withdrawn}
+use Rattle.live_table.specs.Live.{place_of, added, withdrawn}
 use Rattle.live_table.specs.LiveCalls.{link_refusal, pair_refusal}
 
 -- 0-1, 2-1, 0-2 with levels −5, −6, −7, and a fourth unit
