@@ -23,8 +23,7 @@ pub fn play(survey: Survey, calls: &[u16], replies: &mut [u16], out: &mut [u8]) 
         ≡ (play_words calls.now 0 (of survey) replies.old out.old).out }
 {
     let mut s = survey;
-    let mut i = 0;
-    while i < calls.len() / 3 {
+    for i in 0..calls.len() / 3 {
         let kind = base_slices::word(calls, 3 * i);
         let a = base_slices::word(calls, 3 * i + 1);
         let b = base_slices::word(calls, 3 * i + 2);
@@ -33,7 +32,6 @@ pub fn play(survey: Survey, calls: &[u16], replies: &mut [u16], out: &mut [u8]) 
         let after = answer.survey;
         replies::store(reply, 8 * i, replies);
         s = after;
-        i += 1;
     }
     s
 }

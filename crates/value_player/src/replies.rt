@@ -57,9 +57,7 @@ fn put_eight(words: [u16; 8], at: usize, replies: &mut [u16])
     requires { at + 8 < 2 ^ 64 }
     ensures { replies.new ≡ sets replies.old at words }
 {
-    let mut k = 0;
-    while k < 8 {
+    for k in 0..8 {
         base_slices::put(replies, at + k, words[k]);
-        k += 1;
     }
 }

@@ -22,12 +22,10 @@ pub fn play(state: &mut [u16; STATE_WORDS], calls: &[u16], out: &mut [u8])
     ensures bytes { out.new
         ≡ out_in calls.now (state_of state.old) out.old }
 {
-    let mut i = 0;
-    while i < calls.len() / 2 {
+    for i in 0..calls.len() / 2 {
         let kind = base_slices::word(calls, 2 * i);
         let a = base_slices::word(calls, 2 * i + 1);
         made::call(state, kind, a, out);
-        i += 1;
     }
 }
 

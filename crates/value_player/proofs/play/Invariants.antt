@@ -1,6 +1,6 @@
 -- One call after the other; what is still to be played makes the whole.
 use mathlib.Core.Path.{◌≡◌}
-use Prim.Native.Nat.{◌*◌, ◌-◌, ◌/◌, ◌^◌, ◌≤◌, ◌<◌}
+use Prim.Native.Nat.{◌*◌, ◌/◌, ◌^◌, ◌≤◌, ◌<◌}
 use lib.ListN.{length, drop}
 use Rattle.survey.specs.View.{of}
 use Rattle.value_player.specs.Words.{play_words}
@@ -14,6 +14,3 @@ invariant-loop-i l =
     × (length l.out ≡ length l.initial.out)
     × (play_words l.calls 0 (of l.initial.s) l.initial.replies l.initial.out
     ≡ play_words (drop (3 * l.i) l.calls) l.i (of l.s) l.replies l.out)
-
-abbrev pub decreases-loop-i : goal.decreases-loop-i
-decreases-loop-i l = length l.calls / 3 - l.i

@@ -1,6 +1,6 @@
 -- One word after the other.
 use mathlib.Core.Path.{◌≡◌}
-use Prim.Native.Nat.{◌+◌, ◌-◌, ◌≤◌}
+use Prim.Native.Nat.{◌+◌, ◌≤◌}
 use lib.ListN.{length, drop}
 use lib.Seq.{sets}
 use Rattle.value_player.proofs.replies.put_eight.Given as goal
@@ -10,6 +10,3 @@ abbrev pub invariant-loop-k : goal.invariant-loop-k
 invariant-loop-k l =
     (l.k ≤ 8) × (length l.replies ≡ length l.initial.replies)
     × (sets l.initial.replies l.at l.words ≡ sets l.replies (l.at + l.k) (drop l.k l.words))
-
-abbrev pub decreases-loop-k : goal.decreases-loop-k
-decreases-loop-k l = 8 - l.k
