@@ -43,14 +43,14 @@ pub fn is_level(word: &[u8]) -> bool
     ensures { result ≡ is_level word.now }
 {
     let size = numbers::size_in(word);
-    if 65535 < size { false } else { true }
+    size <= 65535
 }
 
 // The level; one that no table can hold is the nearest that it can.
 pub fn level(word: &[u8]) -> i16
     ensures { result ≡ level_in word.now }
 {
-    let negative = base_slices::byte(word, 0) == 45;
+    let negative = base_slices::byte(word, 0) == b'-';
     numbers::signed(negative, numbers::near(numbers::size_in(word)))
 }
 
@@ -59,9 +59,10 @@ pub fn parent(word: &[u8]) -> u32
     ensures { result ≡ parent_in word.now }
 {
     if names::same(word, b"none") {
-        return 65535;
+        65535
+    } else {
+        number_in(word)
     }
-    number_in(word)
 }
 
 // A question by its name.

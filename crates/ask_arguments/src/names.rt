@@ -9,12 +9,10 @@ pub(crate) fn same(word: &[u8], name: &[u8]) -> bool
     if word.len() != name.len() {
         return false;
     }
-    let mut i = 0;
-    while i < word.len() {
+    for i in 0..word.len() {
         if word[i] != name[i] {
             return false;
         }
-        i += 1;
     }
     true
 }

@@ -8,17 +8,15 @@ fn more(value: u32, byte: u8) -> u32
     requires { value ≤ 65535 }
     ensures { result ≡ cond (goes value byte) (10 * value + (byte - 48)) NONE }
 {
-    if byte < 48 {
+    if !matches!(byte, b'0'..=b'9') {
         return super::NO_NUMBER;
     }
-    if 57 < byte {
-        return super::NO_NUMBER;
-    }
-    let longer = 10 * value + (byte - 48) as u32;
+    let longer = 10 * value + u32::from(byte - b'0');
     if 65535 < longer {
-        return super::NO_NUMBER;
+        super::NO_NUMBER
+    } else {
+        longer
     }
-    longer
 }
 
 // The value of digits.
@@ -26,14 +24,12 @@ fn value_in(word: &[u8]) -> u32
     ensures { result ≡ value_in 0 word.now }
 {
     let mut value: u32 = 0;
-    let mut i = 0;
-    while i < word.len() {
-        let longer = more(value, word[i]);
+    for byte in word {
+        let longer = more(value, *byte);
         if 65535 < longer {
             return super::NO_NUMBER;
         }
         value = longer;
-        i += 1;
     }
     value
 }
@@ -55,7 +51,7 @@ pub(crate) fn number_in(word: &[u8]) -> u32
 pub(crate) fn size_in(word: &[u8]) -> u32
     ensures { result ≡ size_in word.now }
 {
-    if base_slices::byte(word, 0) == 45 {
+    if base_slices::byte(word, 0) == b'-' {
         return number_in(&word[1..]);
     }
     number_in(word)
@@ -65,7 +61,7 @@ pub(crate) fn size_in(word: &[u8]) -> u32
 pub(crate) fn near(value: u32) -> u32
     ensures { (result ≡ min value 32767) × (result ≤ 32767) }
 {
-    if value < 32767 { value } else { 32767 }
+    value.min(32767)
 }
 
 // The value with its sign.
@@ -74,5 +70,5 @@ pub(crate) fn signed(negative: bool, value: u32) -> i16
     ensures { result ≡ signed negative value }
 {
     let v = value as i16;
-    if negative { 0 - v } else { v }
+    if negative { -v } else { v }
 }

@@ -73,12 +73,7 @@ fn levels_in(levels: &[i16], heard: &mut [i16])
     ensures { heard.new ≡ levels.now
         ++ drop (length levels.now) heard.old }
 {
-    let mut i = 0;
-    while i < levels.len() {
-        let level = levels[i];
-        heard[i] = level;
-        i += 1;
-    }
+    heard[..levels.len()].copy_from_slice(levels);
 }
 
 // Stage 1, no round made.

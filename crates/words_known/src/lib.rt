@@ -20,14 +20,9 @@ pub fn seats(seats: &[[u16; STATE_WORDS]; 8])
     ensures { SeatWords seats.now }
 {
     eight(seats);
-    state(&seats[0]);
-    state(&seats[1]);
-    state(&seats[2]);
-    state(&seats[3]);
-    state(&seats[4]);
-    state(&seats[5]);
-    state(&seats[6]);
-    state(&seats[7]);
+    for i in 0..8 {
+        state(&seats[i]);
+    }
 }
 
 // Each of a slice's words has 16 bits.

@@ -13,46 +13,32 @@ use words_layout::STATE_WORDS;
 fn empty(seat: &[u16; STATE_WORDS]) -> bool
     ensures { result ≡ empty (state_of seat.now) }
 {
-    if seat[0] != 0 {
-        return false;
-    }
-    words_layout::clock_at(seat).stage == 0
+    seat[0] == 0 && words_layout::clock_at(seat).stage == 0
 }
 
 // Whether its survey is unfinished.
 fn waiting(seat: &[u16; STATE_WORDS]) -> bool
     ensures { result ≡ waiting (state_of seat.now) }
 {
-    if empty(seat) {
-        return false;
-    }
-    words_layout::clock_at(seat).stage != Clock::FINISHED
+    !empty(seat) && words_layout::clock_at(seat).stage != Clock::FINISHED
 }
 
 // Whether it has a survey that isn't kept.
 fn spoilt(seat: &[u16; STATE_WORDS]) -> bool
     ensures { result ≡ spoilt (state_of seat.now) }
 {
-    if empty(seat) {
-        return false;
-    }
-    !words_layout::kept(seat)
+    !empty(seat) && !words_layout::kept(seat)
 }
 
 // Which seats wait.
 pub fn flags(seats: &[[u16; STATE_WORDS]; 8]) -> [bool; 8]
     ensures { (i : ℕ) → i < 8 → get_or result i false ≡ waiting (state_of (get_or seats.now i [])) }
 {
-    [
-        waiting(&seats[0]),
-        waiting(&seats[1]),
-        waiting(&seats[2]),
-        waiting(&seats[3]),
-        waiting(&seats[4]),
-        waiting(&seats[5]),
-        waiting(&seats[6]),
-        waiting(&seats[7]),
-    ]
+    let mut waits = [false; 8];
+    for i in 0..8 {
+        waits[i] = waiting(&seats[i]);
+    }
+    waits
 }
 
 // Whether all others are empty or kept.
@@ -60,12 +46,10 @@ pub fn others_sound(seats: &[[u16; STATE_WORDS]], but: u16) -> bool
     ensures { result ≡ not (some (length seats.now)
         (λ (i : ℕ). not (eqb i but) && spoilt (state_of (get_or seats.now i [])))) }
 {
-    let mut i: usize = 0;
-    while i < seats.len() {
+    for i in 0..seats.len() {
         if other_spoilt(seats, i, but) {
             return false;
         }
-        i += 1;
     }
     true
 }
@@ -75,8 +59,5 @@ fn other_spoilt(seats: &[[u16; STATE_WORDS]], i: usize, but: u16) -> bool
     requires { i < length seats.now }
     ensures { result ≡ (not (eqb i but) && spoilt (state_of (get_or seats.now i []))) }
 {
-    if i == but as usize {
-        return false;
-    }
-    spoilt(&seats[i])
+    i != but as usize && spoilt(&seats[i])
 }

@@ -7,6 +7,6 @@ pub returns-then-same : goal.returns-then-same
 unfolding parent_in
 returns-then-same c = rw (sym c.same.ensures ∙ c.if-same.true) refl
 
-pub returns : goal.returns
+pub returns-else-same : goal.returns-else-same
 unfolding parent_in
-returns c = rw (sym c.same.ensures ∙ c.if-same.false) c.number_in.ensures
+returns-else-same c = rw (sym c.same.ensures ∙ c.if-same.false) c.number_in.ensures

@@ -1,16 +1,16 @@
 -- Seat by seat.
-use mathlib.Core.List.{[]}
-use Prim.Native.Nat.{ℕ}
-use lib.ListN.{get_or}
-use Rattle.words_known.specs.Known.{StateWords}
-use Rattle.words_known.specs.KnownLaws.{eight-cases}
+use Rattle.std.proofs.Common.{below_more, arith}
 use Rattle.words_known.proofs.seats.Goals as goal
+
+pub loop-i-init : goal.loop-i-init
+loop-i-init c = λ k h. absurd (omega (arith, h))
+
+pub loop-i-preserved : goal.loop-i-preserved
+loop-i-preserved c = below_more _ _ c.loop-i.invariant c.state.ensures
 
 pub returns : goal.returns
 returns c =
     record {
       eight = c.eight-arg-1.given;
-      each = eight-cases (λ (i : ℕ). StateWords (get_or c.args.seats.now i []))
-          c.state.ensures c.state-2.ensures c.state-3.ensures c.state-4.ensures c.state-5.ensures
-          c.state-6.ensures c.state-7.ensures c.state-8.ensures;
+      each = λ i h. c.loop-i.invariant i (omega (arith, h, c.loop-i-test.false));
     }

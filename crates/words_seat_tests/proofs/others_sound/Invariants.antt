@@ -16,6 +16,3 @@ other seats but i = not (eqb i but) && spoilt (state_of (get_or seats i []))
 
 abbrev pub invariant-loop-i : goal.invariant-loop-i
 invariant-loop-i l = (l.i ≤ length l.seats) × (some l.i (other l.seats l.but) ≡ false)
-
-abbrev pub decreases-loop-i : goal.decreases-loop-i
-decreases-loop-i l = length l.seats - l.i

@@ -6,12 +6,12 @@ use Rattle.spec_state.specs.declared.groups.Clock.{Clock}
 use Rattle.spec_channel.specs.Office.{waiting}
 use Rattle.words_seat_tests.proofs.waiting.Goals as goal
 
-pub returns-then-empty : goal.returns-then-empty
+pub returns-then-not-empty : goal.returns-then-not-empty
 unfolding waiting
-returns-then-empty c = rw (sym c.empty.ensures ∙ c.if-empty.true) refl
-
-pub returns : goal.returns
-unfolding waiting
-returns c =
-    rw (sym c.empty.ensures ∙ c.if-empty.false)
+returns-then-not-empty c =
+    rw (sym c.empty.ensures ∙ c.if-not-empty.true)
     (ap (λ (k : Clock). not (eqb k.stage 11)) c.clock_at.ensures)
+
+pub returns-else-not-empty : goal.returns-else-not-empty
+unfolding waiting
+returns-else-not-empty c = rw (sym c.empty.ensures ∙ c.if-not-empty.false) (ap not c.if-not-empty.false)
