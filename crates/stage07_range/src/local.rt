@@ -1,6 +1,6 @@
 // The first round of stage 7: local values by one pass over the links, the unit at each place by buckets, then passes
 // over places and units.
-ghost use Rattle.std.specs.Prelude.{◌≡◌, true, false, ◌&&◌, cond, ◌+◌, ◌-◌, ◌<◌, ◌≤◌, min, max, leb, get_or};
+ghost use Rattle.std.specs.Prelude.{◌≡◌, ℕ, slice_index, true, false, ◌&&◌, cond, ◌+◌, ◌-◌, ◌<◌, ◌≤◌, min, max, leb, get_or};
 ghost use Rattle.base_lists.specs.Tables.{over};
 ghost use Rattle.table.specs.Table.{max_units};
 ghost use Rattle.spec_rules.specs.Basics.{off_tree};
@@ -74,25 +74,26 @@ fn locals(n: u16, links: u16, ends: &[u16], parent: &[u16; 256], pre: &[u16; 256
     Local { low, high }
 }
 
-// The segments begin with the local values of their places; 0 where no unit is.
-fn segments_begin(
+// Entries begin with the local values of a unit each; 0 where there is none.
+fn begin_from<F: Fn(usize) -> u16>(
     n: u16,
-    first: &[u16; 512],
+    unit: F,
     lows: &[u16; 256],
     highs: &[u16; 256],
-    least: &mut [u16; 256],
-    greatest: &mut [u16; 256],
+    low: &mut [u16; 256],
+    high: &mut [u16; 256],
 )
-    requires { n ≤ 256 }
-    ensures least { least.new
-        ≡ over n (local_by first.now lows.now) least.old }
-    ensures greatest { greatest.new
-        ≡ over n (local_by first.now highs.now) greatest.old }
+    requires few { n ≤ 256 }
+    requires callable { (v : ℕ) → v < n → F.pre unit v }
+    ensures low { (f : ℕ → ℕ) → ((v u : ℕ) → v < n → F.post unit v u → slice_index lows.now u ≡ f v)
+        → low.new ≡ over n f low.old }
+    ensures high { (f : ℕ → ℕ) → ((v u : ℕ) → v < n → F.post unit v u → slice_index highs.now u ≡ f v)
+        → high.new ≡ over n f high.old }
 {
-    for q in 0..n as usize {
-        let u = first[q];
-        least[q] = tables::at(lows, u);
-        greatest[q] = tables::at(highs, u);
+    for v in 0..n as usize {
+        let u = unit(v);
+        low[v] = tables::at(lows, u);
+        high[v] = tables::at(highs, u);
     }
 }
 
@@ -112,32 +113,6 @@ fn unit_before(n: u16, first: &[u16; 512], end: u32) -> u16
         ABSENT
     } else {
         first[(end - 1) as usize]
-    }
-}
-
-// Units begin with the local values of their last descendants' places.
-fn units_begin(
-    n: u16,
-    first: &[u16; 512],
-    lows: &[u16; 256],
-    highs: &[u16; 256],
-    nd: &[u16; 256],
-    pre: &[u16; 256],
-    low: &mut [u16; 256],
-    high: &mut [u16; 256],
-)
-    requires { n ≤ 256 }
-    ensures low { low.new
-        ≡ over n (begin_by n first.now lows.now nd.now pre.now)
-        low.old }
-    ensures high { high.new
-        ≡ over n (begin_by n first.now highs.now nd.now pre.now)
-        high.old }
-{
-    for v in 0..n as usize {
-        let u = unit_before(n, first, end_place(pre[v], nd[v]));
-        low[v] = tables::at(lows, u);
-        high[v] = tables::at(highs, u);
     }
 }
 
@@ -199,7 +174,15 @@ pub(crate) fn begin(
 {
     let first = firsts::firsts(n, pre);
     let local = locals(n, links, ends, parent, pre);
-    segments_begin(n, &first, &local.low, &local.high, least, greatest);
-    units_begin(n, &first, &local.low, &local.high, nd, pre, low, high);
+    // Segments begin with the values of their places, units with those of their last descendants' places.
+    begin_from(n, |q| first[q], &local.low, &local.high, least, greatest);
+    begin_from(
+        n,
+        |v| unit_before(n, &first, end_place(pre[v], nd[v])),
+        &local.low,
+        &local.high,
+        low,
+        high,
+    );
     ends_begin(n, nd, pre, little, big);
 }
