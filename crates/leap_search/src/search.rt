@@ -98,6 +98,7 @@ fn follow(
 {
     let mut end = had;
     let mut k = start;
+    // Stays: no plainer, since the queue grows while it is followed.
     while k < end && end < units {
         let u = queue[k as usize] % 256;
         end = reach(u, pairs, ends, first, next, value, key, via, queue, end);

@@ -37,6 +37,7 @@ pub fn run(
 {
     let fits = bounds::links_fit(units, links, ends);
     if let Some(rest) = leapt(fits, units, links, budget, ends, clock, color) {
+        // Stays: tried as a pattern and in the literal; the check does not cover a field there that is an array.
         let value = rest.value;
         return Ran {
             color: value,

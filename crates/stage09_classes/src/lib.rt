@@ -45,6 +45,7 @@ pub fn run(
     if let Some(rest) = leapt(
         fits, units, links, budget, ends, parent, linked, parents, clock, color,
     ) {
+        // Stays: tried as a pattern and in the literal; the check does not cover a field there that is an array.
         let value = rest.value;
         return Ran {
             color: value,
