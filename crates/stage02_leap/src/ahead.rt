@@ -111,6 +111,7 @@ fn follow(
 {
     let mut count = seeds;
     let mut k = 0;
+    // Stays: no plainer, since the queue grows while it is gone through.
     while k < count {
         if all <= count {
             return count;
