@@ -23,9 +23,9 @@ fn bad_pairs(units: u16, pairs: &[u16]) -> bool
     ensures { result ≡ bad_pairs units pairs.now }
 {
     let count = pairs.len() / 2;
-    256 < count
-        || pairs.len() % 2 == 1
-        || !table_values::bounds::links_fit(units, count as u16, pairs)
+    let many = 256 < count;
+    let odd = pairs.len() % 2 == 1;
+    many || odd || !table_values::bounds::links_fit(units, count as u16, pairs)
 }
 
 // The number of the first cause among 10, 14, 19.
