@@ -3,9 +3,8 @@
 // with other units, 99 where a word was altered that should stay. It prints `fault` for a malformed stream.
 #![tactic(auto)]
 
-use base_streams::{Cursor, text};
+use base_streams::Reader;
 use std::io;
-use std::rt::{Env, Files};
 use survey::Survey;
 use value_ring::Shown;
 
@@ -14,254 +13,92 @@ mod judge;
 // What every lent word holds before the call.
 const MARK: u16 = 43981;
 
-// A unit count, how many words there are, and the cursor after them.
-#[derive(Clone, Copy)]
-struct Head {
-    units: u16,
-    count: usize,
-    cursor: Cursor,
-}
-
-// A survey, and the cursor after its table and its budget.
-#[derive(Drop)]
-struct Site {
-    survey: Survey,
-    cursor: Cursor,
-}
-
-// What is printed for a question, and the cursor after it.
-#[derive(Clone, Copy)]
-struct Said {
-    number: u32,
-    cursor: Cursor,
-}
-
-fn say(rt: &impl Print, line: &[u8], end: usize) -> io::Result<()> {
-    if line.len() < end {
-        return Ok(());
-    }
-    base_io::write_all(rt, &line[..end])
-}
-
 // The number to be printed for a reply.
-fn told<'a>(
-    reply: Shown,
-    links: u16,
-    words: &'a [u16],
-    first: u16,
-    second: u16,
-    out: &'a [u16],
-) -> u32 {
-    match reply {
-        Shown::Refused(number) => {
-            if judge::untouched(MARK, 0, out) {
-                number as u32
-            } else {
-                99
-            }
-        }
-        Shown::NoRing => {
-            if judge::untouched(MARK, 0, out) {
-                0
-            } else {
-                99
-            }
-        }
+fn told(reply: Shown, words: &[u16], first: u16, second: u16, out: &[u16]) -> u8 {
+    let (number, count) = match reply {
+        Shown::Refused(number) => (number, 0),
+        Shown::NoRing => (0, 0),
         Shown::Ring(count) => {
-            let size = count as usize;
-            if !judge::good(links, words, first, second, size, out) {
-                return 98;
+            match out.get(..count as usize) {
+                Some(ring) if judge::is_ring(words, first, second, ring) => (),
+                _ => return 98,
             }
-            if judge::untouched(MARK, size, out) {
-                1
-            } else {
-                99
-            }
+            (1, count as usize)
         }
+    };
+    if out.iter().skip(count).all(|word| *word == MARK) {
+        number
+    } else {
+        99
     }
 }
 
-fn asked(survey: Survey, words: &[u16], first: u16, second: u16, out: &mut [u16]) -> u32 {
-    let links = survey.table.links;
+fn asked(survey: Survey, words: &[u16], first: u16, second: u16, out: &mut [u16]) -> u8 {
     let answer = value_ring::show(survey, first, second, out);
-    let reply = answer.reply;
-    told(reply, links, words, first, second, out)
+    told(answer.reply, words, first, second, out)
 }
 
-// The call, with the first places of the output.
-fn lend(survey: Survey, words: &[u16], first: u16, second: u16, places: usize) -> u32 {
-    if 512 < places {
-        return 97;
-    }
+// A question: the first position, the second, the places of the slice.
+fn question(reader: &mut Reader<'_>, survey: Survey, words: &[u16]) -> u8 {
+    let first = reader.word();
+    let second = reader.word();
+    let places = reader.number() as usize;
     let mut out = [MARK; 512];
-    asked(survey, words, first, second, &mut out[..places])
+    match out.get_mut(..places) {
+        Some(out) => asked(survey, words, first, second, out),
+        None => 97,
+    }
 }
 
-// The survey of the table that the first words and levels of the two slices hold.
-fn loaded<'a>(
-    units: u16,
-    words: &'a [u16],
-    count: usize,
-    levels: &'a [i16],
-    links: usize,
-) -> Survey {
-    if words.len() < count {
-        return Survey::new();
+// The line of all questions.
+fn questions(
+    rt: &impl Print,
+    reader: &mut Reader<'_>,
+    survey: Survey,
+    words: &[u16],
+) -> io::Result<()> {
+    for i in 0..reader.number() {
+        let number = question(reader, survey, words);
+        if i != 0 {
+            print!(rt; " ")?;
+        }
+        print!(rt; "{number}")?;
     }
-    if levels.len() < links {
-        return Survey::new();
-    }
-    let answer = Survey::new().load_stored(units, &words[..count], &levels[..links]);
-    answer.survey
+    println!(rt; "")
 }
 
-// After at most `budget` rounds.
+// The survey of a table after at most `budget` rounds.
+fn surveyed(units: u16, words: &[u16], levels: &[i16], budget: u16) -> Survey {
+    let loaded = Survey::new().load_stored(units, words, levels);
+    run(loaded.survey, budget)
+}
+
 fn run(survey: Survey, budget: u16) -> Survey {
     if budget == 0 {
         return survey;
     }
-    let answer = survey.run(budget);
-    answer.survey
+    let ran = survey.run(budget);
+    ran.survey
 }
 
-// A number, after a space where it is not the first.
-fn put_number(i: u32, number: u32, at: usize, line: &mut [u8]) -> usize {
-    if i == 0 {
-        return text::number(number, at, line);
+// A case: the unit count, the list of words, the list of levels, the budget, the questions.
+fn case(rt: &impl Print, reader: &mut Reader<'_>) -> io::Result<()> {
+    let units = reader.word();
+    let mut words_room = [0u16; 2048];
+    let words = reader.words(&mut words_room);
+    let mut levels_room = [0i16; 1024];
+    let levels = reader.levels(&mut levels_room);
+    let budget = reader.word();
+    match (words, levels) {
+        (Some(words), Some(levels)) => {
+            questions(rt, reader, surveyed(units, words, levels, budget), words)
+        }
+        _ => questions(rt, reader, Survey::new(), &[]),
     }
-    let after = text::byte(32, at, line);
-    text::number(number, after, line)
-}
-
-// A question: the first position, the second, the places of the slice.
-fn question<'a>(stream: &'a [u8], cursor: Cursor, survey: Survey, words: &'a [u16]) -> Said {
-    let first = base_streams::next_number(stream, cursor);
-    let second = base_streams::next_number(stream, first.cursor);
-    let places = base_streams::next_number(stream, second.cursor);
-    let number = lend(
-        survey,
-        words,
-        (first.value % 65536) as u16,
-        (second.value % 65536) as u16,
-        places.value as usize,
-    );
-    let cursor = places.cursor;
-    Said { number, cursor }
-}
-
-// The line of all questions.
-fn questions<'a>(
-    rt: &impl Print,
-    stream: &'a [u8],
-    cursor: Cursor,
-    count: u32,
-    survey: Survey,
-    words: &'a [u16],
-    line: &mut [u8],
-) -> io::Result<Cursor> {
-    let mut end: usize = 0;
-    let mut c = cursor;
-    for i in 0..count {
-        let said = question(stream, c, survey, words);
-        end = put_number(i, said.number, end, line);
-        let after = said.cursor;
-        c = after;
-    }
-    end = text::byte(10, end, line);
-    say(rt, line, end)?;
-    Ok(c)
-}
-
-// The unit count and the list of words.
-fn table_of(stream: &[u8], cursor: Cursor, words: &mut [u16]) -> Head {
-    let units = base_streams::next_number(stream, cursor);
-    let ends = base_streams::listed::words(stream, units.cursor, words);
-    let cursor = ends.cursor;
-    Head {
-        units: (units.value % 65536) as u16,
-        count: ends.count,
-        cursor,
-    }
-}
-
-// The survey of these with the list of levels and the budget.
-fn survey_of<'a>(
-    stream: &'a [u8],
-    cursor: Cursor,
-    units: u16,
-    words: &'a [u16],
-    count: usize,
-) -> Site {
-    let mut levels = [0i16; 1024];
-    let heard = base_streams::listed::levels(stream, cursor, &mut levels);
-    let budget = base_streams::next_number(stream, heard.cursor);
-    let first = loaded(units, words, count, &levels, heard.count);
-    let survey = run(first, (budget.value % 65536) as u16);
-    let cursor = budget.cursor;
-    Site { survey, cursor }
-}
-
-// What follows the words: the survey, then the questions.
-fn rest<'a>(
-    rt: &impl Print,
-    stream: &'a [u8],
-    cursor: Cursor,
-    units: u16,
-    words: &'a [u16],
-    count: usize,
-) -> io::Result<Cursor> {
-    let site = survey_of(stream, cursor, units, words, count);
-    let total = base_streams::next_number(stream, site.cursor);
-    let mut line = base_io::buffer();
-    questions(
-        rt,
-        stream,
-        total.cursor,
-        total.value,
-        site.survey,
-        words,
-        &mut line,
-    )
-}
-
-fn case(rt: &impl Print, stream: &[u8], cursor: Cursor) -> io::Result<Cursor> {
-    let mut words = [0u16; 2048];
-    let head = table_of(stream, cursor, &mut words);
-    rest(rt, stream, head.cursor, head.units, &words, head.count)
-}
-
-// Every case of a stream, which begins with how many there are.
-fn cases(rt: &impl Print, stream: &[u8]) -> io::Result<()> {
-    let count = base_streams::next_number(stream, base_streams::begin());
-    let total = count.value;
-    let first = count.cursor;
-    let mut c = first;
-    for _ in 0..total {
-        c = case(rt, stream, c)?;
-    }
-    if !base_streams::ended(stream, c) {
-        base_io::write_all(rt, b"fault\n")?;
-    }
-    Ok(())
-}
-
-// The file of argument `i`.
-fn one(rt: &(impl Env + Eprint + Files + Print), i: usize) -> io::Result<()> {
-    let mut name = base_io::buffer();
-    let length = base_io::arg(rt, i, &mut name);
-    let mut file = match base_io::open_read(rt, &name[..length]) {
-        Ok(file) => file,
-        Err(error) => return base_io::fail(rt, &name[..length], &error),
-    };
-    let mut input = base_io::large_buffer();
-    let got = base_io::read_full(&mut file, &mut input)?;
-    cases(rt, &input[..got])
 }
 
 fn main(rt: HostRuntime) -> io::Result<()> {
-    let count = base_io::arg_count(&rt);
-    for i in 1..count {
-        one(&rt, i)?;
-    }
-    Ok(())
+    base_io::each_file(&rt, |_, stream| {
+        base_streams::each_case(&rt, stream, |reader| case(&rt, reader))
+    })
 }
