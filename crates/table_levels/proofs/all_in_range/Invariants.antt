@@ -9,4 +9,5 @@ use Rattle.table_levels.proofs.all_in_range.Given as goal
 
 abbrev pub invariant-loop-level : goal.invariant-loop-level
 invariant-loop-level l =
-    (l.level-index ≤ length l.levels) × (every in_range l.levels ≡ (l.ok && every in_range (drop l.level-index l.levels)))
+    (l.level-index ≤ length l.levels)
+    × (every in_range l.levels ≡ (l.ok && every in_range (drop l.level-index l.levels)))

@@ -11,7 +11,8 @@ loop-byte-init c = (omega arith, omega arith, refl)
 pub returns-then-longer-gt65535 : goal.returns-then-longer-gt65535
 returns-then-longer-gt65535 c =
     let a = c.args in
-    sym (c.loop-byte.invariant.2 ∙ sym (value-ends a.word.now c.loop-byte.byte-index c.loop-byte.value (search rules) c.more-longer.result
+    sym (c.loop-byte.invariant.2 ∙ sym (value-ends a.word.now c.loop-byte.byte-index c.loop-byte.value
+    (search rules) c.more-longer.result
     c.more-longer.ensures c.if-longer-gt65535.true))
 
 pub loop-byte-preserved : goal.loop-byte-preserved
@@ -19,7 +20,8 @@ loop-byte-preserved c =
     let a = c.args in (
       search rules,
       c.if-longer-gt65535.false,
-      c.loop-byte.invariant.2 ∙ value-more a.word.now c.loop-byte.byte-index c.loop-byte.value (search rules) c.more-longer.result
+      c.loop-byte.invariant.2 ∙ value-more a.word.now c.loop-byte.byte-index c.loop-byte.value (search
+          rules) c.more-longer.result
           c.more-longer.ensures c.if-longer-gt65535.false,
     )
 

@@ -7,4 +7,5 @@ use Rattle.ask_arguments.proofs.numbers.value_in.Given as goal
 
 abbrev pub invariant-loop-byte : goal.invariant-loop-byte
 invariant-loop-byte l =
-    (l.byte-index ≤ length l.word) × (l.value ≤ 65535) × (value_in 0 l.word ≡ value_in l.value (drop l.byte-index l.word))
+    (l.byte-index ≤ length l.word) × (l.value ≤ 65535)
+    × (value_in 0 l.word ≡ value_in l.value (drop l.byte-index l.word))

@@ -2,7 +2,8 @@
 use Rattle.std.proofs.Common.{sym, arith}
 use Rattle.file_frames.specs.FrameRests.{line_over-short, line-laid}
 use Rattle.file_frames.proofs.line.write.Goals as goal
-use Rattle.file_frames.proofs.line.write.Goals.{then-out-lt3-via-then-out-lt3, then-out-lt3-via-else-out-lt3+then-out-body}
+use Rattle.file_frames.proofs.line.write.Goals.{then-out-lt3-via-then-out-lt3}
+use Rattle.file_frames.proofs.line.write.Goals.{then-out-lt3-via-else-out-lt3+then-out-body}
 
 pub returns-then-out-lt3 : goal.returns-then-out-lt3
 returns-then-out-lt3 c =
