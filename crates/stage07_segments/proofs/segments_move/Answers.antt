@@ -1,19 +1,12 @@
 -- From multiple to multiple, in place.
-use mathlib.Core.Path.{◌≡◌, refl, sym, ◌∙◌}
+use mathlib.Core.Path.{◌≡◌, refl, ◌∙◌}
 use Prim.Native.Nat.{suc, ◌+◌, ◌*◌, ◌-◌, ◌^◌, ◌≤◌, min, max}
-use native.Mathlib.Nat.{zero-mul}
 use native.Mathlib.Omega.{arith}
 use lib.Pow.{pow_pos}
 use Rattle.base_lists.specs.Multiples.{multiple_up}
 use Rattle.spec_rules.specs.MoveLaws.{global-later}
 use Rattle.stage07_segments.specs.Strides.{stride, strides_end}
 use Rattle.stage07_segments.proofs.segments_move.Goals as goal
-
-pub loop-q-init : goal.loop-q-init
-loop-q-init c = ((0, sym (zero-mul _)), refl, refl)
-
-pub loop-q-smaller : goal.loop-q-smaller
-loop-q-smaller c = omega (arith, c.span_of-span.ensures.length, pow_pos (min c.args.i 16))
 
 pub loop-q-preserved : goal.loop-q-preserved
 loop-q-preserved c =

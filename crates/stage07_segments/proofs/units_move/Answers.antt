@@ -5,16 +5,12 @@ use Prim.Native.Nat.{suc, ◌*◌, ◌-◌, ◌^◌, ◌≤◌, min, max}
 use native.Mathlib.Nat.{le_refl, le_antisymm}
 use native.Mathlib.Omega.{arith}
 use lib.ListN.{get_or}
-use lib.Pow.{pow_pos}
 use Rattle.base_lists.specs.Rounds.{over-more}
 use Rattle.spec_rules.specs.MoveLaws.{odd_by, range-later, little-later, big-later}
 use Rattle.table_values.specs.Passes.{read_past, over-kept}
 use Rattle.stage07_segments.specs.Turns.{odd-by, range-stays, little-stays, big-stays, range-moves, little-moves}
 use Rattle.stage07_segments.specs.Turns.{big-moves}
 use Rattle.stage07_segments.proofs.units_move.Goals as goal
-
-pub overflow_sub-mask : goal.overflow_sub-mask
-overflow_sub-mask c = omega (arith, c.span_of-span.ensures.length, pow_pos (min c.args.i 16))
 
 pub loop-v-preserved-then-to-from : goal.loop-v-preserved-then-to-from
 loop-v-preserved-then-to-from c =
