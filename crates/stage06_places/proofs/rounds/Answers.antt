@@ -5,30 +5,15 @@ use Prim.Native.Nat.{◌*◌, min}
 use native.Mathlib.Omega.{arith}
 use Rattle.spec_rules.specs.Ranking.{ranking_ends}
 use Rattle.spec_machine.specs.InStage.{Goes, goes}
-use Rattle.spec_machine.specs.StageRun.{turns_begin, turns_on, turns_over}
+use Rattle.spec_machine.specs.StageRun.{turns_on, turns_over}
 use Rattle.stage06_places.specs.Rounds.{one}
 use Rattle.stage06_places.proofs.rounds.Goals as goal
-
-pub loop-before-init : goal.loop-before-init
-loop-before-init c = turns_begin _ _ _ _
 
 pub number_if-requires : goal.number_if-requires
 number_if-requires c =
     let go : Goes c.args.units 6 c.loop-before.made
     c.args.budget true c.loop-before.c = goes _ _ _ _ _ _ (sym c.goes_on.ensures ∙ c.loop-before-test.true) in
     (go).few
-
-pub overflow_add-made : goal.overflow_add-made
-overflow_add-made c =
-    let go : Goes c.args.units 6 c.loop-before.made
-    c.args.budget true c.loop-before.c = goes _ _ _ _ _ _ (sym c.goes_on.ensures ∙ c.loop-before-test.true) in
-    omega (arith, (go).below, c.ranges.budget)
-
-pub loop-before-smaller : goal.loop-before-smaller
-loop-before-smaller c =
-    let go : Goes c.args.units 6 c.loop-before.made
-    c.args.budget true c.loop-before.c = goes _ _ _ _ _ _ (sym c.goes_on.ensures ∙ c.loop-before-test.true) in
-    omega (arith, (go).below)
 
 pub loop-before-preserved : goal.loop-before-preserved
 unfolding one ranking_ends
