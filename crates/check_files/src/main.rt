@@ -3,159 +3,74 @@
 // of kind 02, and every byte of it came back.
 #![tactic(auto)]
 
-ghost use Rattle.std.specs.Prelude.{◌≤◌};
-
 use file_spec::Writing;
 use std::io;
-use std::rt::{Env, Files};
 
-// 0 where the first so many bytes are the file, else 255.
-fn compared(copy: &[u8], end: usize, file: &[u8]) -> u8 {
-    if copy.len() < end {
-        return 255;
-    }
-    if &copy[..end] == file { 0 } else { 255 }
-}
+// In place of the number of a refusal: what was written is not the file.
+const DIFFERS: u8 = 255;
 
-// The number of a refusal; 0 where a written file came back as it was, 255 where it did not.
-fn again(file: &[u8]) -> u8 {
+// The file written from what is read of `file`, at the front of `copy`, or the number of a refusal.
+fn rewritten<'a>(file: &[u8], copy: &'a mut [u8]) -> Result<&'a [u8], u8> {
     let mut words = [0u16; 2048];
     let mut levels = [0i16; 1024];
-    let mut copy = [0u8; 65536];
-    let done = file_round_trip::read_then_write(file, &mut words, &mut levels, &mut copy);
-    match done {
-        Writing::Refused(number) => number,
-        Writing::Written(characters) => compared(&copy, characters as usize, file),
+    match file_round_trip::read_then_write(file, &mut words, &mut levels, copy) {
+        Writing::Refused(number) => Err(number),
+        Writing::Written(characters) => copy.get(..characters as usize).ok_or(DIFFERS),
     }
 }
 
-// The number of a refusal; else what comes of the file that was written.
-fn verdict(file: &[u8]) -> u8 {
-    let mut words = [0u16; 2048];
-    let mut levels = [0i16; 1024];
-    let mut copy = [0u8; 65536];
-    let done = file_round_trip::read_then_write(file, &mut words, &mut levels, &mut copy);
-    match done {
-        Writing::Refused(number) => number,
-        Writing::Written(characters) => first(file, &copy, characters as usize),
-    }
-}
-
-// What was written is held to the file, and then comes back.
-fn first(file: &[u8], copy: &[u8], end: usize) -> u8 {
-    if copy.len() < end {
-        return 255;
-    }
-    if !carried(file, &copy[..end]) {
-        return 255;
-    }
-    again(&copy[..end])
-}
-
-// So many characters of the file from `i` on stand in the copy from `j` on.
-fn agree(file: &[u8], i: usize, copy: &[u8], j: usize, count: usize) -> bool
-    requires { (i ≤ 65540) × (j ≤ 131080) × (count ≤ 20) }
-{
-    for k in 0..count {
-        if base_slices::byte(file, i + k) != base_slices::byte(copy, j + k) {
-            return false;
+// Whether a line, without its line feed, stands in the copy: as it is, or one of kind 02 with kind 03 and the level
+// -127. The check byte is judged where the copy is read.
+fn line_carried(line: &[u8], copied: &[u8]) -> bool {
+    match line.strip_prefix(b"02") {
+        Some(rest) => {
+            rest.len() == 10
+                && copied.len() == 14
+                && copied.starts_with(b"03")
+                && copied[2..10] == rest[..8]
+                && copied[10..].starts_with(b"81")
         }
+        None => line == copied,
     }
-    true
 }
 
-// The link line of kind 02 at `i` stands in the copy at `j`, with kind 03 and the level -127. Its check byte is judged
-// where the copy is read.
-fn link_carried(file: &[u8], i: usize, copy: &[u8], j: usize) -> bool
-    requires { (i ≤ 65535) × (j ≤ 131070) }
-{
-    if !agree(b"03", 0, copy, j, 2) {
-        return false;
-    }
-    if !agree(file, i + 2, copy, j + 2, 8) {
-        return false;
-    }
-    if !agree(b"81", 0, copy, j + 10, 2) {
-        return false;
-    }
-    if base_slices::byte(file, i + 12) != 10 {
-        return false;
-    }
-    base_slices::byte(copy, j + 14) == 10
-}
-
-// The copy is the file, with link lines of kind 03 for those of kind 02.
+// Whether the copy is the file, with link lines of kind 03 for those of kind 02.
 fn carried(file: &[u8], copy: &[u8]) -> bool {
+    let mut copied = copy.split(|c| *c == b'\n');
+    for line in file.split(|c| *c == b'\n') {
+        match copied.next() {
+            Some(other) if line_carried(line, other) => (),
+            _ => return false,
+        }
+    }
+    copied.next().is_none()
+}
+
+fn verdict(file: &[u8]) -> Result<(), u8> {
+    // A program's input is at most 65,535 bytes long: one more is refusal 1.
     if 65535 < file.len() {
-        return false;
+        return Err(1);
     }
-    let mut i: usize = 0;
-    let mut j: usize = 0;
-    let mut starts = true;
-    while i < file.len() {
-        let c = base_slices::byte(file, i);
-        if bare(starts, c, base_slices::byte(file, i + 1)) {
-            if !link_carried(file, i, copy, j) {
-                return false;
-            }
-            i += 13;
-            j += 15;
-            continue;
-        }
-        if c != base_slices::byte(copy, j) {
-            return false;
-        }
-        starts = c == 10;
-        i += 1;
-        j += 1;
+    let mut copy = [0u8; 65536];
+    let written = rewritten(file, &mut copy)?;
+    if !carried(file, written) {
+        return Err(DIFFERS);
     }
-    j == copy.len()
-}
-
-// A line of kind 02 starts.
-fn bare(starts: bool, c: u8, d: u8) -> bool {
-    if !starts {
-        return false;
-    }
-    if c != b'0' {
-        return false;
-    }
-    d == b'2'
-}
-
-// A program's input is at most 65,535 bytes long: one more is refusal 1.
-fn limited(file: &[u8]) -> u8 {
-    if 65535 < file.len() { 1 } else { verdict(file) }
-}
-
-fn say(rt: &impl Print, name: &[u8], number: u8) -> io::Result<()> {
-    base_io::write_all(rt, name)?;
-    base_io::write_all(rt, b" ")?;
-    if number == 0 {
-        base_io::write_all(rt, b"same")?;
+    let mut again = [0u8; 65536];
+    if rewritten(written, &mut again)? == written {
+        Ok(())
     } else {
-        base_io::print_decimal(rt, number as u64)?;
+        Err(DIFFERS)
     }
-    base_io::write_all(rt, b"\n")
 }
 
-// The file of argument `i`.
-fn one(rt: &(impl Env + Eprint + Files + Print), i: usize) -> io::Result<()> {
-    let mut name = base_io::buffer();
-    let length = base_io::arg(rt, i, &mut name);
-    let mut file = match base_io::open_read(rt, &name[..length]) {
-        Ok(file) => file,
-        Err(error) => return base_io::fail(rt, &name[..length], &error),
-    };
-    let mut input = base_io::large_buffer();
-    let got = base_io::read_full(&mut file, &mut input)?;
-    say(rt, &name[..length], limited(&input[..got]))
+fn say(rt: &impl Print, name: &str, file: &[u8]) -> io::Result<()> {
+    match verdict(file) {
+        Ok(()) => println!(rt; "{name} same"),
+        Err(number) => println!(rt; "{name} {number}"),
+    }
 }
 
 fn main(rt: HostRuntime) -> io::Result<()> {
-    let count = base_io::arg_count(&rt);
-    for i in 1..count {
-        one(&rt, i)?;
-    }
-    Ok(())
+    base_io::each_file(&rt, |name, file| say(&rt, name, file))
 }
