@@ -1,6 +1,7 @@
 // The first round of stage 7: local values by one pass over the links, the unit at each place by buckets, then passes
 // over places and units.
-ghost use Rattle.std.specs.Prelude.{◌≡◌, ℕ, slice_index, true, false, ◌&&◌, cond, ◌+◌, ◌-◌, ◌<◌, ◌≤◌, min, max, leb, get_or};
+ghost use Rattle.std.specs.Prelude.{◌≡◌, ℕ, true, false, ◌&&◌, cond, ◌+◌, ◌-◌, ◌<◌, ◌≤◌, min, max, leb};
+ghost use Rattle.std.specs.Prelude.{get_or, slice_index};
 ghost use Rattle.base_lists.specs.Tables.{over};
 ghost use Rattle.table.specs.Table.{max_units};
 ghost use Rattle.spec_rules.specs.Basics.{off_tree};

@@ -1,11 +1,7 @@
 -- Row after row.
-use mathlib.Core.Path.{refl}
 use Rattle.small_tables.specs.SmallLaws.{rows_turn, table_done}
 use borrow.Author.Rules.{rules}
 use Rattle.small_tables.proofs.table.Goals as goal
-
-pub loop-a-init : goal.loop-a-init
-loop-a-init c = (search rules, refl)
 
 pub loop-a-preserved : goal.loop-a-preserved
 loop-a-preserved c = (search rules, rows_turn _ _ _ _ _ c.loop-a.invariant.1 c.loop-a-test.true c.row-x.ensures)
