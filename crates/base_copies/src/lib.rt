@@ -83,20 +83,6 @@ pub fn table_at<const N: usize>(words: &[u16], at: usize) -> [u16; N]
     table
 }
 
-// Both ends of each link.
-pub fn ends_at(words: &[u16], at: usize) -> [u16; 2048]
-    ensures { PartOr at 2048 words.now result }
-{
-    table_at(words, at)
-}
-
-// A word a unit.
-pub fn units_at(words: &[u16], at: usize) -> [u16; 256]
-    ensures { PartOr at 256 words.now result }
-{
-    table_at(words, at)
-}
-
 // A level a link.
 pub fn levels_at(words: &[u16], at: usize) -> [i16; 1024]
     ensures { LevelsOr at 1024 words.now result }

@@ -112,11 +112,9 @@ fn lines(out: &mut [u8])
     requires { PRINTED ≤ length out.old }
     ensures { out.new ≡ printed ++ drop PRINTED out.old }
 {
-    let mut i: u16 = 0;
-    while i < SITES {
+    for i in 0..SITES {
         let at = LINE * (i as usize);
         line_at(i, &mut out[at..]);
-        i += 1;
     }
 }
 

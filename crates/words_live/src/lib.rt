@@ -16,9 +16,9 @@ use value_live::{Answer, Live};
 fn live_at(words: &[u16; LIVE_WORDS]) -> Live
     ensures { of result ≡ live_in words.now }
 {
-    let ends = base_copies::ends_at(words, layout::ENDS);
+    let ends = base_copies::table_at(words, layout::ENDS);
     let levels = base_copies::levels_at(words, layout::LEVELS);
-    let counts = base_copies::units_at(words, layout::COUNTS);
+    let counts = base_copies::table_at(words, layout::COUNTS);
     Live {
         units: words[layout::UNITS],
         links: words[layout::LINKS],

@@ -6,14 +6,8 @@ use Rattle.words_live.specs.LiveLayout.{live_in}
 use borrow.Author.Rules.{rules}
 use Rattle.words_live.proofs.live_at.Goals as goal
 
-pub ends_at-ends-requires : goal.ends_at-ends-requires
-ends_at-ends-requires c = tt
-
 pub levels_at-levels-requires : goal.levels_at-levels-requires
 levels_at-levels-requires c = tt
-
-pub units_at-counts-requires : goal.units_at-counts-requires
-units_at-counts-requires c = tt
 
 pub returns : goal.returns
 unfolding live_in
@@ -22,7 +16,7 @@ returns c =
     rw (
       number_in_lem 0 2 0 ws (lit< tt),
       number_in_lem 0 2 1 ws (lit< tt),
-      c.ends_at-ends.ensures.0 (search rules),
+      c.table_at-ends.ensures.0 (search rules),
       c.levels_at-levels.ensures.0 (search rules),
-      c.units_at-counts.ensures.0 (search rules),
+      c.table_at-counts.ensures.0 (search rules),
     ) refl
