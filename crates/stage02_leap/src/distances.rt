@@ -1,6 +1,7 @@
 // Distances found ahead of the rounds of stage 2 are tested over every link and every unit, and where they pass the
 // tables are those that the rounds leave.
-ghost use Rattle.std.specs.Prelude.{◌≡◌, ℕ, ◌+◌, ◌<◌, ◌≤◌, true, false, not, ◌&&◌, length, ◌==◌, nat_le, slice_index, List, IfSome, MatchOption};
+ghost use Rattle.std.specs.Prelude.{◌≡◌, ℕ, ◌+◌, ◌<◌, ◌≤◌, true, false, not, ◌&&◌, length, ◌==◌, nat_le};
+ghost use Rattle.std.specs.Prelude.{slice_index, List, IfSome, MatchOption};
 ghost use Rattle.base_lists.specs.Tables.{over};
 ghost use Rattle.base_lists.specs.Folds.{some};
 ghost use Rattle.table.specs.Table.{max_units};

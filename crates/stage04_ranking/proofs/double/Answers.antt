@@ -4,7 +4,8 @@ use Rattle.base_lists.specs.Rounds.{over-more, over-least}
 use Rattle.spec_rules.specs.Ranking.{jump_after, jump_round, sum_after, sum_round}
 use Rattle.stage04_ranking.specs.Asking.{jump-taken, sum-taken, jump-past, sum_past, jump-stays, sum-stays}
 use Rattle.stage04_ranking.proofs.double.Goals as goal
-use Rattle.stage04_ranking.proofs.double.Goals.{then-before-lt512, else-before-lt512+then-before, else-before-lt512+else-before}
+use Rattle.stage04_ranking.proofs.double.Goals.{then-before-lt512, else-before-lt512+then-before}
+use Rattle.stage04_ranking.proofs.double.Goals.{else-before-lt512+else-before}
 
 pub loop-a-preserved : goal.loop-a-preserved
 loop-a-preserved c =

@@ -51,7 +51,8 @@ returns c =
     let number = c.numbers-number.ensures in
     kept-parts (the) _ _ _ _ _ _ _ _ _ _ _ _ _ _ _ _ _ _ _
     (sym c.front_ok.ensures ∙ c.if-not-front_ok.false)
-    (c.within-ended.ensures _ unit) (c.all_within-named.ensures _ unit) (c.all_within-arcs.ensures _ c.names-arc.ensures)
+    (c.within-ended.ensures _ unit) (c.all_within-named.ensures _ unit)
+    (c.all_within-arcs.ensures _ c.names-arc.ensures)
     c.names_ok-labels.ensures c.dists_ok-dists.ensures (c.all_within-sums.ensures _ number)
     (c.all_within-ranges.ensures _ number) (c.all_within-joins.ensures _ number) c.all_in_range-heard.ensures refl
     refl refl refl refl refl refl refl refl

@@ -1,5 +1,6 @@
 -- Place by place and unit by unit, from the local values.
-use Rattle.std.proofs.Common.{◌≡◌, ◌+◌, ◌-◌, ◌≤◌, ◌&&◌, cond, leb, length, get_or, min, max, true, false, refl, ◌∙◌, le_refl, rules, arith}
+use Rattle.std.proofs.Common.{◌≡◌, ◌+◌, ◌-◌, ◌≤◌, ◌&&◌, cond, leb, length, get_or, min, max, true, false, refl, ◌∙◌}
+use Rattle.std.proofs.Common.{le_refl, rules, arith}
 use Rattle.spec_rules.specs.Basics.{ABSENT}
 use Rattle.spec_rules.specs.RangeLaws.{local_by, begin_by, local-all, global-first, range-first}
 use Rattle.stage07_range.specs.Begins.{local-value, begin-value}

@@ -2,7 +2,8 @@
 use Rattle.std.proofs.Common.{refl, le-leb}
 use Rattle.std.proofs.lemmas.Bool.{lt-leb}
 use Rattle.spec_machine.specs.WellFormed.{clock_ok}
-use Rattle.stage_clock.proofs.kept.clock_ok.Goals.{then-c-lt1-via-then-c-lt1, then-c-lt1-via-else-c-lt1+then-c-gt-FINISHED}
+use Rattle.stage_clock.proofs.kept.clock_ok.Goals.{then-c-lt1-via-then-c-lt1}
+use Rattle.stage_clock.proofs.kept.clock_ok.Goals.{then-c-lt1-via-else-c-lt1+then-c-gt-FINISHED}
 use Rattle.stage_clock.proofs.kept.clock_ok.Goals as goal
 
 pub returns-then-c-lt1 : goal.returns-then-c-lt1
