@@ -7,7 +7,7 @@ ghost use Rattle.theory_ears.specs.Present.{sure};
 ghost use Rattle.theory_ears.specs.Steps.{hanging, ties, moved};
 ghost use Rattle.theory_ears.specs.Weaving.{holding, WovenIn, EarOf, Visited, Passed, Followed, Settling, Settles};
 
-use ring_tables::{counts, end_a, end_b, has, lay, on, steps};
+use ring_tables::{counts, end_a, end_b, has, lay, on};
 use table_values::tables;
 
 // The unit of the order that each unit of the tree hangs on, in the order in which they came to it.
@@ -41,7 +41,14 @@ fn hanging(units: u16, parent: &[u16], pos: &[u16], v: u16) -> u16
     ensures { result ≡ length (hanging (min (units + 1) 2048) parent.now pos.now v) }
 {
     let limit = table_values::bounded_sum(units, 1);
-    steps(limit, parent, v, |u| on(pos, u))
+    let mut u = v;
+    for k in 0..limit {
+        if on(pos, u) {
+            return k;
+        }
+        u = tables::at(parent, u);
+    }
+    limit
 }
 
 // What stands past place `q` moves on by `c`.

@@ -1,12 +1,14 @@
 // The ring from an order: up from the second link to the order's last unit, and down from it to the first.
-ghost use Rattle.std.specs.Prelude.{◌≡◌, ℕ, ◌<◌, true, false, MatchOption};
+ghost use Rattle.std.specs.Prelude.{◌≡◌, ℕ, ◌<◌, true, false, eqb, length, MatchOption};
+ghost use Rattle.spec_rules.specs.Basics.{at};
 ghost use Rattle.theory_ears.specs.Present.{sure};
 ghost use Rattle.theory_ears.specs.Sides.{within};
 ghost use Rattle.theory_ears.specs.Closing.{serves};
+ghost use Rattle.theory_ears.specs.Upright.{chain};
 ghost use Rattle.theory_ears.specs.Rows.{Closed};
 ghost use Rattle.theory_ears.specs.Found.{LeansOne, Leans};
 
-use ring_tables::{counts, end_a, end_b, lay, on, steps};
+use ring_tables::{counts, end_a, end_b, lay, on};
 use table_values::tables;
 
 // Link `j` counts, and both of its ends are on the order.
@@ -75,6 +77,20 @@ pub(crate) fn second(
     (0..links).find(|k| serves(marks, ends, pos, i, j, *k))
 }
 
+// How many units stand from `v` on before `stop`.
+fn steps(limit: u16, next: &[u16], stop: u16, v: u16) -> u16
+    ensures { result ≡ length (chain (at next.now) (λ (z : ℕ). eqb z stop) limit v) }
+{
+    let mut u = v;
+    for k in 0..limit {
+        if u == stop {
+            return k;
+        }
+        u = tables::at(next, u);
+    }
+    limit
+}
+
 // a, b, back along the way up from `d` to `b`, then down from `c` to `a`; how many units.
 pub(crate) fn close(
     units: u16,
@@ -89,8 +105,8 @@ pub(crate) fn close(
     ensures { Closed units low.now high.now a b c d out.old
         out.new result }
 {
-    let s = steps(units, high, d, |u| u == b);
-    let t = steps(units, low, c, |u| u == a);
+    let s = steps(units, high, b, d);
+    let t = steps(units, low, a, c);
     tables::store(out, 0, a);
     tables::store(out, 1, b);
     lay(

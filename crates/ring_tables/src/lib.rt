@@ -2,8 +2,7 @@
 // its mark is 0 or missing.
 #![tactic(auto)]
 
-ghost use Rattle.std.specs.Prelude.{◌≡◌, ℕ, Bool, ◌<◌, length, get_or};
-ghost use Rattle.theory_ears.specs.Upright.{chain};
+ghost use Rattle.std.specs.Prelude.{◌≡◌, ℕ, ◌<◌, get_or};
 ghost use Rattle.table.specs.Table.{end_a, end_b};
 ghost use Rattle.theory_ears.specs.Present.{sure};
 ghost use Rattle.theory_ears.specs.Steps.{seen, on_order, laid, onward, climb};
@@ -60,22 +59,6 @@ pub fn lay(next: &[u16], count: u16, v: u16, i: u16, up: bool, placing: bool, ou
         u = tables::at(next, u);
         x = base_choice::choose(up, table_values::bounded_sum(x, 1), x.saturating_sub(1));
     }
-}
-
-// How many units stand from `v` on before one where `stop` holds, `limit` at most.
-pub fn steps<F: Fn(u16) -> bool>(limit: u16, next: &[u16], v: u16, stop: F) -> u16
-    requires { F.IsAlwaysCallable stop }
-    ensures { (test : ℕ → Bool) → ((u : ℕ) (r : Bool) → u < 65536 → F.post stop u r → r ≡ test u)
-        → result ≡ length (chain (λ (u : ℕ). get_or next.now u 0) test limit v) }
-{
-    let mut u = v;
-    for k in 0..limit {
-        if stop(u) {
-            return k;
-        }
-        u = tables::at(next, u);
-    }
-    limit
 }
 
 // Marks by which every link counts.
