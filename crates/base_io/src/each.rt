@@ -1,5 +1,5 @@
 // The files that a program's arguments name.
-ghost use Rattle.std.specs.Prelude.{◌≤◌, IfOk, IfSome, length};
+ghost use Rattle.std.specs.Prelude.{◌≤◌, IfOk, IfSome, IsOk, length};
 
 use std::io::Eprint;
 use std::rt::{Env, Files};
@@ -34,14 +34,17 @@ pub fn read_file<'a>(
     }
 }
 
-// Calls `visit` with the name and the first 65,536 bytes of each file that an argument names.
+// Calls `visit` with the name and the first 65,536 bytes of each file that one of so many arguments names, the first of
+// which is the program's own name.
 pub fn each_file<R: Env + Eprint + Files, F: FnMut(&str, &[u8]) -> io::Result<()>>(
     rt: &R,
+    arguments: usize,
     mut visit: F,
 ) -> io::Result<()>
     requires { F.IsAlwaysCallable visit }
+    ensures { arguments ≤ 1 → IsOk result }
 {
-    for i in 1..super::arg_count(rt) {
+    for i in 1..arguments {
         let mut room = super::buffer();
         let name = text_arg(rt, i, &mut room);
         let mut input = super::large_buffer();

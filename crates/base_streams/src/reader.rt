@@ -1,5 +1,5 @@
 // A stream together with its cursor, which each read moves on.
-ghost use Rattle.std.specs.Prelude.{◌≡◌, false, ◌%◌, length, take, ◌<◌, MatchOption};
+ghost use Rattle.std.specs.Prelude.{◌≡◌, true, false, ◌%◌, length, take, ◌<◌, MatchOption, IsOk};
 ghost use Rattle.base_lists.specs.Tables.{over};
 ghost use Rattle.base_streams.specs.Stream.{begun, ended_at, number_at, level_at};
 ghost use Rattle.base_streams.specs.Series.{word_from, level_from};
@@ -133,6 +133,16 @@ impl<'a> Reader<'a> {
         }
         room.get(..count as usize)
     }
+
+    // Prints `fault` where the stream does not end here.
+    pub fn close(&self, rt: &impl Print) -> io::Result<()>
+        ensures { ended_at self.now.stream.now self.now.cursor ≡ true → IsOk result }
+    {
+        if self.ended() {
+            return Ok(());
+        }
+        println!(rt; "fault")
+    }
 }
 
 // Calls `visit` for every case of a stream, which begins with how many there are, and prints `fault` where the stream
@@ -143,26 +153,17 @@ pub fn each_case<F: FnMut(&mut Reader<'_>) -> io::Result<()>>(
     mut visit: F,
 ) -> io::Result<()>
     requires { F.IsAlwaysCallable visit }
+    ensures { (number_at stream.now begun).value ≡ 0
+        → ended_at stream.now (number_at stream.now begun).cursor ≡ true
+        → IsOk result }
 {
     let mut reader = Reader::new(stream);
-    for _ in 0..reader.number() {
+    let count = reader.number();
+    if count == 0 {
+        return reader.close(rt);
+    }
+    for _ in 0..count {
         visit(&mut reader)?;
     }
-    if !reader.ended() {
-        println!(rt; "fault")?;
-    }
-    Ok(())
-}
-
-// Prints the first words, as many as `count`, each after a space; a `!` for each of the others that is not `mark`; and
-// the line's end.
-pub fn print_row(rt: &impl Print, words: &[u16], count: usize, mark: u16) -> io::Result<()> {
-    for (i, word) in words.iter().enumerate() {
-        if i < count {
-            print!(rt; " {word}")?;
-        } else if *word != mark {
-            print!(rt; "!")?;
-        }
-    }
-    println!(rt; "")
+    reader.close(rt)
 }

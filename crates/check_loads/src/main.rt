@@ -125,7 +125,7 @@ fn case(rt: &impl Print, reader: &mut Reader<'_>) -> io::Result<()> {
 }
 
 fn main(rt: HostRuntime) -> io::Result<()> {
-    base_io::each_file(&rt, |_, stream| {
+    base_io::each_file(&rt, base_io::arg_count(&rt), |_, stream| {
         base_streams::each_case(&rt, stream, |reader| case(&rt, reader))
     })
 }

@@ -10,15 +10,28 @@ use std::io;
 // What every lent word holds before the call.
 const MARK: u16 = 43981;
 
+// The first words, as many as `count`, each after a space; a `!` for each of the others that was altered; the line's
+// end.
+fn row(rt: &impl Print, words: &[u16], count: usize) -> io::Result<()> {
+    for (i, word) in words.iter().enumerate() {
+        if i < count {
+            print!(rt; " {word}")?;
+        } else if *word != MARK {
+            print!(rt; "!")?;
+        }
+    }
+    println!(rt; "")
+}
+
 fn surveyed(rt: &impl Print, units: u16, links: &[u16], numbers: &mut [u16]) -> io::Result<()> {
     match one_way::strong(units, links, numbers) {
         Numbering::Passes(passes) => {
             print!(rt; "0 {passes}")?;
-            base_streams::print_row(rt, numbers, units as usize, MARK)
+            row(rt, numbers, units as usize)
         }
         Numbering::Refused(number) => {
             print!(rt; "{number}")?;
-            base_streams::print_row(rt, numbers, 0, MARK)
+            row(rt, numbers, 0)
         }
     }
 }
@@ -37,7 +50,7 @@ fn case(rt: &impl Print, reader: &mut Reader<'_>) -> io::Result<()> {
 }
 
 fn main(rt: HostRuntime) -> io::Result<()> {
-    base_io::each_file(&rt, |_, stream| {
+    base_io::each_file(&rt, base_io::arg_count(&rt), |_, stream| {
         base_streams::each_case(&rt, stream, |reader| case(&rt, reader))
     })
 }

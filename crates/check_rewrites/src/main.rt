@@ -32,5 +32,5 @@ fn rewritten(rt: &impl Print, file: &[u8]) -> io::Result<()> {
 }
 
 fn main(rt: HostRuntime) -> io::Result<()> {
-    base_io::each_file(&rt, |_, file| rewritten(&rt, file))
+    base_io::each_file(&rt, base_io::arg_count(&rt), |_, file| rewritten(&rt, file))
 }
