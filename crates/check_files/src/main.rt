@@ -72,5 +72,9 @@ fn say(rt: &impl Print, name: &str, file: &[u8]) -> io::Result<()> {
 }
 
 fn main(rt: HostRuntime) -> io::Result<()> {
-    base_io::each_file(&rt, base_io::arg_count(&rt), |name, file| say(&rt, name, file))
+    base_io::each_file(
+        &rt,
+        base_io::arg_count(&rt),
+        |name, file| say(&rt, name, file),
+    )
 }
