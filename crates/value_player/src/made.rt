@@ -1,5 +1,5 @@
 // One call, given as words.
-ghost use Rattle.std.specs.Prelude.{◌≡◌, ◌++◌, length, take, drop};
+ghost use Rattle.std.specs.Prelude.{◌≡◌, ◌++◌, min, length, take, drop};
 ghost use Rattle.spec_machine.specs.Calls.{report_answer, reported};
 ghost use Rattle.survey.specs.View.{of, answer_of};
 ghost use Rattle.spec_claim.specs.Play.{answer_to};
@@ -30,7 +30,13 @@ fn report_into(s: Survey, start: u16, places: u16, out: &mut [u8]) -> Answer
         ++ (reported (of s) (part start places out.old)
         ++ drop (part_to start places out.old) out.old) }
 {
-    let from = (start as usize).min(out.len());
-    let to = (from + (places as usize)).min(out.len());
+    let from = least(start as usize, out.len());
+    let to = least(from + (places as usize), out.len());
     value_calls::report(s, &mut out[from..to])
+}
+
+fn least(x: usize, y: usize) -> usize
+    ensures { result ≡ min x y }
+{
+    if x < y { x } else { y }
 }
