@@ -20,6 +20,17 @@ fn fits(at: usize, count: usize, words: usize) -> bool
     at <= words && count <= words - at
 }
 
+// Copies words from `at` on over those from `place` on.
+// Stays: `copy_from_slice` goes by addresses, which the archives for other processors may not (`tools/cross`).
+fn carry(from: &[u16], at: usize, count: usize, words: &mut [u16], place: usize)
+    requires { (at + count ≤ length from.now) × (place + count ≤ length words.old) }
+    ensures { words.new ≡ laid place (part at count from.now) words.old }
+{
+    for i in 0..count {
+        words[place + i] = from[at + i];
+    }
+}
+
 // A table over the words from `at` on.
 pub fn lay(table: &[u16], at: usize, words: &mut [u16])
     ensures { words.new ≡ laid_in at table.now words.old }
@@ -27,7 +38,7 @@ pub fn lay(table: &[u16], at: usize, words: &mut [u16])
     if !fits(at, table.len(), words.len()) {
         return;
     }
-    words[at..at + table.len()].copy_from_slice(table);
+    carry(table, 0, table.len(), words, at);
 }
 
 // Stores `x` in the given number of words from `at` on.
@@ -71,7 +82,7 @@ pub fn copy(words: &[u16], at: usize, to: &mut [u16])
     if !fits(at, to.len(), words.len()) {
         return;
     }
-    to.copy_from_slice(&words[at..at + to.len()]);
+    carry(words, at, to.len(), to, 0);
 }
 
 // So many words from `at` on, or as many zeros where they are not all there.

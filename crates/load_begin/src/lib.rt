@@ -73,7 +73,11 @@ fn levels_in(levels: &[i16], heard: &mut [i16])
     ensures { heard.new ≡ levels.now
         ++ drop (length levels.now) heard.old }
 {
-    heard[..levels.len()].copy_from_slice(levels);
+    // Stays: `copy_from_slice` goes by addresses, which the archives for other processors may not (`tools/cross`).
+    for i in 0..levels.len() {
+        let level = levels[i];
+        heard[i] = level;
+    }
 }
 
 // Stage 1, no round made.

@@ -1,13 +1,17 @@
 -- The whole table, or nothing.
-use Rattle.std.proofs.Common.{refl, sym, ◌∙◌, leb-true}
-use Rattle.base_copies.specs.CopyLaws.{laid_out}
-use Rattle.base_copies.proofs.Places.{mid-laid}
+use mathlib.Core.Path.{sym, ◌∙◌}
+use borrow.Author.Tests.{leb-true}
+use borrow.Author.Rules.{rules}
+use Rattle.base_copies.specs.CopyLaws.{laid-whole, laid_out}
 use Rattle.base_copies.proofs.lay.Goals as goal
 
 pub returns-then-not-fits : goal.returns-then-not-fits
 returns-then-not-fits c = laid_out _ _ _ (sym c.fits.ensures ∙ c.if-not-fits.true)
 
+pub carry-requires : goal.carry-requires
+carry-requires c =
+    let there = leb-true _ _ (sym c.fits.ensures ∙ c.if-not-fits.false) in
+    (search rules, there)
+
 pub returns : goal.returns
-returns c =
-    rw c.copy_from_slice.ensures.after
-    (mid-laid _ _ _ _ refl (leb-true _ _ (sym c.fits.ensures ∙ c.if-not-fits.false)))
+returns c = c.carry.ensures ∙ laid-whole _ _ _ (sym c.fits.ensures ∙ c.if-not-fits.false)
