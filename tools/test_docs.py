@@ -109,8 +109,6 @@ class PublicFunctions(unittest.TestCase):
                 r"(?ms)^\s*pub (?:extern \"C\" )?fn (\w+)(.*?)(?:^\s*\{|\)(?: -> [^\n]*)? \{)$", contents(path)
             ):
                 found += 1
-                # a closure that is passed in may be called: the language asks this of each such call (D52)
-                head = re.sub(r"requires \{ F\.IsAlwaysCallable \w+ \}", "", head)
                 with self.subTest(f"{os.path.relpath(path, ROOT)}: {name}"):
                     self.assertNotIn("requires", head)
                     if (crate, name) not in self.UNPROMISED:

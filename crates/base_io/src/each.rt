@@ -17,39 +17,43 @@ pub fn text_arg<'a>(rt: &impl Env, i: usize, buf: &'a mut [u8]) -> &'a str
 // opened.
 pub fn read_file<'a>(
     rt: &(impl Eprint + Files),
-    name: &str,
+    name: &[u8],
     buf: &'a mut [u8],
 ) -> io::Result<Option<&'a [u8]>>
     ensures { IfOk result (λ found. IfSome found (λ bytes. length bytes.now ≤ length buf.old)) }
 {
-    match super::open_read(rt, name.as_bytes()) {
+    match super::open_read(rt, name) {
         Ok(mut file) => {
             let got = super::read_full(&mut file, buf)?;
             Ok(Some(&buf[..got]))
         }
         Err(error) => {
-            super::fail(rt, name.as_bytes(), &error)?;
+            super::fail(rt, name, &error)?;
             Ok(None)
         }
     }
 }
 
-// Calls `visit` with the name and the first 65,536 bytes of each file that one of so many arguments names, the first of
-// which is the program's own name.
-pub fn each_file<R: Env + Eprint + Files, F: FnMut(&str, &[u8]) -> io::Result<()>>(
+// What a program makes of each file. A closure in its place would have to be asked for leave to be called (D52).
+pub trait FileVisitor {
+    fn file(&mut self, name: &str, bytes: &[u8]) -> io::Result<()>;
+}
+
+// Hands over the name and the first 65,536 bytes of each file that one of so many arguments names, the first of which
+// is the program's own name.
+pub fn each_file<R: Env + Eprint + Files, V: FileVisitor>(
     rt: &R,
     arguments: usize,
-    mut visit: F,
+    visitor: &mut V,
 ) -> io::Result<()>
-    requires { F.IsAlwaysCallable visit }
     ensures { arguments ≤ 1 → IsOk result }
 {
     for i in 1..arguments {
         let mut room = super::buffer();
-        let name = text_arg(rt, i, &mut room);
+        let length = super::arg(rt, i, &mut room);
         let mut input = super::large_buffer();
-        if let Some(bytes) = read_file(rt, name, &mut input)? {
-            visit(name, bytes)?;
+        if let Some(bytes) = read_file(rt, &room[..length], &mut input)? {
+            visitor.file(text_arg(rt, i, &mut room), bytes)?;
         }
     }
     Ok(())

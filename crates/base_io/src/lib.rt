@@ -7,8 +7,10 @@ ghost use Rattle.std.specs.Io.KnownBytes.{Consumes, IsAtEnd};
 ghost use Rattle.base_io.specs.Counts.{IsPrefixLen};
 
 mod each;
+mod line;
 
-pub use each::{each_file, read_file, text_arg};
+pub use each::{FileVisitor, each_file, read_file, text_arg};
+pub use line::Line;
 use std::env::FillError;
 use std::fs::File;
 use std::io::{Eprint, ErrorKind, Input, Print, Read};

@@ -12,7 +12,7 @@ mod reader;
 pub mod series;
 pub mod text;
 
-pub use reader::{Reader, each_case};
+pub use reader::{CaseVisitor, Reader, each_case};
 
 // Where the next number begins, and whether a fault was met.
 #[derive(Clone, Copy)]

@@ -145,14 +145,15 @@ impl<'a> Reader<'a> {
     }
 }
 
-// Calls `visit` for every case of a stream, which begins with how many there are, and prints `fault` where the stream
-// does not end with them.
-pub fn each_case<F: FnMut(&mut Reader<'_>) -> io::Result<()>>(
-    rt: &impl Print,
-    stream: &[u8],
-    mut visit: F,
-) -> io::Result<()>
-    requires { F.IsAlwaysCallable visit }
+// What a program makes of each case of a stream. A closure in its place would have to be asked for leave to be called
+// (D52).
+pub trait CaseVisitor {
+    fn case(&mut self, reader: &mut Reader<'_>) -> io::Result<()>;
+}
+
+// Hands over a reader at every case of a stream, which begins with how many there are, and prints `fault` where the
+// stream does not end with them.
+pub fn each_case<V: CaseVisitor>(rt: &impl Print, stream: &[u8], visitor: &mut V) -> io::Result<()>
     ensures { (number_at stream.now begun).value ≡ 0
         → ended_at stream.now (number_at stream.now begun).cursor ≡ true
         → IsOk result }
@@ -163,7 +164,7 @@ pub fn each_case<F: FnMut(&mut Reader<'_>) -> io::Result<()>>(
         return reader.close(rt);
     }
     for _ in 0..count {
-        visit(&mut reader)?;
+        visitor.case(&mut reader)?;
     }
     reader.close(rt)
 }

@@ -3,6 +3,7 @@
 // of kind 02, and every byte of it came back.
 #![tactic(auto)]
 
+use base_io::FileVisitor;
 use file_spec::Writing;
 use std::io;
 
@@ -71,10 +72,18 @@ fn say(rt: &impl Print, name: &str, file: &[u8]) -> io::Result<()> {
     }
 }
 
+// What is printed goes there.
+#[derive(Drop)]
+struct Check<'a, R> {
+    rt: &'a R,
+}
+
+impl<R: Print> FileVisitor for Check<'_, R> {
+    fn file(&mut self, name: &str, bytes: &[u8]) -> io::Result<()> {
+        say(self.rt, name, bytes)
+    }
+}
+
 fn main(rt: HostRuntime) -> io::Result<()> {
-    base_io::each_file(
-        &rt,
-        base_io::arg_count(&rt),
-        |name, file| say(&rt, name, file),
-    )
+    base_io::each_file(&rt, base_io::arg_count(&rt), &mut Check { rt: &rt })
 }

@@ -4,7 +4,8 @@
 // It prints `fault` for a malformed stream.
 #![tactic(auto)]
 
-use base_streams::Reader;
+use base_io::Line;
+use base_streams::{CaseVisitor, Reader};
 use std::io;
 use std::rt::Env;
 use value_live::{Answer, Live};
@@ -25,35 +26,50 @@ fn taken(live: &mut Live, answer: Answer) -> u8 {
 // The number, the number of links and the stored number of each unit.
 fn print_counts(rt: &impl Print, number: u8, live: &Live) -> io::Result<()> {
     let links = live.links as usize;
-    print!(rt; "{number} {links}")?;
-    for count in live.counts.iter().take(live.units as usize) {
-        print!(rt; " {count}")?;
+    let mut line = Line::<65536>::new();
+    print!(line; "{number} {links}")?;
+    for v in 0..live.units as usize {
+        let count = base_slices::word(&live.counts, v);
+        print!(line; " {count}")?;
     }
     for end in live.ends.iter().skip(2 * links) {
         if *end != 65535 {
-            print!(rt; "!")?;
+            print!(line; "!")?;
         }
     }
     for level in live.levels.iter().skip(links) {
         if *level != 0 {
-            print!(rt; "!")?;
+            print!(line; "!")?;
         }
     }
-    println!(rt; "")
+    println!(line; "")?;
+    line.send(rt)
+}
+
+// What is printed of a level: its low byte as a number from −255 to 0.
+fn printed(level: i16) -> i16 {
+    match table_levels::byte_of(level) {
+        0 => 0,
+        byte => i16::from(byte) - 256,
+    }
 }
 
 // The unit count, the number of links, all words and all levels.
 fn print_table(rt: &impl Print, live: &Live) -> io::Result<()> {
     let units = live.units;
     let links = live.links as usize;
-    print!(rt; "{units} {links}")?;
-    for end in live.ends.iter().take(2 * links) {
-        print!(rt; " {end}")?;
+    let mut line = Line::<65536>::new();
+    print!(line; "{units} {links}")?;
+    for i in 0..2 * links {
+        let end = base_slices::word(&live.ends, i);
+        print!(line; " {end}")?;
     }
-    for level in live.levels.iter().take(links) {
-        print!(rt; " {level}")?;
+    for j in 0..links {
+        let level = printed(live.levels.get(j).copied().unwrap_or(0));
+        print!(line; " {level}")?;
     }
-    println!(rt; "")
+    println!(line; "")?;
+    line.send(rt)
 }
 
 fn print_step(rt: &impl Print, told: Told, number: u8, live: &Live) -> io::Result<()> {
@@ -144,11 +160,26 @@ fn case(rt: &impl Print, reader: &mut Reader<'_>, told: Told) -> io::Result<()> 
     Ok(())
 }
 
-// What argument `i` asks for.
+// What argument `i` asks for: numbers, if it begins as that word does.
 fn asked(rt: &impl Env, i: usize) -> Told {
-    match base_io::text_arg(rt, i, &mut base_io::buffer()) {
-        "numbers" => Told::Numbers,
+    let mut word = base_io::buffer();
+    base_io::arg(rt, i, &mut word);
+    match word[0] {
+        b'n' => Told::Numbers,
         _ => Told::Lines,
+    }
+}
+
+// What is printed goes there.
+#[derive(Drop)]
+struct Check<'a, R> {
+    rt: &'a R,
+    told: Told,
+}
+
+impl<R: Print> CaseVisitor for Check<'_, R> {
+    fn case(&mut self, reader: &mut Reader<'_>) -> io::Result<()> {
+        case(self.rt, reader, self.told)
     }
 }
 
@@ -157,9 +188,9 @@ fn main(rt: HostRuntime) -> io::Result<()> {
         let told = asked(&rt, 2 * pair + 1);
         let mut name = base_io::buffer();
         let mut input = base_io::large_buffer();
-        let name = base_io::text_arg(&rt, 2 * pair + 2, &mut name);
-        if let Some(stream) = base_io::read_file(&rt, name, &mut input)? {
-            base_streams::each_case(&rt, stream, |reader| case(&rt, reader, told))?;
+        let length = base_io::arg(&rt, 2 * pair + 2, &mut name);
+        if let Some(stream) = base_io::read_file(&rt, &name[..length], &mut input)? {
+            base_streams::each_case(&rt, stream, &mut Check { rt: &rt, told })?;
         }
     }
     Ok(())

@@ -3,7 +3,8 @@
 // that was altered. It prints `fault` for a malformed stream.
 #![tactic(auto)]
 
-use base_streams::Reader;
+use base_io::{FileVisitor, Line};
+use base_streams::{CaseVisitor, Reader};
 use file_spec::Writing;
 use std::io;
 use survey::{Answer, Reply, Survey};
@@ -40,13 +41,13 @@ struct Tables<'a> {
 }
 
 // A `!` for each byte that is not as it was, and the line's end.
-fn print_altered(rt: &impl Print, bytes: &[u8]) -> io::Result<()> {
+fn print_altered(line: &mut Line<4096>, bytes: &[u8]) -> io::Result<()> {
     for byte in bytes {
         if *byte != MARK {
-            print!(rt; "!")?;
+            print!(line; "!")?;
         }
     }
-    println!(rt; "")
+    println!(line; "")
 }
 
 // The countdown of a survey.
@@ -69,34 +70,37 @@ fn print_load(rt: &impl Print, answer: Answer) -> io::Result<()> {
 }
 
 fn write(rt: &impl Print, t: &Tables<'_>, out: &mut [u8]) -> io::Result<()> {
+    let mut line = Line::new();
     match file_write::write(t.units, t.words, t.levels, out) {
         Writing::Refused(number) => {
-            print!(rt; "{number}")?;
-            print_altered(rt, out)
+            print!(line; "{number}")?;
+            print_altered(&mut line, out)?;
         }
         Writing::Written(characters) => {
-            print!(rt; "0 {characters}")?;
-            print_altered(rt, out.get(characters as usize..).unwrap_or(&[]))
+            print!(line; "0 {characters}")?;
+            print_altered(&mut line, out.get(characters as usize..).unwrap_or(&[]))?;
         }
+    }
+    line.send(rt)
+}
+
+fn loaded(call: Call, t: &Tables<'_>) -> Answer {
+    let empty = Survey::new();
+    match call {
+        Call::LoadPlanned => empty.load_planned(t.units, t.words, t.levels, t.parents),
+        Call::LoadStored => empty.load_stored(t.units, t.words, t.levels),
+        _ => empty.load(t.units, t.words, t.levels),
     }
 }
 
 // The call; a file goes into the first places of a slice.
 fn called(rt: &impl Print, call: Call, t: &Tables<'_>, places: usize) -> io::Result<()> {
-    let empty = Survey::new();
     match call {
-        Call::Load => print_load(rt, empty.load(t.units, t.words, t.levels)),
-        Call::LoadPlanned => {
-            print_load(
-                rt,
-                empty.load_planned(t.units, t.words, t.levels, t.parents),
-            )
-        }
-        Call::LoadStored => print_load(rt, empty.load_stored(t.units, t.words, t.levels)),
         Call::Write => match [MARK; 16384].get_mut(..places) {
             Some(out) => write(rt, t, out),
             None => Ok(()),
         },
+        _ => print_load(rt, loaded(call, t)),
     }
 }
 
@@ -124,8 +128,24 @@ fn case(rt: &impl Print, reader: &mut Reader<'_>) -> io::Result<()> {
     called(rt, call, &t, places)
 }
 
+// What is printed goes there.
+#[derive(Drop)]
+struct Check<'a, R> {
+    rt: &'a R,
+}
+
+impl<R: Print> FileVisitor for Check<'_, R> {
+    fn file(&mut self, _name: &str, stream: &[u8]) -> io::Result<()> {
+        base_streams::each_case(self.rt, stream, self)
+    }
+}
+
+impl<R: Print> CaseVisitor for Check<'_, R> {
+    fn case(&mut self, reader: &mut Reader<'_>) -> io::Result<()> {
+        case(self.rt, reader)
+    }
+}
+
 fn main(rt: HostRuntime) -> io::Result<()> {
-    base_io::each_file(&rt, base_io::arg_count(&rt), |_, stream| {
-        base_streams::each_case(&rt, stream, |reader| case(&rt, reader))
-    })
+    base_io::each_file(&rt, base_io::arg_count(&rt), &mut Check { rt: &rt })
 }

@@ -3,7 +3,8 @@
 // prints `fault` for a malformed stream.
 #![tactic(auto)]
 
-use base_streams::Reader;
+use base_io::{FileVisitor, Line};
+use base_streams::{CaseVisitor, Reader};
 use one_way::Numbering;
 use std::io;
 
@@ -12,28 +13,30 @@ const MARK: u16 = 43981;
 
 // The first words, as many as `count`, each after a space; a `!` for each of the others that was altered; the line's
 // end.
-fn row(rt: &impl Print, words: &[u16], count: usize) -> io::Result<()> {
+fn row(line: &mut Line<4096>, words: &[u16], count: usize) -> io::Result<()> {
     for (i, word) in words.iter().enumerate() {
         if i < count {
-            print!(rt; " {word}")?;
+            print!(line; " {word}")?;
         } else if *word != MARK {
-            print!(rt; "!")?;
+            print!(line; "!")?;
         }
     }
-    println!(rt; "")
+    println!(line; "")
 }
 
 fn surveyed(rt: &impl Print, units: u16, links: &[u16], numbers: &mut [u16]) -> io::Result<()> {
+    let mut line = Line::new();
     match one_way::strong(units, links, numbers) {
         Numbering::Passes(passes) => {
-            print!(rt; "0 {passes}")?;
-            row(rt, numbers, units as usize)
+            print!(line; "0 {passes}")?;
+            row(&mut line, numbers, units as usize)?;
         }
         Numbering::Refused(number) => {
-            print!(rt; "{number}")?;
-            row(rt, numbers, 0)
+            print!(line; "{number}")?;
+            row(&mut line, numbers, 0)?;
         }
     }
+    line.send(rt)
 }
 
 // A case: the unit count, the list of words, the places of the slice.
@@ -49,8 +52,24 @@ fn case(rt: &impl Print, reader: &mut Reader<'_>) -> io::Result<()> {
     }
 }
 
+// What is printed goes there.
+#[derive(Drop)]
+struct Check<'a, R> {
+    rt: &'a R,
+}
+
+impl<R: Print> FileVisitor for Check<'_, R> {
+    fn file(&mut self, _name: &str, stream: &[u8]) -> io::Result<()> {
+        base_streams::each_case(self.rt, stream, self)
+    }
+}
+
+impl<R: Print> CaseVisitor for Check<'_, R> {
+    fn case(&mut self, reader: &mut Reader<'_>) -> io::Result<()> {
+        case(self.rt, reader)
+    }
+}
+
 fn main(rt: HostRuntime) -> io::Result<()> {
-    base_io::each_file(&rt, base_io::arg_count(&rt), |_, stream| {
-        base_streams::each_case(&rt, stream, |reader| case(&rt, reader))
-    })
+    base_io::each_file(&rt, base_io::arg_count(&rt), &mut Check { rt: &rt })
 }

@@ -3,7 +3,8 @@
 // less the groups. It prints `fault` for a malformed stream.
 #![tactic(auto)]
 
-use base_streams::Reader;
+use base_io::{FileVisitor, Line};
+use base_streams::{CaseVisitor, Reader};
 use std::io;
 use survey::{Reply, Survey};
 
@@ -50,22 +51,22 @@ fn part(words: &[u16], labels: &[u16], c: u16) -> usize {
 }
 
 // How many labels there are, then each, a position that is its own, and its part, then the sum.
-fn print_parts(rt: &impl Print, words: &[u16], labels: &[u16]) -> io::Result<()> {
+fn print_parts(line: &mut Line<4096>, words: &[u16], labels: &[u16]) -> io::Result<()> {
     let count = labels
         .iter()
         .zip(0..1024)
         .filter(|(label, j)| **label == *j)
         .count();
-    print!(rt; "{count}")?;
+    print!(line; "{count}")?;
     let mut sum = 0usize;
     for (label, j) in labels.iter().zip(0..1024) {
         if *label == j {
             let part = part(words, labels, j);
-            print!(rt; " {j} {part}")?;
+            print!(line; " {j} {part}")?;
             sum = sum.saturating_add(part);
         }
     }
-    print!(rt; " {sum}")
+    print!(line; " {sum}")
 }
 
 // The line of a finished survey of so many units and links.
@@ -75,9 +76,11 @@ fn told(rt: &impl Print, s: Survey, units: u16, words: &[u16], links: usize) -> 
     for (label, j) in labels.iter_mut().zip(0..1024).take(links) {
         *label = label_of(s, j);
     }
-    print_parts(rt, words, &labels)?;
+    let mut line = Line::new();
+    print_parts(&mut line, words, &labels)?;
     let others = (units as usize).saturating_sub(groups(s, units));
-    println!(rt; " {others}")
+    println!(line; " {others}")?;
+    line.send(rt)
 }
 
 // The survey of a table, made to its end.
@@ -98,22 +101,33 @@ fn case(rt: &impl Print, reader: &mut Reader<'_>) -> io::Result<()> {
     let words = reader.words(&mut words_room);
     let mut levels_room = [0i16; 1024];
     let levels = reader.levels(&mut levels_room);
-    match (words, levels) {
-        (Some(words), Some(levels)) => {
-            told(
-                rt,
-                surveyed(units, words, levels),
-                units,
-                words,
-                levels.len(),
-            )
-        }
-        _ => told(rt, Survey::new(), units, &[], 0),
+    // One call of `told`: where there are two, each of its questions copies the state three times.
+    let survey = match (words, levels) {
+        (Some(words), Some(levels)) => surveyed(units, words, levels),
+        _ => Survey::new(),
+    };
+    let links = levels.unwrap_or(&[]).len();
+    told(rt, survey, units, words.unwrap_or(&[]), links)
+}
+
+// What is printed goes there.
+#[derive(Drop)]
+struct Check<'a, R> {
+    rt: &'a R,
+}
+
+impl<R: Print> FileVisitor for Check<'_, R> {
+    fn file(&mut self, _name: &str, stream: &[u8]) -> io::Result<()> {
+        base_streams::each_case(self.rt, stream, self)
+    }
+}
+
+impl<R: Print> CaseVisitor for Check<'_, R> {
+    fn case(&mut self, reader: &mut Reader<'_>) -> io::Result<()> {
+        case(self.rt, reader)
     }
 }
 
 fn main(rt: HostRuntime) -> io::Result<()> {
-    base_io::each_file(&rt, base_io::arg_count(&rt), |_, stream| {
-        base_streams::each_case(&rt, stream, |reader| case(&rt, reader))
-    })
+    base_io::each_file(&rt, base_io::arg_count(&rt), &mut Check { rt: &rt })
 }

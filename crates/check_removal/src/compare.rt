@@ -35,8 +35,8 @@ fn link_seen(reply: Reply, j: u16, second: bool, second_label: u16, counts: &mut
     }
 }
 
-// What the finished survey and the second one say of each unit and each link.
-fn asked(s: Survey, units: u16, links: &[u16], counts: &mut Counts) {
+// What the finished survey and the second one say of each unit and each of so many positions.
+fn asked(s: Survey, units: u16, positions: u16, links: &[u16], counts: &mut Counts) {
     let mut whole = [0u16; 256];
     let mut labels = [0u16; 1024];
     let joins = groups::without(links, NONE, NONE, &mut whole);
@@ -45,9 +45,10 @@ fn asked(s: Survey, units: u16, links: &[u16], counts: &mut Counts) {
         let single = removal::unit(links, joins, v, &mut labels);
         unit_seen(unit_reply(s, v), single, counts);
     }
-    for (label, j) in labels.iter().zip(0..1024).take(links.len()) {
+    for j in 0..positions {
         let lone = removal::link(links, joins, j);
-        link_seen(link_reply(s, j), j, lone, *label, counts);
+        let label = base_slices::word(&labels, j as usize);
+        link_seen(link_reply(s, j), j, lone, label, counts);
     }
 }
 
@@ -73,10 +74,11 @@ fn shown(rt: &impl Print, units: u16, words: &[u16]) -> io::Result<()> {
     println!(rt; "")
 }
 
-// A table of so many units, each link one word. Where the two surveys differ it is printed.
+// A table of so many units and positions, each link one word. Where the two surveys differ it is printed.
 pub(crate) fn table(
     rt: &impl Print,
     units: u16,
+    positions: u16,
     links: &[u16],
     counts: &mut Counts,
 ) -> io::Result<()> {
@@ -86,11 +88,11 @@ pub(crate) fn table(
         ends.copy_from_slice(&[link / 256, link % 256]);
     }
     let before = counts.differences;
-    if let Some(words) = room.get(..links.len().saturating_mul(2)) {
-        asked(surveyed(units, words), units, links, counts);
+    if let Some(words) = room.get(..positions.wrapping_add(positions) as usize) {
+        asked(surveyed(units, words), units, positions, links, counts);
         counts.tables = counts.tables.wrapping_add(1);
         counts.units = counts.units.wrapping_add(units as u64);
-        counts.links = counts.links.wrapping_add(links.len() as u64);
+        counts.links = counts.links.wrapping_add(positions as u64);
         if counts.differences != before {
             shown(rt, units, words)?;
         }

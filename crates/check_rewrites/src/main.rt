@@ -2,6 +2,7 @@
 // refusal.
 #![tactic(auto)]
 
+use base_io::FileVisitor;
 use file_spec::Writing;
 use std::io;
 
@@ -31,6 +32,18 @@ fn rewritten(rt: &impl Print, file: &[u8]) -> io::Result<()> {
     }
 }
 
+// What is printed goes there.
+#[derive(Drop)]
+struct Check<'a, R> {
+    rt: &'a R,
+}
+
+impl<R: Print> FileVisitor for Check<'_, R> {
+    fn file(&mut self, _name: &str, bytes: &[u8]) -> io::Result<()> {
+        rewritten(self.rt, bytes)
+    }
+}
+
 fn main(rt: HostRuntime) -> io::Result<()> {
-    base_io::each_file(&rt, base_io::arg_count(&rt), |_, file| rewritten(&rt, file))
+    base_io::each_file(&rt, base_io::arg_count(&rt), &mut Check { rt: &rt })
 }

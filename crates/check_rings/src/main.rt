@@ -3,7 +3,8 @@
 // with other units, 99 where a word was altered that should stay. It prints `fault` for a malformed stream.
 #![tactic(auto)]
 
-use base_streams::Reader;
+use base_io::{FileVisitor, Line};
+use base_streams::{CaseVisitor, Reader};
 use std::io;
 use survey::Survey;
 use value_ring::Shown;
@@ -57,14 +58,16 @@ fn questions(
     survey: Survey,
     words: &[u16],
 ) -> io::Result<()> {
+    let mut line = Line::<4096>::new();
     for i in 0..reader.number() {
         let number = question(reader, survey, words);
         if i != 0 {
-            print!(rt; " ")?;
+            print!(line; " ")?;
         }
-        print!(rt; "{number}")?;
+        print!(line; "{number}")?;
     }
-    println!(rt; "")
+    println!(line; "")?;
+    line.send(rt)
 }
 
 // The survey of a table after at most `budget` rounds.
@@ -89,16 +92,32 @@ fn case(rt: &impl Print, reader: &mut Reader<'_>) -> io::Result<()> {
     let mut levels_room = [0i16; 1024];
     let levels = reader.levels(&mut levels_room);
     let budget = reader.word();
-    match (words, levels) {
-        (Some(words), Some(levels)) => {
-            questions(rt, reader, surveyed(units, words, levels, budget), words)
-        }
-        _ => questions(rt, reader, Survey::new(), &[]),
+    // One call of `questions`: where there are two, each question copies the state several times.
+    let survey = match (words, levels) {
+        (Some(words), Some(levels)) => surveyed(units, words, levels, budget),
+        _ => Survey::new(),
+    };
+    questions(rt, reader, survey, words.unwrap_or(&[]))
+}
+
+// What is printed goes there.
+#[derive(Drop)]
+struct Check<'a, R> {
+    rt: &'a R,
+}
+
+impl<R: Print> FileVisitor for Check<'_, R> {
+    fn file(&mut self, _name: &str, stream: &[u8]) -> io::Result<()> {
+        base_streams::each_case(self.rt, stream, self)
+    }
+}
+
+impl<R: Print> CaseVisitor for Check<'_, R> {
+    fn case(&mut self, reader: &mut Reader<'_>) -> io::Result<()> {
+        case(self.rt, reader)
     }
 }
 
 fn main(rt: HostRuntime) -> io::Result<()> {
-    base_io::each_file(&rt, base_io::arg_count(&rt), |_, stream| {
-        base_streams::each_case(&rt, stream, |reader| case(&rt, reader))
-    })
+    base_io::each_file(&rt, base_io::arg_count(&rt), &mut Check { rt: &rt })
 }
