@@ -126,7 +126,11 @@ impl<'a> Reader<'a> {
     {
         let count = self.number();
         for i in 0..count {
-            let level = self.any_level();
+            let level = if self.cursor.fault {
+                0
+            } else {
+                self.any_level()
+            };
             if let Some(place) = room.get_mut(i as usize) {
                 *place = level;
             }

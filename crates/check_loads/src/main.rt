@@ -60,7 +60,10 @@ fn print_countdown(rt: &impl Print, survey: Survey) -> io::Result<()> {
     }
 }
 
-fn print_load(rt: &impl Print, answer: Answer) -> io::Result<()> {
+// Not inlined, or the blank state is made before a write too.
+#[inline(never)]
+fn print_load(rt: &impl Print, call: Call, t: &Tables<'_>) -> io::Result<()> {
+    let answer = loaded(call, t);
     let number = answer.number();
     if number == 0 {
         print_countdown(rt, answer.survey)
@@ -100,7 +103,7 @@ fn called(rt: &impl Print, call: Call, t: &Tables<'_>, places: usize) -> io::Res
             Some(out) => write(rt, t, out),
             None => Ok(()),
         },
-        _ => print_load(rt, loaded(call, t)),
+        _ => print_load(rt, call, t),
     }
 }
 

@@ -71,13 +71,12 @@ fn print_parts(line: &mut Line<4096>, words: &[u16], labels: &[u16]) -> io::Resu
 
 // The line of a finished survey of so many units and links.
 fn told(rt: &impl Print, s: Survey, units: u16, words: &[u16], links: usize) -> io::Result<()> {
-    // Absent past the links.
-    let mut labels = [65535u16; 1024];
+    let mut labels = [0u16; 1024];
     for (label, j) in labels.iter_mut().zip(0..1024).take(links) {
         *label = label_of(s, j);
     }
     let mut line = Line::new();
-    print_parts(&mut line, words, &labels)?;
+    print_parts(&mut line, words, labels.get(..links).unwrap_or(&[]))?;
     let others = (units as usize).saturating_sub(groups(s, units));
     println!(line; " {others}")?;
     line.send(rt)
