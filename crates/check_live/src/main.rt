@@ -23,14 +23,21 @@ fn taken(live: &mut Live, answer: Answer) -> u8 {
     answer.number
 }
 
+// The word at place `i`, 0 past them all.
+fn print_word(line: &mut Line<65536>, words: &[u16], i: usize) -> io::Result<()> {
+    match words.get(i) {
+        Some(word) => print!(line; " {word}"),
+        None => print!(line; " 0"),
+    }
+}
+
 // The number, the number of links and the stored number of each unit.
 fn print_counts(rt: &impl Print, number: u8, live: &Live) -> io::Result<()> {
     let links = live.links as usize;
     let mut line = Line::<65536>::new();
     print!(line; "{number} {links}")?;
     for v in 0..live.units as usize {
-        let count = base_slices::word(&live.counts, v);
-        print!(line; " {count}")?;
+        print_word(&mut line, &live.counts, v)?;
     }
     for end in live.ends.iter().skip(2 * links) {
         if *end != 65535 {
@@ -61,12 +68,16 @@ fn print_table(rt: &impl Print, live: &Live) -> io::Result<()> {
     let mut line = Line::<65536>::new();
     print!(line; "{units} {links}")?;
     for i in 0..2 * links {
-        let end = base_slices::word(&live.ends, i);
-        print!(line; " {end}")?;
+        print_word(&mut line, &live.ends, i)?;
     }
     for j in 0..links {
-        let level = printed(live.levels.get(j).copied().unwrap_or(0));
-        print!(line; " {level}")?;
+        match live.levels.get(j) {
+            Some(level) => {
+                let level = printed(*level);
+                print!(line; " {level}")?;
+            }
+            None => print!(line; " 0")?,
+        }
     }
     println!(line; "")?;
     line.send(rt)

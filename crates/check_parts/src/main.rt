@@ -82,12 +82,16 @@ fn told(rt: &impl Print, s: Survey, units: u16, words: &[u16], links: usize) -> 
     line.send(rt)
 }
 
-// The survey of a table, made to its end.
-fn surveyed(units: u16, words: &[u16], levels: &[i16]) -> Survey {
-    let loaded = Survey::new().load(units, words, levels);
-    ended(loaded.survey)
+// The survey of a table, no table where a list is missing.
+fn loaded(units: u16, words: Option<&[u16]>, levels: Option<&[i16]>) -> Survey {
+    let (Some(words), Some(levels)) = (words, levels) else {
+        return Survey::new();
+    };
+    let answer = Survey::new().load(units, words, levels);
+    answer.survey
 }
 
+// Made to its end.
 fn ended(s: Survey) -> Survey {
     let ran = s.run(65535);
     ran.survey
@@ -101,10 +105,7 @@ fn case(rt: &impl Print, reader: &mut Reader<'_>) -> io::Result<()> {
     let mut levels_room = [0i16; 1024];
     let levels = reader.levels(&mut levels_room);
     // One call of `told`: where there are two, each of its questions copies the state three times.
-    let survey = match (words, levels) {
-        (Some(words), Some(levels)) => surveyed(units, words, levels),
-        _ => Survey::new(),
-    };
+    let survey = ended(loaded(units, words, levels));
     let links = levels.unwrap_or(&[]).len();
     told(rt, survey, units, words.unwrap_or(&[]), links)
 }
