@@ -5,7 +5,7 @@
 #![tactic(auto)]
 
 use base_io::Line;
-use base_streams::{CaseVisitor, Reader};
+use base_streams::{CaseVisitor, Reader, text};
 use std::io;
 use std::rt::Env;
 use value_live::{Answer, Live};
@@ -23,21 +23,16 @@ fn taken(live: &mut Live, answer: Answer) -> u8 {
     answer.number
 }
 
-// The word at place `i`, 0 past them all.
-fn print_word(line: &mut Line<65536>, words: &[u16], i: usize) -> io::Result<()> {
-    match words.get(i) {
-        Some(word) => print!(line; " {word}"),
-        None => print!(line; " 0"),
-    }
-}
-
 // The number, the number of links and the stored number of each unit.
 fn print_counts(rt: &impl Print, number: u8, live: &Live) -> io::Result<()> {
     let links = live.links as usize;
     let mut line = Line::<65536>::new();
     print!(line; "{number} {links}")?;
     for v in 0..live.units as usize {
-        print_word(&mut line, &live.counts, v)?;
+        match live.counts.get(v) {
+            Some(count) => print!(line; " {count}")?,
+            None => print!(line; " 0")?,
+        }
     }
     for end in live.ends.iter().skip(2 * links) {
         if *end != 65535 {
@@ -53,29 +48,40 @@ fn print_counts(rt: &impl Print, number: u8, live: &Live) -> io::Result<()> {
     line.send(rt)
 }
 
-// What is printed of a level: its low byte as a number from −255 to 0.
-fn printed(level: i16) -> i16 {
-    match table_levels::byte_of(level) {
-        0 => 0,
-        byte => i16::from(byte) - 256,
+// A word after a space.
+fn put_word(line: &mut Line<65536>, word: u16) {
+    let at = text::byte(b' ', line.end, &mut line.bytes);
+    line.end = text::number(word.into(), at, &mut line.bytes);
+}
+
+// A level after a space: its low byte as a number from −255 to 0.
+fn put_level(line: &mut Line<65536>, level: i16) {
+    let byte = table_levels::byte_of(level);
+    if byte == 0 {
+        put_word(line, 0);
+    } else {
+        let space = text::byte(b' ', line.end, &mut line.bytes);
+        let minus = text::byte(b'-', space, &mut line.bytes);
+        line.end = text::number(256 - u32::from(byte), minus, &mut line.bytes);
     }
 }
 
-// The unit count, the number of links, all words and all levels.
+// The unit count, the number of links, all words and all levels. What is there is laid down by `text`: by `print!` a
+// table of 1,024 links took half as long again.
 fn print_table(rt: &impl Print, live: &Live) -> io::Result<()> {
     let units = live.units;
     let links = live.links as usize;
     let mut line = Line::<65536>::new();
     print!(line; "{units} {links}")?;
     for i in 0..2 * links {
-        print_word(&mut line, &live.ends, i)?;
+        match live.ends.get(i) {
+            Some(end) => put_word(&mut line, *end),
+            None => print!(line; " 0")?,
+        }
     }
     for j in 0..links {
         match live.levels.get(j) {
-            Some(level) => {
-                let level = printed(*level);
-                print!(line; " {level}")?;
-            }
+            Some(level) => put_level(&mut line, *level),
             None => print!(line; " 0")?,
         }
     }
