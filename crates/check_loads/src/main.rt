@@ -101,6 +101,7 @@ fn loaded(call: Call, t: &Tables<'_>) -> Answer {
 // The call; a file goes into the first places of a slice.
 fn called(rt: &impl Print, call: Call, t: &Tables<'_>, places: usize) -> io::Result<()> {
     match call {
+        // Asked first, or the places are laid out for nothing.
         Call::Write if 16384 < places => Ok(()),
         Call::Write => match [MARK; 16384].get_mut(..places) {
             Some(out) => write(rt, t, out),
